@@ -1,0 +1,4 @@
+pub mod Packet
+pub mod Vectors
+pub mod Pid
+pub mod Types
