@@ -1,0 +1,79 @@
+//! Makes the oracle's copies of the Rust under docs/src: changes/NAME.txt says which lines are kept and what gives way to what.
+//! A change whose old lines do not stand there exactly once stops the build, so the files of changes/ are the whole difference.
+
+use std::fs;
+use std::path::{Path, PathBuf};
+
+fn main() {
+    let out = PathBuf::from(std::env::var("OUT_DIR").expect("cargo sets OUT_DIR"));
+    let changes = Path::new("changes");
+    let source = Path::new("../docs/src");
+    println!("cargo:rerun-if-changed=changes");
+    println!("cargo:rerun-if-changed=../docs/src/src");
+    for name in ["usb", "event", "capture", "decoder"] {
+        let text = made(&fs::read_to_string(changes.join(name).with_extension("txt")).expect(name), source);
+        fs::write(out.join(name).with_extension("rs"), &text).expect("OUT_DIR can be written");
+        if name == "decoder" {
+            mutants(&text, &changes.join("mutants.txt"), &out);
+        }
+    }
+}
+
+/// The lines that `take` names, with inner comments made plain (they may not stand in an included file), then changed.
+fn made(script: &str, source: &Path) -> String {
+    let mut lines: Vec<String> = Vec::new();
+    let mut kept: Vec<String> = Vec::new();
+    for line in script.lines() {
+        if let Some(name) = line.strip_prefix("source ") {
+            let text = fs::read_to_string(source.join(name)).expect(name);
+            lines = text.lines().map(String::from).collect();
+        } else if let Some(range) = line.strip_prefix("take ") {
+            let (from, to) = range.split_once('-').expect("take FROM-TO");
+            let (from, to): (usize, usize) = (from.parse().expect("a line"), to.parse().expect("a line"));
+            kept.extend_from_slice(&lines[from - 1..to]);
+        }
+    }
+    for line in &mut kept {
+        if line.starts_with("//!") {
+            line.remove(2);
+        }
+    }
+    changed(kept.join("\n") + "\n", script)
+}
+
+/// Each block of `-` lines, which must stand in the text exactly once, gives way to the `+` lines after it.
+fn changed(mut text: String, script: &str) -> String {
+    let (mut old, mut new) = (String::new(), String::new());
+    for line in script.lines().chain([""]) {
+        if let Some(rest) = line.strip_prefix('-') {
+            old += &format!("{}\n", rest.strip_prefix(' ').unwrap_or(rest));
+        } else if let Some(rest) = line.strip_prefix('+') {
+            new += &format!("{}\n", rest.strip_prefix(' ').unwrap_or(rest));
+        } else if !old.is_empty() {
+            assert_eq!(text.matches(&old).count(), 1, "to be changed, and not there once:\n{old}");
+            text = text.replace(&old, &new);
+            old.clear();
+            new.clear();
+        }
+    }
+    text
+}
+
+/// A decoder with one deliberate fault for each part of the file that starts with `mutant NAME`.
+fn mutants(decoder: &str, script: &Path, out: &Path) {
+    let script = fs::read_to_string(script).expect("mutants.txt");
+    let mut names = Vec::new();
+    for part in script.split("\nmutant ").skip(1) {
+        let (name, body) = part.split_once('\n').expect("mutant NAME");
+        fs::write(out.join(format!("mutant_{name}.rs")), changed(decoder.to_string(), body)).expect("OUT_DIR can be written");
+        names.push(name);
+    }
+    let modules: String = names.iter().map(|n| format!("crate::decoder_module!({n}, \"/mutant_{n}.rs\");\n")).collect();
+    let list: String =
+        names.iter().map(|n| format!("    found.push((\"{n}\", check::<{n}::machine::Machine>(seed, calls)));\n")).collect();
+    let all = format!(
+        "{modules}\n/// What `check` finds in each decoder with a fault.\npub fn each(seed: u64, calls: u64) -> Vec<(&'static str, Result<u64, String>)> {{\n    \
+         let mut found = Vec::new();\n{list}    found\n}}\n"
+    );
+    fs::write(out.join("mutants.rs"), all).expect("OUT_DIR can be written");
+}

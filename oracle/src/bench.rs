@@ -1,0 +1,51 @@
+//! The time of the raw Rust decoder on a trace in memory: no answers, no room, only its own work.
+
+use std::time::Instant;
+
+use crate::calls::{Mechanism, event_type};
+use crate::trace::{Clock, Reader, Record, header};
+use crate::usb::{Direction, EndpointAddr, EndpointNum, EndpointType};
+
+/// Five runs; prints the median.
+pub fn bench<M: Mechanism>(trace: &[u8]) -> Result<(), String> {
+    header(trace).map_err(|r| format!("refused {} at {}", r.answer, r.at))?;
+    let mut times = Vec::new();
+    let mut packets = 0;
+    for _ in 0..5 {
+        let start = Instant::now();
+        packets = run::<M>(trace)?;
+        times.push(start.elapsed().as_nanos() as u64);
+    }
+    times.sort();
+    println!("packets {packets}");
+    println!("ms {}", times[2] / 1_000_000);
+    println!("ns a packet {}", times[2] / packets.max(1));
+    Ok(())
+}
+
+fn run<M: Mechanism>(trace: &[u8]) -> Result<u64, String> {
+    let mut machine = M::fresh(false);
+    let mut reader = Reader::new(trace);
+    let mut clock = Clock::default();
+    let mut packets = 0;
+    while let Some(record) = reader.next() {
+        match record.map_err(|r| format!("refused {} at {}", r.answer, r.at))? {
+            Record::Packet { ticks, bytes } => {
+                packets += 1;
+                machine.packet(bytes, clock.time(ticks)).ok();
+            }
+            Record::Event { ticks, kind, code } => {
+                let event = event_type(kind).ok_or("an event kind above 7")?;
+                machine.event(event, code, clock.time(ticks)).ok();
+            }
+            Record::Detail { address, number, direction, kind, max } => {
+                let place = EndpointAddr::from_parts(EndpointNum(number), Direction::from(direction));
+                if let Some(device) = machine.device(address) {
+                    device.set_detail(place, EndpointType::from(kind), max);
+                }
+            }
+        }
+    }
+    machine.finish().map_err(|e| e.to_string())?;
+    Ok(packets)
+}

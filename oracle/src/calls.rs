@@ -1,0 +1,267 @@
+//! The calls of document 01 over the Rust decoder: fresh, packet, event, detail and finish, each with its answer.
+//! The Rust knows no room: a call is run, its counts are looked at, and a call that is refused is undone.
+
+use std::cell::Ref;
+use std::sync::Arc;
+
+use crate::capture::{CaptureWriter, DeviceData};
+use crate::crates::Error;
+use crate::event::{EventType, LineState};
+use crate::storage::{Journal, Mark};
+use crate::usb::{Direction, EndpointAddr, EndpointNum, EndpointType};
+
+/// An endpoint of the decoder, as far as document 01 speaks of it.
+#[derive(PartialEq, Debug)]
+pub struct EndpointView {
+    pub device: u64,
+    pub early: Option<u64>,
+    /// The group's number and the PID that it began with.
+    pub active: Option<(u64, u8)>,
+    pub ended: Option<u64>,
+    pub payload: u64,
+    pub pending: Option<(u64, u64)>,
+    pub total: u64,
+}
+
+/// A current or suspended transaction.
+#[derive(PartialEq, Debug)]
+pub struct TransactionView {
+    pub lacks_token: bool,
+    pub id: u64,
+    pub endpoint: Option<u64>,
+    pub link: Option<u64>,
+    pub payload: Option<u64>,
+}
+
+#[derive(PartialEq, Debug)]
+pub struct View {
+    pub endpoints: Vec<EndpointView>,
+    pub current: Option<TransactionView>,
+    pub suspended: Option<TransactionView>,
+    pub last_item_endpoint: Option<u64>,
+    pub keepalive_item: Option<u64>,
+}
+
+/// What the calls need of a decoder; each decoder made from the source has it (src/machine.rs).
+pub trait Mechanism: Sized {
+    type Saved;
+    fn fresh(trail: bool) -> Self;
+    fn packet(&mut self, packet: &[u8], time: u64) -> Result<(), Error>;
+    fn event(&mut self, event: EventType, code: u8, time: u64) -> Result<(), Error>;
+    fn finish(&mut self) -> Result<(), Error>;
+    /// The device that now stands for an address.
+    fn device(&self, address: u8) -> Option<Arc<DeviceData>>;
+    fn capture(&self) -> &CaptureWriter;
+    fn journal(&self) -> Ref<'_, Journal>;
+    fn save(&self) -> Self::Saved;
+    fn restore(&mut self, saved: Self::Saved);
+    /// Nothing once the decoder has finished.
+    fn view(&self) -> Option<View>;
+    fn total(&self, endpoint: u64) -> u64;
+    /// A trial of answer 9: the totals of the endpoints from a number on.
+    fn start_totals(&mut self, from: u64, total: u64);
+}
+
+/// Rows of each log, or room for them. Packet and state bytes are bytes.
+#[derive(Copy, Clone, PartialEq, Debug)]
+pub struct Rows(pub [u64; 12]);
+
+pub const LOGS: [&str; 12] = [
+    "bytes",
+    "devices",
+    "endpoints",
+    "packets",
+    "events",
+    "transactions",
+    "groups",
+    "state-bytes",
+    "states",
+    "items",
+    "links",
+    "requests",
+];
+
+const BYTES: usize = 0;
+const DEVICES: usize = 1;
+const ENDPOINTS: usize = 2;
+const STATE_BYTES: usize = 7;
+
+impl Rows {
+    /// 01, "Sizes": the most that may be lent.
+    pub const LARGEST: Rows = {
+        let mut rows = [1 << 24; 12];
+        rows[BYTES] = 1 << 30;
+        rows[STATE_BYTES] = 1 << 30;
+        Rows(rows)
+    };
+
+    /// The program's logs, 64 KiB together (docs/SIZES.md).
+    pub const PROGRAM: Rows = Rows([8192, 64, 128, 512, 128, 384, 256, 8192, 256, 256, 640, 64]);
+
+    /// The most that one call can add: an item can close every endpoint, and a call has at most three items and five group rows.
+    const STEP: Rows = Rows([4096, 2, 4, 2, 2, 4, 8, 8 * 128, 8, 8, 3 * 128 + 16, 2]);
+
+    fn within(&self, room: &Rows) -> bool {
+        self.0.iter().zip(room.0).all(|(n, r)| *n <= r)
+    }
+
+    fn plus(&self, more: &Rows) -> Rows {
+        Rows(std::array::from_fn(|i| self.0[i] + more.0[i]))
+    }
+
+    /// Room past 64 devices and 128 endpoints is not used.
+    fn used(&self) -> Rows {
+        let mut rows = *self;
+        rows.0[DEVICES] = rows.0[DEVICES].min(64);
+        rows.0[ENDPOINTS] = rows.0[ENDPOINTS].min(128);
+        rows
+    }
+}
+
+fn count(capture: &CaptureWriter) -> Rows {
+    Rows([
+        capture.packet_data.len(),
+        capture.devices.len(),
+        capture.endpoints.len(),
+        capture.packet_index.stream.len(),
+        capture.event_index.stream.len(),
+        capture.transaction_index.stream.len(),
+        capture.group_index.len(),
+        capture.endpoint_states.len(),
+        capture.endpoint_state_index.stream.len(),
+        capture.item_index.stream.len(),
+        capture.counters.journal.borrow().links as u64,
+        capture.shared.requests.borrow().len() as u64,
+    ])
+}
+
+/// The only error that the Rust gives (docs/src/src/decoder.rs, `endpoint_id`): answer 8.
+const NO_ENDPOINT: &str = "Transaction state has no endpoint ID";
+
+/// A decoder with the answers of document 01, over room for each log.
+pub struct Calls<M: Mechanism> {
+    pub machine: M,
+    room: Rows,
+    /// The answer to making it, and whether it has finished.
+    pub fresh: u8,
+    finished: bool,
+    /// A trial of answer 9: the total that each ordinary endpoint starts with.
+    total: u64,
+    /// With totals every call is run on a copy.
+    careful: bool,
+}
+
+impl<M: Mechanism> Calls<M> {
+    pub fn new(room: Rows, total: u64, trail: bool) -> Self {
+        let machine = M::fresh(trail);
+        let fresh = if !room.within(&Rows::LARGEST) {
+            1
+        } else if !count(machine.capture()).within(&room.used()) {
+            7
+        } else {
+            0
+        };
+        Calls { machine, room: room.used(), fresh, finished: false, total, careful: total > 0 }
+    }
+
+    pub fn finished(&self) -> bool {
+        self.finished
+    }
+
+    pub fn rows(&self) -> Rows {
+        count(self.machine.capture())
+    }
+
+    /// Answers 1 and 2, which every call tests first.
+    fn refused(&self) -> Option<u8> {
+        match (self.fresh, self.finished) {
+            (0, false) => None,
+            (0, true) => Some(2),
+            _ => Some(1),
+        }
+    }
+
+    pub fn packet(&mut self, packet: &[u8], time: u64) -> u8 {
+        if let Some(answer) = self.refused() {
+            return answer;
+        }
+        if packet.len() > 4096 {
+            return 3;
+        }
+        self.run(|m| m.packet(packet, time))
+    }
+
+    pub fn event(&mut self, kind: u8, code: u8, time: u64) -> u8 {
+        if let Some(answer) = self.refused() {
+            return answer;
+        }
+        let Some(event) = event_type(kind) else { return 4 };
+        self.run(|m| m.event(event, code, time))
+    }
+
+    pub fn detail(&mut self, address: u8, number: u8, direction: u8, kind: u8, max: u16) -> u8 {
+        if let Some(answer) = self.refused() {
+            return answer;
+        }
+        if number > 15 || kind > 3 || direction > 1 || (number == 0 && kind != 0) {
+            return 5;
+        }
+        let Some(device) = self.machine.device(address) else { return 6 };
+        let address = EndpointAddr::from_parts(EndpointNum(number), Direction::from(direction));
+        device.set_detail(address, EndpointType::from(kind), max);
+        0
+    }
+
+    pub fn finish(&mut self) -> u8 {
+        if let Some(answer) = self.refused() {
+            return answer;
+        }
+        let answer = self.run(|m| m.finish());
+        self.finished = answer == 0;
+        answer
+    }
+
+    /// A call that passed its own tests: 7, 9, 8 or 0.
+    fn run(&mut self, call: impl FnOnce(&mut M) -> Result<(), Error>) -> u8 {
+        let roomy = !self.careful && self.rows().plus(&Rows::STEP).within(&self.room);
+        let saved = if roomy { None } else { Some(self.machine.save()) };
+        let before = (self.rows().0[ENDPOINTS], self.machine.journal().marks.len());
+        let result = call(&mut self.machine);
+        let answer = match result {
+            _ if !self.rows().within(&self.room) => 7,
+            Ok(()) if self.overflowed(before.1) => 9,
+            Ok(()) => 0,
+            Err(Error(message)) if message == NO_ENDPOINT => 8,
+            Err(Error(message)) => panic!("an error that document 01 does not know: {message}"),
+        };
+        match saved {
+            Some(saved) if answer == 7 || answer == 9 => self.machine.restore(saved),
+            None if answer == 7 || answer == 9 => panic!("a call added more rows than it can"),
+            _ if self.total > 0 && self.machine.view().is_some() => self.machine.start_totals(before.0.max(3), self.total),
+            _ => {}
+        }
+        answer
+    }
+
+    /// Whether a D row since a place of the journal made its endpoint's total wrap.
+    fn overflowed(&self, from: usize) -> bool {
+        let journal = self.machine.journal();
+        journal.marks[from..].iter().any(|m| matches!(m, Mark::D(x, _, before) if self.machine.total(*x) < *before))
+    }
+}
+
+/// 01, "Rules of a group": the kinds of event; any other event stands for kind 7.
+pub fn event_type(kind: u8) -> Option<EventType> {
+    use EventType::*;
+    Some(match kind {
+        0 => LsKeepalive,
+        1 => BusReset,
+        2 => LineStateChange(LineState::SE0),
+        3 => LineStateChange(LineState::ChirpJ),
+        4 => LineStateChange(LineState::ChirpK),
+        5 => DeviceChirpValid,
+        6 => HostChirpValid,
+        7 => Suspend,
+        _ => return None,
+    })
+}

@@ -1,0 +1,72 @@
+//! The oracle: the Rust decoder of docs/src on storage in memory, judged by document 01, and what is needed to compare the port with it.
+
+// The source names other crates; the few names that it needs of them are in `crates`.
+extern crate self as anyhow;
+extern crate self as crc;
+pub use crates::{CRC_16_USB, Context, Crc, Error};
+
+pub mod bench;
+pub mod calls;
+pub mod crates;
+pub mod generate;
+pub mod listing;
+pub mod packets;
+pub mod selfcheck;
+pub mod storage;
+pub mod trace;
+pub mod traces;
+
+pub mod util {
+    pub mod rcu {
+        pub use crate::storage::SingleWriterRcu;
+    }
+    pub mod vec_map {
+        pub use crate::storage::VecMap;
+    }
+}
+
+#[allow(dead_code)]
+pub mod event {
+    include!(concat!(env!("OUT_DIR"), "/event.rs"));
+}
+
+#[allow(dead_code)]
+pub mod usb {
+    use crate::bitfield;
+    use anyhow::CRC_16_USB;
+    use crc::Crc;
+    include!(concat!(env!("OUT_DIR"), "/usb.rs"));
+    include!("usb_parts.rs");
+}
+
+#[allow(dead_code)]
+pub mod capture {
+    use std::cell::{Cell, RefCell};
+    use std::rc::Rc;
+    use std::sync::Arc;
+    use std::sync::atomic::AtomicBool;
+
+    use anyhow::{Context, Error};
+
+    use crate::bitfield;
+    use crate::storage::{CompactWriter, DataWriter, Id, Journal, Link, LinkWriter, Mark, Shared, SharedJournal, VecMap};
+    use crate::usb::{self, prelude::*};
+    include!(concat!(env!("OUT_DIR"), "/capture.rs"));
+    include!("capture_parts.rs");
+}
+
+/// A decoder made from the source, and the machine over it that the calls drive.
+#[macro_export]
+macro_rules! decoder_module {
+    ($name:ident, $file:literal) => {
+        #[allow(dead_code)]
+        pub mod $name {
+            include!(concat!(env!("OUT_DIR"), $file));
+            pub mod machine {
+                include!(concat!(env!("CARGO_MANIFEST_DIR"), "/src/machine.rs"));
+            }
+        }
+    };
+}
+
+decoder_module!(decoder, "/decoder.rs");

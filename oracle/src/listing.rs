@@ -1,0 +1,86 @@
+//! The listing of document 01, byte for byte.
+
+use std::fmt::Write;
+
+use crate::calls::{Mechanism, Rows};
+use crate::capture::CaptureWriter;
+use crate::storage::Mark;
+use crate::trace::{Refused, run};
+use crate::usb::Direction;
+
+/// The size of the program's input buffer (docs/SIZES.md).
+pub const BUFFER: usize = 16384;
+
+/// What the program prints for a trace: its rows, or the one line of a refusal, or `too long`.
+pub fn listing<M: Mechanism>(trace: &[u8], buffer: usize, room: Rows, total: u64) -> String {
+    if trace.len() > buffer {
+        return "too long\n".to_string();
+    }
+    match run::<M>(trace, room, total) {
+        Ok(calls) => rows(calls.machine.capture()),
+        Err(Refused { answer, at }) => format!("refused {answer} at {at}\n"),
+    }
+}
+
+/// All rows of a capture, kind by kind.
+pub fn rows(c: &CaptureWriter) -> String {
+    let mut out = "UTL 1\n".to_string();
+    let line = &mut out;
+    for (i, device) in c.devices.rows.iter().enumerate() {
+        writeln!(line, "device {i} {}", device.address.0).ok();
+    }
+    for (i, e) in c.endpoints.rows.iter().enumerate() {
+        let device = e.device_id().value;
+        match (e.number().0, e.direction()) {
+            (0x10, _) => writeln!(line, "endpoint {i} {device} event"),
+            (0x11, _) => writeln!(line, "endpoint {i} {device} invalid"),
+            (0x12, _) => writeln!(line, "endpoint {i} {device} framing"),
+            (number, Direction::In) => writeln!(line, "endpoint {i} {device} {number} in"),
+            (number, Direction::Out) => writeln!(line, "endpoint {i} {device} {number} out"),
+        }
+        .ok();
+    }
+    for (i, (start, time)) in c.packet_index.stream.rows.iter().zip(&c.packet_times.stream.rows).enumerate() {
+        writeln!(line, "packet {i} {start} {time}").ok();
+    }
+    for (i, (packet, code)) in c.event_index.stream.rows.iter().zip(&c.event_codes.rows).enumerate() {
+        writeln!(line, "event {i} {packet} {code}").ok();
+    }
+    for (i, packet) in c.transaction_index.stream.rows.iter().enumerate() {
+        writeln!(line, "transaction {i} {packet}").ok();
+    }
+    for (i, g) in c.group_index.rows.iter().enumerate() {
+        let end = if g.is_start() { "start" } else { "end" };
+        writeln!(line, "group {i} {} {} {end}", g.endpoint_id().value, g.group_id().value).ok();
+    }
+    states(c, line);
+    for (i, group) in c.item_index.stream.rows.iter().enumerate() {
+        writeln!(line, "item {i} {group}").ok();
+    }
+    for mark in &c.counters.journal.borrow().marks {
+        match mark {
+            Mark::T(x, transaction) => writeln!(line, "link T {x} {transaction}"),
+            Mark::G(x, transaction) => writeln!(line, "link G {x} {transaction}"),
+            Mark::D(x, transaction, total) => writeln!(line, "link D {x} {transaction} {total}"),
+            Mark::E(x, item) => writeln!(line, "link E {x} {item}"),
+            Mark::Packet | Mark::Group(..) | Mark::Item(_) => Ok(()),
+        }
+        .ok();
+    }
+    for (i, r) in c.shared.requests.borrow().iter().enumerate() {
+        let hex: String = r.setup.iter().map(|b| format!("{b:02x}")).collect();
+        writeln!(line, "request {i} {} {hex} {}", r.endpoint, r.length).ok();
+    }
+    out
+}
+
+/// A letter for each endpoint: Idle, Starting, Ongoing, Ending.
+fn states(c: &CaptureWriter, line: &mut String) {
+    let starts = &c.endpoint_state_index.stream.rows;
+    for (i, start) in starts.iter().enumerate() {
+        let end = starts.get(i + 1).copied().unwrap_or(c.endpoint_states.len());
+        let letters: String =
+            c.endpoint_states.rows[*start as usize..end as usize].iter().map(|s| b"ISOE"[*s as usize] as char).collect();
+        writeln!(line, "state {i} {letters}").ok();
+    }
+}

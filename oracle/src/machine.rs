@@ -1,0 +1,231 @@
+// A decoder that can be called, looked into and put back; included in each module that holds a decoder, so that it sees its
+// private state.
+
+use super::*;
+use crate::calls::{EndpointView, Mechanism, TransactionView, View};
+use crate::capture::{DeviceData, create_capture};
+use crate::storage::Journal;
+
+pub struct Machine {
+    /// Gone once it has finished: `finish` takes the decoder and hands back the capture.
+    decoder: Option<Decoder>,
+    finished: Option<CaptureWriter>,
+}
+
+/// Everything that a call may change, as it was before: the state copied, the logs by their lengths.
+pub struct Saved {
+    device_index: VecMap<DeviceAddr, DeviceId>,
+    endpoint_data: VecMap<EndpointId, EndpointData>,
+    last_endpoint_state: Vec<u8>,
+    last_item_endpoint: Option<EndpointId>,
+    transaction_state: Option<TransactionState>,
+    suspended_transaction: Option<TransactionState>,
+    event_state: EventState,
+    ls_keepalive_item: Option<TrafficItemId>,
+    endpoint_writers: VecMap<EndpointId, crate::capture::EndpointWriter>,
+    endpoint_index: VecMap<DeviceAddr, VecMap<EndpointAddr, EndpointId>>,
+    details: Vec<[crate::capture::Detail; 32]>,
+    lengths: [usize; 16],
+}
+
+impl Machine {
+    fn decoder(&self) -> &Decoder {
+        self.decoder.as_ref().expect("a decoder that has not finished")
+    }
+
+    /// The PID and the status of a packet, were it the next.
+    pub fn status(&self, packet: &[u8]) -> (u8, &'static str) {
+        use TransactionStatus::*;
+        let (pid, status) = transaction_status(&self.decoder().transaction_state, packet).expect("a status");
+        let name = match status {
+            New => "New",
+            Continue => "Continue",
+            Retry => "Retry",
+            Done => "Done",
+            Fail => "Fail",
+            Ambiguous => "Ambiguous",
+            Invalid => "Invalid",
+        };
+        (pid as u8, name)
+    }
+
+    fn decoder_mut(&mut self) -> &mut Decoder {
+        self.decoder.as_mut().expect("a decoder that has not finished")
+    }
+}
+
+fn lengths(c: &CaptureWriter) -> [usize; 16] {
+    [
+        c.packet_data.rows.len(),
+        c.packet_index.stream.rows.len(),
+        c.packet_times.stream.rows.len(),
+        c.event_index.stream.rows.len(),
+        c.event_codes.rows.len(),
+        c.transaction_index.stream.rows.len(),
+        c.group_index.rows.len(),
+        c.item_index.stream.rows.len(),
+        c.devices.rows.len(),
+        c.endpoints.rows.len(),
+        c.endpoint_states.rows.len(),
+        c.endpoint_state_index.stream.rows.len(),
+        c.counters.journal.borrow().marks.len(),
+        c.shared.requests.borrow().len(),
+        c.counters.endpoints as usize,
+        c.counters.journal.borrow().links,
+    ]
+}
+
+fn truncate(c: &mut CaptureWriter, n: &[usize; 16]) {
+    c.packet_data.rows.truncate(n[0]);
+    c.packet_index.stream.rows.truncate(n[1]);
+    c.packet_times.stream.rows.truncate(n[2]);
+    c.event_index.stream.rows.truncate(n[3]);
+    c.event_codes.rows.truncate(n[4]);
+    c.transaction_index.stream.rows.truncate(n[5]);
+    c.group_index.rows.truncate(n[6]);
+    c.item_index.stream.rows.truncate(n[7]);
+    c.devices.rows.truncate(n[8]);
+    c.endpoints.rows.truncate(n[9]);
+    c.endpoint_states.rows.truncate(n[10]);
+    c.endpoint_state_index.stream.rows.truncate(n[11]);
+    c.counters.journal.borrow_mut().marks.truncate(n[12]);
+    c.shared.requests.borrow_mut().truncate(n[13]);
+    c.counters.endpoints = n[14] as u64;
+    c.counters.journal.borrow_mut().links = n[15];
+}
+
+fn transaction_view(t: &TransactionState) -> TransactionView {
+    TransactionView {
+        lacks_token: matches!(t.style, TransactionStyle::Split(_, _, None)),
+        id: t.id.value,
+        endpoint: t.endpoint_id.map(|x| x.value),
+        link: t.ep_transaction_id.map(|x| x.value),
+        payload: t.payload.as_ref().map(|p| p.len() as u64),
+    }
+}
+
+fn endpoint_view(e: &EndpointData) -> EndpointView {
+    EndpointView {
+        device: e.device_id.value,
+        early: e.early_start.map(|g| g.value),
+        active: e.active.as_ref().map(|g| (g.id.value, g.first as u8)),
+        ended: e.ended.map(|g| g.value),
+        payload: e.payload.len() as u64,
+        pending: e.pending_payload.as_ref().map(|(p, id)| (p.len() as u64, id.value)),
+        total: e.total_data,
+    }
+}
+
+impl Mechanism for Machine {
+    type Saved = Saved;
+
+    fn fresh(trail: bool) -> Self {
+        let decoder = Decoder::new(create_capture(trail)).expect("a fresh decoder");
+        Machine { decoder: Some(decoder), finished: None }
+    }
+
+    fn packet(&mut self, packet: &[u8], time: u64) -> Result<(), Error> {
+        self.decoder_mut().handle_raw_packet(packet, time)
+    }
+
+    fn event(&mut self, event: EventType, code: u8, time: u64) -> Result<(), Error> {
+        self.decoder_mut().handle_event(event, time)?;
+        // The code byte is the caller's.
+        let codes = &mut self.decoder_mut().capture.event_codes.rows;
+        *codes.last_mut().expect("the code of this event") = code;
+        Ok(())
+    }
+
+    fn finish(&mut self) -> Result<(), Error> {
+        let decoder = self.decoder.take().expect("a decoder that has not finished");
+        self.finished = Some(decoder.finish()?);
+        Ok(())
+    }
+
+    fn device(&self, address: u8) -> Option<Arc<DeviceData>> {
+        let decoder = self.decoder();
+        let id = decoder.device_index.get(DeviceAddr(address))?;
+        decoder.capture.device_data(*id).ok()
+    }
+
+    fn capture(&self) -> &CaptureWriter {
+        self.finished.as_ref().unwrap_or_else(|| &self.decoder().capture)
+    }
+
+    fn journal(&self) -> std::cell::Ref<'_, Journal> {
+        self.capture().counters.journal.borrow()
+    }
+
+    fn save(&self) -> Saved {
+        let d = self.decoder();
+        Saved {
+            device_index: d.device_index.clone(),
+            endpoint_data: d.endpoint_data.clone(),
+            last_endpoint_state: d.last_endpoint_state.clone(),
+            last_item_endpoint: d.last_item_endpoint,
+            transaction_state: d.transaction_state.clone(),
+            suspended_transaction: d.suspended_transaction.clone(),
+            event_state: d.event_state,
+            ls_keepalive_item: d.ls_keepalive_item,
+            endpoint_writers: d.capture.endpoint_writers.clone(),
+            endpoint_index: d.capture.shared.endpoint_index.load().clone(),
+            details: d.capture.shared.device_data.load().values().map(|device| *device.details.borrow()).collect(),
+            lengths: lengths(&d.capture),
+        }
+    }
+
+    fn restore(&mut self, saved: Saved) {
+        let mut capture = match (self.decoder.take(), self.finished.take()) {
+            (Some(decoder), _) => decoder.capture,
+            (None, Some(capture)) => capture,
+            (None, None) => unreachable!("a machine holds a decoder or its capture"),
+        };
+        truncate(&mut capture, &saved.lengths);
+        capture.endpoint_writers = saved.endpoint_writers;
+        capture.shared.endpoint_index.store(saved.endpoint_index);
+        let mut devices = VecMap::new();
+        for (i, details) in saved.details.into_iter().enumerate() {
+            let device = DeviceData::new(&capture.shared.requests);
+            device.details.replace(details);
+            devices.set(DeviceId::from(i as u64), Arc::new(device));
+        }
+        capture.shared.device_data.store(devices);
+        self.decoder = Some(Decoder {
+            capture,
+            device_index: saved.device_index,
+            endpoint_data: saved.endpoint_data,
+            last_endpoint_state: saved.last_endpoint_state,
+            last_item_endpoint: saved.last_item_endpoint,
+            transaction_state: saved.transaction_state,
+            suspended_transaction: saved.suspended_transaction,
+            event_state: saved.event_state,
+            ls_keepalive_item: saved.ls_keepalive_item,
+        });
+    }
+
+    fn view(&self) -> Option<View> {
+        let d = self.decoder.as_ref()?;
+        Some(View {
+            endpoints: d.endpoint_data.values().map(endpoint_view).collect(),
+            current: d.transaction_state.as_ref().map(transaction_view),
+            suspended: d.suspended_transaction.as_ref().map(transaction_view),
+            last_item_endpoint: d.last_item_endpoint.map(|x| x.value),
+            keepalive_item: d.ls_keepalive_item.map(|x| x.value),
+        })
+    }
+
+    fn total(&self, endpoint: u64) -> u64 {
+        match &self.decoder {
+            Some(d) => d.endpoint_data[EndpointId::from(endpoint)].total_data,
+            None => u64::MAX,
+        }
+    }
+
+    fn start_totals(&mut self, from: u64, total: u64) {
+        for e in self.decoder_mut().endpoint_data.values_mut() {
+            if e.endpoint_id.value >= from {
+                e.total_data = total;
+            }
+        }
+    }
+}

@@ -1,0 +1,122 @@
+//! The oracle's commands.
+
+use std::io::{Read, Write};
+use std::process::ExitCode;
+
+use oracle::calls::{LOGS, Rows};
+use oracle::decoder::machine::Machine;
+use oracle::generate::{KINDS, download, generate};
+use oracle::{bench, listing, selfcheck, trace, traces};
+
+const USAGE: &str = "usage: oracle COMMAND
+  listing [OPTION..]     a UTL trace on standard input; prints the listing of document 01
+  answers [OPTION..]     the same input; prints the answer to each record, then to finish, one a line
+  gen SEED N KIND        writes a trace of N records to standard output; the kinds are listed by 'gen kinds'
+  gen64                  writes the 64 MiB trace of change request 11
+  bench FILE             the time of the raw Rust decoder on a trace, median of five runs
+  selfcheck N            N random calls, 01's well-formed list and demand 3 after each; then the mutants
+  traces DIR             writes the traces of the repository and the listings that they must give
+  traces --check DIR     compares them with what stands in DIR
+options:
+  --program              room and buffer of the program `listing` (docs/SIZES.md); otherwise the largest that 01 allows
+  --room LOG=ROWS        room of one log; LOG is one of
+                         bytes devices endpoints packets events transactions groups state-bytes states items links requests
+  --buffer BYTES         the size of the input buffer: a longer input is `too long`
+  --total N              ordinary endpoints start with this byte total, so that answer 9 can be tried
+  --finish-at K          (answers) calls finish before record K too, so that answer 2 can be tried";
+
+struct Options {
+    room: Rows,
+    buffer: usize,
+    total: u64,
+    finish_at: Option<u64>,
+}
+
+fn options(words: &[String]) -> Result<Options, String> {
+    let mut o = Options { room: Rows::LARGEST, buffer: usize::MAX, total: 0, finish_at: None };
+    let mut words = words.iter();
+    while let Some(word) = words.next() {
+        if word == "--program" {
+            o.room = Rows::PROGRAM;
+            o.buffer = listing::BUFFER;
+            continue;
+        }
+        let value = words.next().ok_or(format!("{word} wants a value"))?;
+        let number = |text: &str| text.parse::<u64>().map_err(|_| format!("{word}: {text} is no number"));
+        match word.as_str() {
+            "--room" => {
+                let (log, rows) = value.split_once('=').ok_or("--room LOG=ROWS")?;
+                let place = LOGS.iter().position(|l| *l == log).ok_or(format!("no log {log}"))?;
+                o.room.0[place] = number(rows)?;
+            }
+            "--buffer" => o.buffer = number(value)? as usize,
+            "--total" => o.total = number(value)?,
+            "--finish-at" => o.finish_at = Some(number(value)?),
+            _ => return Err(format!("no option {word}")),
+        }
+    }
+    Ok(o)
+}
+
+fn input() -> Result<Vec<u8>, String> {
+    let mut bytes = Vec::new();
+    std::io::stdin().read_to_end(&mut bytes).map_err(|e| format!("standard input: {e}"))?;
+    Ok(bytes)
+}
+
+fn output(bytes: &[u8]) -> Result<(), String> {
+    let mut out = std::io::stdout().lock();
+    out.write_all(bytes).and_then(|()| out.flush()).map_err(|e| format!("standard output: {e}"))
+}
+
+fn answers(trace: &[u8], o: &Options) -> String {
+    if trace.len() > o.buffer {
+        return "too long\n".to_string();
+    }
+    trace::answers::<Machine>(trace, o.room, o.total, o.finish_at).iter().map(|a| format!("{a}\n")).collect()
+}
+
+fn run(words: &[String]) -> Result<bool, String> {
+    let number = |text: &String| text.parse::<u64>().map_err(|_| format!("{text} is no number"));
+    let (command, rest) = words.split_first().ok_or(USAGE)?;
+    match (command.as_str(), rest) {
+        ("listing", rest) => {
+            let o = options(rest)?;
+            output(listing::listing::<Machine>(&input()?, o.buffer, o.room, o.total).as_bytes())?;
+        }
+        ("answers", rest) => {
+            let o = options(rest)?;
+            output(answers(&input()?, &o).as_bytes())?;
+        }
+        ("gen", [kinds]) if kinds == "kinds" => {
+            let names: String = KINDS.iter().map(|(name, _)| format!("{name}\n")).collect();
+            output(names.as_bytes())?;
+        }
+        ("gen", [seed, n, kind]) => {
+            let bytes = generate(number(seed)?, number(n)?, kind).ok_or(format!("no kind {kind}"))?;
+            output(&bytes)?;
+        }
+        ("gen64", []) => output(&download(64 << 20))?,
+        ("bench", [path]) => {
+            let bytes = std::fs::read(path).map_err(|e| format!("{path}: {e}"))?;
+            bench::bench::<Machine>(&bytes)?;
+        }
+        ("selfcheck", [n]) => return Ok(selfcheck::report(number(n)?)),
+        ("traces", [folder]) => traces::write(folder)?,
+        ("traces", [flag, folder]) if flag == "--check" => traces::check(folder)?,
+        _ => return Err(USAGE.to_string()),
+    }
+    Ok(true)
+}
+
+fn main() -> ExitCode {
+    let words: Vec<String> = std::env::args().skip(1).collect();
+    match run(&words) {
+        Ok(true) => ExitCode::SUCCESS,
+        Ok(false) => ExitCode::FAILURE,
+        Err(message) => {
+            eprintln!("{message}");
+            ExitCode::FAILURE
+        }
+    }
+}

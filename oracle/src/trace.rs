@@ -1,0 +1,183 @@
+//! The UTL trace of document 01: records read one at a time and written, and a whole trace run through the calls.
+
+use crate::calls::{Calls, Mechanism, Rows};
+
+/// A record of a trace.
+#[derive(Clone, PartialEq, Debug)]
+pub enum Record<'a> {
+    Packet { ticks: u32, bytes: &'a [u8] },
+    Event { ticks: u32, kind: u8, code: u8 },
+    Detail { address: u8, number: u8, direction: u8, kind: u8, max: u16 },
+}
+
+/// A refusal and the offset that it is printed with.
+#[derive(Copy, Clone, PartialEq, Debug)]
+pub struct Refused {
+    pub answer: u8,
+    pub at: usize,
+}
+
+const HEADER: usize = 5;
+
+/// 10 for the mark, 11 for the version.
+pub fn header(trace: &[u8]) -> Result<(), Refused> {
+    if trace.get(..3) != Some(b"UTL") {
+        return Err(Refused { answer: 10, at: 0 });
+    }
+    if trace.get(3..HEADER) != Some(&[1, 0]) {
+        return Err(Refused { answer: 11, at: 3 });
+    }
+    Ok(())
+}
+
+/// Reads the records of a trace, keeping its place.
+pub struct Reader<'a> {
+    trace: &'a [u8],
+    pub at: usize,
+}
+
+impl<'a> Reader<'a> {
+    /// Behind the header.
+    pub fn new(trace: &'a [u8]) -> Self {
+        Reader { trace, at: HEADER }
+    }
+
+    /// The next record, none at the end; 12 for a tag that is unknown, tested before 13 for a record cut short.
+    pub fn next(&mut self) -> Option<Result<Record<'a>, Refused>> {
+        let rest = &self.trace[self.at..];
+        let size = match rest.first()? {
+            0 => match rest.get(5..7) {
+                Some(length) => 7 + u16::from_le_bytes([length[0], length[1]]) as usize,
+                None => 7,
+            },
+            1 | 2 => 7,
+            _ => return Some(Err(Refused { answer: 12, at: self.at })),
+        };
+        let Some(record) = rest.get(..size) else { return Some(Err(Refused { answer: 13, at: self.at })) };
+        self.at += size;
+        let ticks = u32::from_le_bytes([record[1], record[2], record[3], record[4]]);
+        Some(Ok(match record[0] {
+            0 => Record::Packet { ticks, bytes: &record[7..] },
+            1 => Record::Event { ticks, kind: record[5], code: record[6] },
+            _ => Record::Detail {
+                address: record[1],
+                number: record[2],
+                direction: record[3],
+                kind: record[4],
+                max: u16::from_le_bytes([record[5], record[6]]),
+            },
+        }))
+    }
+}
+
+/// The time of each record that has ticks: the first is its ticks, each later one adds the difference modulo 2^32, modulo 2^64.
+#[derive(Default)]
+pub struct Clock {
+    last: Option<(u32, u64)>,
+}
+
+impl Clock {
+    pub fn time(&mut self, ticks: u32) -> u64 {
+        let time = match self.last {
+            None => ticks as u64,
+            Some((last, time)) => time.wrapping_add(ticks.wrapping_sub(last) as u64),
+        };
+        self.last = Some((ticks, time));
+        time
+    }
+}
+
+pub fn call<M: Mechanism>(calls: &mut Calls<M>, clock: &mut Clock, record: &Record) -> u8 {
+    match *record {
+        Record::Packet { ticks, bytes } => calls.packet(bytes, clock.time(ticks)),
+        Record::Event { ticks, kind, code } => calls.event(kind, code, clock.time(ticks)),
+        Record::Detail { address, number, direction, kind, max } => calls.detail(address, number, direction, kind, max),
+    }
+}
+
+/// A whole trace and its finish, up to the first refusal; 8 is none.
+pub fn run<M: Mechanism>(trace: &[u8], room: Rows, total: u64) -> Result<Calls<M>, Refused> {
+    header(trace)?;
+    let mut calls = Calls::new(room, total, false);
+    if calls.fresh != 0 {
+        return Err(Refused { answer: calls.fresh, at: 0 });
+    }
+    let mut reader = Reader::new(trace);
+    let mut clock = Clock::default();
+    loop {
+        let at = reader.at;
+        let Some(record) = reader.next() else { break };
+        let answer = call(&mut calls, &mut clock, &record?);
+        if answer != 0 && answer != 8 {
+            return Err(Refused { answer, at });
+        }
+    }
+    match calls.finish() {
+        0 => Ok(calls),
+        answer => Err(Refused { answer, at: trace.len() }),
+    }
+}
+
+/// The answers of a trace, one for each record and one for finish. A refused call changes nothing, and the trace goes on;
+/// `finish_at` calls finish before that record as well.
+pub fn answers<M: Mechanism>(trace: &[u8], room: Rows, total: u64, finish_at: Option<u64>) -> Vec<u8> {
+    if let Err(refused) = header(trace) {
+        return vec![refused.answer];
+    }
+    let mut calls = Calls::<M>::new(room, total, false);
+    let mut reader = Reader::new(trace);
+    let mut clock = Clock::default();
+    let mut answers = Vec::new();
+    let mut number = 0;
+    while let Some(record) = reader.next() {
+        if finish_at == Some(number) {
+            answers.push(calls.finish());
+        }
+        number += 1;
+        match record {
+            Ok(record) => answers.push(call(&mut calls, &mut clock, &record)),
+            Err(refused) => {
+                answers.push(refused.answer);
+                return answers;
+            }
+        }
+    }
+    answers.push(calls.finish());
+    answers
+}
+
+/// A trace being written.
+#[derive(Clone)]
+pub struct Writer {
+    pub bytes: Vec<u8>,
+    pub records: u64,
+}
+
+impl Default for Writer {
+    fn default() -> Self {
+        Writer { bytes: b"UTL\x01\x00".to_vec(), records: 0 }
+    }
+}
+
+impl Writer {
+    pub fn packet(&mut self, ticks: u32, bytes: &[u8]) {
+        self.bytes.push(0);
+        self.bytes.extend_from_slice(&ticks.to_le_bytes());
+        self.bytes.extend_from_slice(&(bytes.len() as u16).to_le_bytes());
+        self.bytes.extend_from_slice(bytes);
+        self.records += 1;
+    }
+
+    pub fn event(&mut self, ticks: u32, kind: u8, code: u8) {
+        self.bytes.push(1);
+        self.bytes.extend_from_slice(&ticks.to_le_bytes());
+        self.bytes.extend_from_slice(&[kind, code]);
+        self.records += 1;
+    }
+
+    pub fn detail(&mut self, address: u8, number: u8, direction: u8, kind: u8, max: u16) {
+        self.bytes.extend_from_slice(&[2, address, number, direction, kind]);
+        self.bytes.extend_from_slice(&max.to_le_bytes());
+        self.records += 1;
+    }
+}
