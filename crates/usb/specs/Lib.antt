@@ -3,3 +3,4 @@ pub mod Types
 pub mod Bits
 pub mod Packet
 pub mod Fields
+pub mod Laws
