@@ -1,4 +1,4 @@
--- The check a word at a time, with a register of 64 bits that `bits p 64` takes to the true one.
+-- The register a word at a time: a word stands for the register that `bits p 64` makes of it.
 -- Assumes nothing.
 use mathlib.Core.Path.{_≡_, refl, sym, ap, _∙_}
 use mathlib.Core.List.{List, [], _∷_, _++_}
@@ -23,9 +23,6 @@ take-turn p r r′ n i s e =
 
 pub start-turn : (p r w : ℕ) → w < 2 ^ 64 → bits p 64 (bitXor w r) 0 ≡ bits p 64 r w
 start-turn p r w h = ap (λ (x : ℕ). bits p 64 x 0) (xor-comm w r) ∙ sym (into p 64 r w h)
-
-pub four : (p h : ℕ) → bits p 8 (bits p 8 (bits p 8 (bits p 8 h 0) 0) 0) 0 ≡ bits p 32 h 0
-four p h = sym (in-two p 8 24 h 0 ∙ in-two p 8 16 (bits p 8 h 0) 0 ∙ in-two p 8 8 (bits p 8 (bits p 8 h 0) 0) 0)
 
 -- f stands for a, 64 bits on
 pub fold-into : (p f a w : ℕ) → bits p 64 f 0 ≡ bits p 128 a 0 → bits p 64 (bitXor f w) 0 ≡ bits p 64 (bitXor (bits p 64 a 0) w) 0
