@@ -167,7 +167,7 @@ fn effect_words(effect: Effect) -> Numbers
     }
 }
 
-// The answer's ten words, for the state's 23; docs/PROOFS.md lists both.
+// The answer's ten words, for the 23 of the state; specs/Words.antt says what each is.
 #[no_mangle]
 pub extern "C" fn pivotspark_group_status(state: &[u64; 23], out: &mut [u64; 10])
     ensures { λ r. ⌜ now (out .exit) ≡ sets (now (out .entry)) 0 (answerWords (answered (now (state .entry)))) ⌝ }
