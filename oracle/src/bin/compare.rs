@@ -10,6 +10,7 @@ use oracle::usb::PID::{self, *};
 use oracle::usb::validate_packet;
 
 #[link(name = "capi", kind = "static")]
+#[link(name = "group_c", kind = "static")]
 unsafe extern "C" {
     /// The PID byte of a valid packet, 0 for a malformed one (crates/capi). It reads the bytes and nothing else.
     fn pivotspark_check(packet: *const u8, length: usize) -> u8;
@@ -119,10 +120,12 @@ fn state(random: &mut Random) -> State {
         let length = random.pick(&[0, 0, 1, 8, 256, 0xFF00, 0xFFFF]);
         kind | request << 8 | random.below(1 << 32) << 16 | length << 48
     };
-    let kind = random.below(8);
+    // Control endpoints and active groups have the most rows.
+    let kind = random.pick(&[0, 0, 0, 0, 1, 2, 3, 4, 5, 6, 7]);
+    let phase = random.pick(&[0, 1, 2, 2, 2, 2, 3]);
     let max = if kind < 4 { random.pick(&[0, 8, 64, 1024]) } else { 0 };
     [
-        random.below(4),
+        phase,
         pid(random),
         bit(random),
         pid(random),
