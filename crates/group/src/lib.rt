@@ -39,7 +39,7 @@ pub enum Effect {
 pub struct Grouped {
     pub status: GroupStatus,
     pub effect: Effect,
-    // The endpoint after it; pending, counted and grouped it is by the caller.
+    // The endpoint after it; the effect and the status are for the caller to act on.
     pub endpoint: Endpoint,
 }
 

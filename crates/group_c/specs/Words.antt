@@ -41,11 +41,41 @@ styleOf w sc kind pid = pick (eqb w 1) (Simple pid) (pick (eqb w 2) (Split sc ki
 
 -- words 0 to 10; what group_status does not look at is 0
 unfoldable pub endpointOf : List ℕ → Endpoint
-endpointOf s = record { device = 0; address = 0; phase = phaseOf (word s 0); state = 0; transactions = 0; groups = 0; total = 0; first = byteOf (word s 1); done = flagOf (word s 2); last = byteOf (word s 3); success = flagOf (word s 4); ready = flagOf (word s 5); setup = word s 6; payload = word s 7; waits = flagOf (word s 8); waiting = word s 9; waiter = word s 10 }
+endpointOf s = record {
+  device = 0;
+  address = 0;
+  phase = phaseOf (word s 0);
+  state = 0;
+  transactions = 0;
+  groups = 0;
+  total = 0;
+  first = byteOf (word s 1);
+  done = flagOf (word s 2);
+  last = byteOf (word s 3);
+  success = flagOf (word s 4);
+  ready = flagOf (word s 5);
+  setup = word s 6;
+  payload = word s 7;
+  waits = flagOf (word s 8);
+  waiting = word s 9;
+  waiter = word s 10;
+}
 
 -- words 11 to 18
 unfoldable pub transactionOf : List ℕ → Transaction
-transactionOf s = record { style = styleOf (word s 11) (byteOf (word s 12)) (byteOf (word s 13)) (byteOf (word s 14)); id = 0; last = 0; endpoint = 0; kind = Unknown; linked = false; link = 0; ready = flagOf (word s 15); setup = word s 16; filled = flagOf (word s 17); payload = word s 18 }
+transactionOf s = record {
+  style = styleOf (word s 11) (byteOf (word s 12)) (byteOf (word s 13)) (byteOf (word s 14));
+  id = 0;
+  last = 0;
+  endpoint = 0;
+  kind = Unknown;
+  linked = false;
+  link = 0;
+  ready = flagOf (word s 15);
+  setup = word s 16;
+  filled = flagOf (word s 17);
+  payload = word s 18;
+}
 
 -- words 19 and 20
 unfoldable pub detailOf : List ℕ → Detail
