@@ -1,0 +1,4 @@
+pub mod Kind
+pub mod Word
+pub mod Table
+pub mod TableLaws
