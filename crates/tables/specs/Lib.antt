@@ -1,4 +1,10 @@
 pub mod Kind
 pub mod Word
 pub mod Table
+pub mod Each
+pub mod Phases
+pub mod States
 pub mod TableLaws
+pub mod EachLaws
+pub mod PhasesLaws
+pub mod StatesLaws

@@ -1,6 +1,8 @@
 // Devices and endpoints: what is known of each, where it stands, and how it is found.
 pub mod entry;
 pub mod kind;
+pub mod phases;
+pub mod states;
 pub mod word;
 
 // What is known of an endpoint: its type, and the largest payload it sends (0 where it is not known).
