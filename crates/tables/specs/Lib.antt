@@ -4,7 +4,9 @@ pub mod Table
 pub mod Each
 pub mod Phases
 pub mod States
+pub mod Details
 pub mod TableLaws
 pub mod EachLaws
 pub mod PhasesLaws
 pub mod StatesLaws
+pub mod DetailsLaws

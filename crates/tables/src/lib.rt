@@ -1,4 +1,5 @@
 // Devices and endpoints: what is known of each, where it stands, and how it is found.
+pub mod details;
 pub mod entry;
 pub mod kind;
 pub mod phases;
@@ -57,4 +58,10 @@ pub struct Endpoint {
     pub waits: bool,
     pub waiting: u64,
     pub waiter: u64,
+}
+
+// Where a search ended: at a row, or after the last.
+pub enum Found {
+    At(usize),
+    Nothing,
 }
