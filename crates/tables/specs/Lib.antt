@@ -5,8 +5,10 @@ pub mod Each
 pub mod Phases
 pub mod States
 pub mod Details
+pub mod Search
 pub mod TableLaws
 pub mod EachLaws
 pub mod PhasesLaws
 pub mod StatesLaws
 pub mod DetailsLaws
+pub mod SearchLaws

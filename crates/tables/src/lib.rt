@@ -1,6 +1,7 @@
 // Devices and endpoints: what is known of each, where it stands, and how it is found.
 pub mod details;
 pub mod entry;
+pub mod find;
 pub mod kind;
 pub mod phases;
 pub mod states;
