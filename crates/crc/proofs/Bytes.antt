@@ -22,8 +22,8 @@ module _ (p r : ℕ) (s : List ℕ) (i : ℕ) where
   bytes-none h = rw drop-of-length-le
 
 -- a byte by way of the register: t is the register after it
-pub turn-on : (p r : ℕ) (s : List ℕ) (i t : ℕ) → i < length s → getD s i 0 < 256 → t ≡ bits p 8 (bitXor r (getD s i 0)) 0 → bytes p t (drop (i + 1) s) ≡ bytes p r (drop i s)
-turn-on p r s i t h hb e = rw (e, ← into p 8 r (getD s i 0) hb) (sym (bytes-more p r s i h))
+pub byte-on : (p r : ℕ) (s : List ℕ) (i t : ℕ) → i < length s → getD s i 0 < 256 → t ≡ bits p 8 (bitXor r (getD s i 0)) 0 → bytes p t (drop (i + 1) s) ≡ bytes p r (drop i s)
+byte-on p r s i t h hb e = rw (e, ← into p 8 r (getD s i 0) hb) (sym (bytes-more p r s i h))
 
 module _ (s : List ℕ) (i : ℕ) where
   part : (n k : ℕ) → i + k < length s → take (suc n) (drop (i + k) s) ≡ getD s (i + k) 0 ∷ take n (drop (i + suc k) s)

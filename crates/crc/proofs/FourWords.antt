@@ -8,8 +8,8 @@ use mathlib.Core.List.{List}
 use lib.ListN.{take, drop}
 use lib.Bits.{bitXor, xor-zero-r, xor-comm, xor-lt}
 use Rattle.crc.proofs.Words.{take-turn}
-use Rattle.crc.specs.Crc.{bits, bytes}
-use Rattle.crc.specs.Fold.{nearOf, farOf, four}
+use Rattle.crc.specs.Crc.{generator16, bits, bytes}
+use Rattle.crc.specs.Fast.{staysOf, passesOf, four}
 use Rattle.crc.proofs.Bits.{into, in-two}
 use Rattle.crc.proofs.Linear.{Lin, id, plain, shr, shl, run, run-lin, _⊕_, _▹_, middle, at-zero, basis}
 
@@ -80,37 +80,37 @@ module _ {f g : ℕ → ℕ → ℕ → ℕ → ℕ} (l : Lin4 f) (m : Lin4 g) w
 
 -- ---- the turn
 
-abbrev near : Lin nearOf
-near = shr 2 ⊕ shr 4 ⊕ shr 16
+abbrev stays : Lin staysOf
+stays = shr 2 ⊕ shr 4 ⊕ shr 16
 
-abbrev far : Lin farOf
-far = shl 62 ⊕ shl 60 ⊕ shl 48
+abbrev passes : Lin passesOf
+passes = shl 62 ⊕ shl 60 ⊕ shl 48
 
 -- n bits on
 abbrev B : ℕ → ℕ → ℕ
-B n v = bits 0xA001 n v 0
+B n v = bits generator16 n v 0
 
 -- the one identity that antt computes: a word, 256 bits on
-pair : (e : ℕ) → e < 2 ^ 64 → B 64 (bitXor (B 64 (farOf e)) (nearOf e)) ≡ B 320 e
-pair = basis ((far ▹ run 16) ⊕ near ▹ run 16) (run 80) 64 tt
+pair : (e : ℕ) → e < 2 ^ 64 → B 64 (bitXor (B 64 (passesOf e)) (staysOf e)) ≡ B 320 e
+pair = basis ((passes ▹ run 16) ⊕ stays ▹ run 16) (run 80) 64 tt
 
-far-far : (a : ℕ) → a < 2 ^ 64 → farOf (farOf a) ≡ 0
-far-far = basis (far ▹ far) (plain {f = λ x. 0} (λ x y. refl)) 64 tt
+passes-passes : (a : ℕ) → a < 2 ^ 64 → passesOf (passesOf a) ≡ 0
+passes-passes = basis (passes ▹ passes) (plain {f = λ x. 0} (λ x y. refl)) 64 tt
 
-far-lt : (a : ℕ) → farOf a < 2 ^ 64
-far-lt a = xor-lt 64 _ (a * 2 ^ 48 % 2 ^ 64) (xor-lt 64 (a * 2 ^ 62 % 2 ^ 64) (a * 2 ^ 60 % 2 ^ 64) (omega arith) (omega arith)) (omega arith)
+passes-lt : (a : ℕ) → passesOf a < 2 ^ 64
+passes-lt a = xor-lt 64 _ (a * 2 ^ 48 % 2 ^ 64) (xor-lt 64 (a * 2 ^ 62 % 2 ^ 64) (a * 2 ^ 60 % 2 ^ 64) (omega arith) (omega arith)) (omega arith)
 
 zero64 : B 64 0 ≡ 0
 zero64 = at-zero (run 16)
 
 swapped : (v : ℕ) → B 64 (B 256 v) ≡ B 256 (B 64 v)
-swapped v = sym (in-two 0xA001 256 64 v 0) ∙ in-two 0xA001 64 256 v 0
+swapped v = sym (in-two generator16 256 64 v 0) ∙ in-two generator16 64 256 v 0
 
 deep : (v : ℕ) → B 256 v ≡ B 64 (B 64 (B 64 (B 64 v)))
-deep v = in-two 0xA001 64 192 v 0 ∙ in-two 0xA001 64 128 (B 64 v) 0 ∙ in-two 0xA001 64 64 (B 64 (B 64 v)) 0
+deep v = in-two generator16 64 192 v 0 ∙ in-two generator16 64 128 (B 64 v) 0 ∙ in-two generator16 64 64 (B 64 (B 64 v)) 0
 
 new : ℕ → ℕ → ℕ → ℕ → ℕ
-new a b d e = four (bitXor (nearOf a) (farOf b)) (bitXor (nearOf b) (farOf d)) (bitXor (nearOf d) (farOf e)) (nearOf (bitXor e (farOf a)))
+new a b d e = four (bitXor (staysOf a) (passesOf b)) (bitXor (staysOf b) (passesOf d)) (bitXor (staysOf d) (passesOf e)) (staysOf (bitXor e (passesOf a)))
 
 old : ℕ → ℕ → ℕ → ℕ → ℕ
 old a b d e = B 256 (four a b d e)
@@ -121,7 +121,7 @@ regs x y z t = (((x ▸ run 16) ⊞ y ▸ run 16) ⊞ z ▸ run 16) ⊞ t ▸ ru
 
 new-lin : Lin4 new
 unfolding new
-new-lin = regs (at0 near ⊞ at1 far) (at1 near ⊞ at2 far) (at2 near ⊞ at3 far) (at3 id ⊞ at0 far ▸ near)
+new-lin = regs (at0 stays ⊞ at1 passes) (at1 stays ⊞ at2 passes) (at2 stays ⊞ at3 passes) (at3 id ⊞ at0 passes ▸ stays)
 
 old-lin : Lin4 old
 unfolding old
@@ -129,28 +129,28 @@ old-lin = regs (at0 id) (at1 id) (at2 id) (at3 id) ▸ run 64
 
 -- the words one by one
 module _ (v : ℕ) (h : v < 2 ^ 64) where
-  w3 : B 64 (bitXor (B 64 (farOf v)) (nearOf v)) ≡ B 256 (B 64 v)
-  w3 = pair v h ∙ in-two 0xA001 64 256 v 0
+  w3 : B 64 (bitXor (B 64 (passesOf v)) (staysOf v)) ≡ B 256 (B 64 v)
+  w3 = pair v h ∙ in-two generator16 64 256 v 0
 
-  w2 : B 64 (B 64 (bitXor (B 64 (farOf v)) (nearOf v))) ≡ B 256 (B 64 (B 64 v))
+  w2 : B 64 (B 64 (bitXor (B 64 (passesOf v)) (staysOf v))) ≡ B 256 (B 64 (B 64 v))
   w2 = ap (B 64) w3 ∙ swapped (B 64 v)
 
-  w1 : B 64 (B 64 (B 64 (bitXor (B 64 (farOf v)) (nearOf v)))) ≡ B 256 (B 64 (B 64 (B 64 v)))
+  w1 : B 64 (B 64 (B 64 (bitXor (B 64 (passesOf v)) (staysOf v)))) ≡ B 256 (B 64 (B 64 (B 64 v)))
   w1 = ap (B 64) w2 ∙ swapped (B 64 (B 64 v))
 
-  again : B 64 (nearOf (farOf v)) ≡ B 64 (B 64 (B 64 (B 64 (B 64 (farOf v)))))
+  again : B 64 (staysOf (passesOf v)) ≡ B 64 (B 64 (B 64 (B 64 (B 64 (passesOf v)))))
   again =
-      ap (λ (x : ℕ). B 64 (bitXor x (nearOf (farOf v)))) (sym (ap (B 64) (far-far v h) ∙ zero64))
-      ∙ pair (farOf v) (far-lt v)
-      ∙ in-two 0xA001 64 256 (farOf v) 0
-      ∙ deep (B 64 (farOf v))
+      ap (λ (x : ℕ). B 64 (bitXor x (staysOf (passesOf v)))) (sym (ap (B 64) (passes-passes v h) ∙ zero64))
+      ∙ pair (passesOf v) (passes-lt v)
+      ∙ in-two generator16 64 256 (passesOf v) 0
+      ∙ deep (B 64 (passesOf v))
 
-  w0 : B 64 (bitXor (B 64 (B 64 (B 64 (nearOf v)))) (nearOf (farOf v))) ≡ B 256 (B 64 (B 64 (B 64 (B 64 v))))
+  w0 : B 64 (bitXor (B 64 (B 64 (B 64 (staysOf v)))) (staysOf (passesOf v))) ≡ B 256 (B 64 (B 64 (B 64 (B 64 v))))
   w0 =
-      run-lin 0xA001 64 (B 64 (B 64 (B 64 (nearOf v)))) (nearOf (farOf v))
-      ∙ ap (bitXor (B 64 (B 64 (B 64 (B 64 (nearOf v)))))) again
-      ∙ sym ((run 16 ▹ run 16 ▹ run 16 ▹ run 16) .lin (nearOf v) (B 64 (farOf v)))
-      ∙ ap (λ (x : ℕ). B 64 (B 64 (B 64 (B 64 x)))) (xor-comm (nearOf v) (B 64 (farOf v)))
+      run-lin generator16 64 (B 64 (B 64 (B 64 (staysOf v)))) (staysOf (passesOf v))
+      ∙ ap (bitXor (B 64 (B 64 (B 64 (B 64 (staysOf v)))))) again
+      ∙ sym ((run 16 ▹ run 16 ▹ run 16 ▹ run 16) .lin (staysOf v) (B 64 (passesOf v)))
+      ∙ ap (λ (x : ℕ). B 64 (B 64 (B 64 (B 64 x)))) (xor-comm (staysOf v) (B 64 (passesOf v)))
       ∙ ap (B 64) w1
       ∙ swapped (B 64 (B 64 (B 64 v)))
 
@@ -163,27 +163,27 @@ on-four =
 four-lin : (a b d e x y z t : ℕ) → four (bitXor a x) (bitXor b y) (bitXor d z) (bitXor e t) ≡ bitXor (four a b d e) (four x y z t)
 four-lin = regs (at0 id) (at1 id) (at2 id) (at3 id) .lin4
 
-flat : (r : ℕ) → four r 0 0 0 ≡ bits 0xA001 256 r 0
+flat : (r : ℕ) → four r 0 0 0 ≡ bits generator16 256 r 0
 unfolding four
 flat r =
     simp xor-zero-r
-    (sym (in-two 0xA001 64 192 r 0 ∙ in-two 0xA001 64 128 (bits 0xA001 64 r 0) 0 ∙ in-two 0xA001 64 64 (bits 0xA001 64 (bits 0xA001 64 r 0) 0) 0))
+    (sym (in-two generator16 64 192 r 0 ∙ in-two generator16 64 128 (bits generator16 64 r 0) 0 ∙ in-two generator16 64 64 (bits generator16 64 (bits generator16 64 r 0) 0) 0))
 
 -- four words of data, one after the other
 abbrev chain : ℕ → ℕ → ℕ → ℕ → ℕ → ℕ
-chain r u v w x = bits 0xA001 64 (bits 0xA001 64 (bits 0xA001 64 (bits 0xA001 64 r u) v) w) x
+chain r u v w x = bits generator16 64 (bits generator16 64 (bits generator16 64 (bits generator16 64 r u) v) w) x
 
 module _ (u v w x : ℕ) (hu : u < 2 ^ 64) (hv : v < 2 ^ 64) (hw : w < 2 ^ 64) (hx : x < 2 ^ 64) where
   chained : (r : ℕ) → four (bitXor r u) v w x ≡ chain r u v w x
   unfolding four
-  chained r = rw (into 0xA001 64 r u hu, into 0xA001 64 _ v hv, into 0xA001 64 _ w hw, into 0xA001 64 _ x hx)
+  chained r = rw (into generator16 64 r u hu, into generator16 64 _ v hv, into generator16 64 _ w hw, into generator16 64 _ x hx)
 
-  pub turn4 : (a b d e : ℕ) → a < 2 ^ 64 → b < 2 ^ 64 → d < 2 ^ 64 → e < 2 ^ 64
-      → four (bitXor (bitXor (nearOf a) (farOf b)) u) (bitXor (bitXor (nearOf b) (farOf d)) v) (bitXor (bitXor (nearOf d) (farOf e)) w) (bitXor (nearOf (bitXor e (farOf a))) x)
+  pub next4 : (a b d e : ℕ) → a < 2 ^ 64 → b < 2 ^ 64 → d < 2 ^ 64 → e < 2 ^ 64
+      → four (bitXor (bitXor (staysOf a) (passesOf b)) u) (bitXor (bitXor (staysOf b) (passesOf d)) v) (bitXor (bitXor (staysOf d) (passesOf e)) w) (bitXor (staysOf (bitXor e (passesOf a))) x)
       ≡ chain (four a b d e) u v w x
   unfolding new old
-  turn4 a b d e ha hb hd he =
-      four-lin (bitXor (nearOf a) (farOf b)) (bitXor (nearOf b) (farOf d)) (bitXor (nearOf d) (farOf e)) (nearOf (bitXor e (farOf a))) u v w x
+  next4 a b d e ha hb hd he =
+      four-lin (bitXor (staysOf a) (passesOf b)) (bitXor (staysOf b) (passesOf d)) (bitXor (staysOf d) (passesOf e)) (staysOf (bitXor e (passesOf a))) u v w x
       ∙ ap (λ (r : ℕ). bitXor r (four u v w x)) (on-four a b d e ha hb hd he ∙ sym (flat (four a b d e)))
       ∙ sym (four-lin (four a b d e) 0 0 0 u v w x)
       ∙ chained (four a b d e)
@@ -192,12 +192,12 @@ module _ (u v w x : ℕ) (hu : u < 2 ^ 64) (hv : v < 2 ^ 64) (hw : w < 2 ^ 64) (
   start4 = ap (λ (r : ℕ). four r v w x) (xor-comm u 0xffff) ∙ chained 0xffff
 
 -- the bytes of the four words
-module _ (s : List ℕ) (i u v w x : ℕ) (fu : (q : ℕ) → bits 0xA001 64 q u ≡ bytes 0xA001 q (take 8 (drop i s)))
-    (fv : (q : ℕ) → bits 0xA001 64 q v ≡ bytes 0xA001 q (take 8 (drop (i + 8) s)))
-    (fw : (q : ℕ) → bits 0xA001 64 q w ≡ bytes 0xA001 q (take 8 (drop (i + 16) s)))
-    (fx : (q : ℕ) → bits 0xA001 64 q x ≡ bytes 0xA001 q (take 8 (drop (i + 24) s))) where
-  at : (r r′ k : ℕ) → r′ ≡ bytes 0xA001 r (take 8 (drop (i + k) s)) → bytes 0xA001 r′ (drop (i + (k + 8)) s) ≡ bytes 0xA001 r (drop (i + k) s)
-  at r r′ k e = rw (← add-assoc i k 8) (take-turn 0xA001 r r′ 8 (i + k) s e)
+module _ (s : List ℕ) (i u v w x : ℕ) (fu : (q : ℕ) → bits generator16 64 q u ≡ bytes generator16 q (take 8 (drop i s)))
+    (fv : (q : ℕ) → bits generator16 64 q v ≡ bytes generator16 q (take 8 (drop (i + 8) s)))
+    (fw : (q : ℕ) → bits generator16 64 q w ≡ bytes generator16 q (take 8 (drop (i + 16) s)))
+    (fx : (q : ℕ) → bits generator16 64 q x ≡ bytes generator16 q (take 8 (drop (i + 24) s))) where
+  at : (r r′ k : ℕ) → r′ ≡ bytes generator16 r (take 8 (drop (i + k) s)) → bytes generator16 r′ (drop (i + (k + 8)) s) ≡ bytes generator16 r (drop (i + k) s)
+  at r r′ k e = rw (← add-assoc i k 8) (take-turn generator16 r r′ 8 (i + k) s e)
 
-  pub words : (r : ℕ) → bytes 0xA001 (chain r u v w x) (drop (i + 32) s) ≡ bytes 0xA001 r (drop i s)
-  words r = at _ _ 24 (fx _) ∙ at _ _ 16 (fw _) ∙ at _ _ 8 (fv _) ∙ take-turn 0xA001 r _ 8 i s (fu r)
+  pub words : (r : ℕ) → bytes generator16 (chain r u v w x) (drop (i + 32) s) ≡ bytes generator16 r (drop i s)
+  words r = at _ _ 24 (fx _) ∙ at _ _ 16 (fw _) ∙ at _ _ 8 (fv _) ∙ take-turn generator16 r _ 8 i s (fu r)

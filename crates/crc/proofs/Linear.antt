@@ -12,7 +12,7 @@ use lib.Pow.{pow-pos}
 use lib.ListN.{getD}
 use mathlib.Core.List.{List, [], _∷_}
 use lib.Bits.{bitXor, xor-mod, xor-shr, xor-block, xor-shifted, xor-zero-r, xor-self, xor-comm}
-use Rattle.crc.specs.Crc.{step, bits}
+use Rattle.crc.specs.Crc.{generator16, step, bits}
 use Rattle.crc.proofs.Xor.{xor-assoc}
 use Rattle.crc.proofs.Bits.{split-off, in-two}
 use Rattle.crc.proofs.Rule.{rule}
@@ -98,20 +98,20 @@ abbrev pub nibbles : ℕ → ℕ → ℕ
 nibbles zero v = v
 nibbles (suc n) v = nibbles n (bitXor (getD table4 (v % 16) 0) (v / 16))
 
-four : (v : ℕ) → v < 16 → getD table4 v 0 ≡ bits 0xA001 4 v 0
+four : (v : ℕ) → v < 16 → getD table4 v 0 ≡ bits generator16 4 v 0
 unfolding bits step
-four v h = rule (λ (k : ℕ). bits 0xA001 4 k 0) 16 v h
+four v h = rule (λ (k : ℕ). bits generator16 4 k 0) 16 v h
 
-pub nibbles-is : (n v : ℕ) → nibbles n v ≡ bits 0xA001 (fours n) v 0
+pub nibbles-is : (n v : ℕ) → nibbles n v ≡ bits generator16 (fours n) v 0
 unfolding bits
 nibbles-is zero v = refl
 nibbles-is (suc n) v =
     nibbles-is n (bitXor (getD table4 (v % 16) 0) (v / 16))
-    ∙ ap (λ (r : ℕ). bits 0xA001 (fours n) r 0) (ap (λ (t : ℕ). bitXor t (v / 16)) (four (v % 16) (omega arith)) ∙ sym (split-off 0xA001 4 v))
-    ∙ sym (in-two 0xA001 4 (fours n) v 0)
+    ∙ ap (λ (r : ℕ). bits generator16 (fours n) r 0) (ap (λ (t : ℕ). bitXor t (v / 16)) (four (v % 16) (omega arith)) ∙ sym (split-off generator16 4 v))
+    ∙ sym (in-two generator16 4 (fours n) v 0)
 
-abbrev pub run : (n : ℕ) → Lin (λ x. bits 0xA001 (fours n) x 0)
-run n = record { lin = run-lin 0xA001 (fours n); quick = nibbles n; same = nibbles-is n }
+abbrev pub run : (n : ℕ) → Lin (λ x. bits generator16 (fours n) x 0)
+run n = record { lin = run-lin generator16 (fours n); quick = nibbles n; same = nibbles-is n }
 
 -- ---- equal at each power of two
 

@@ -24,9 +24,6 @@ take-turn p r r′ n i s e =
 pub start-turn : (p r w : ℕ) → w < 2 ^ 64 → bits p 64 (bitXor w r) 0 ≡ bits p 64 r w
 start-turn p r w h = ap (λ (x : ℕ). bits p 64 x 0) (xor-comm w r) ∙ sym (into p 64 r w h)
 
-pub four : (p h : ℕ) → bits p 8 (bits p 8 (bits p 8 (bits p 8 h 0) 0) 0) 0 ≡ bits p 32 h 0
-four p h = sym (in-two p 8 24 h 0 ∙ in-two p 8 16 (bits p 8 h 0) 0 ∙ in-two p 8 8 (bits p 8 (bits p 8 h 0) 0) 0)
-
 -- f stands for a, 64 bits on
 pub fold-into : (p f a w : ℕ) → bits p 64 f 0 ≡ bits p 128 a 0 → bits p 64 (bitXor f w) 0 ≡ bits p 64 (bitXor (bits p 64 a 0) w) 0
 fold-into p f a w e =

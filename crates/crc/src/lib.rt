@@ -1,12 +1,12 @@
-// The checks of USB packets (USB 2.0, 8.3.5).
+// The CRCs of USB packets (USB 2.0, 8.3.5).
 ghost use mathlib.Core.Path.{_≡_};
 ghost use Prim.Native.Nat.{ℕ, _+_, _/_, _^_, _≤_, _<_};
 ghost use lib.ListN.{length, take, drop};
 ghost use lib.Bits.{bitXor};
-ghost use Rattle.crc.specs.Fold.{nearOf, farOf, four};
-ghost use Rattle.crc.specs.Crc.{bits, bytes, crc5Of, crc16Of};
+ghost use Rattle.crc.specs.Fast.{staysOf, passesOf, four};
+ghost use Rattle.crc.specs.Crc.{generator16, ones16, bits, bytes, crc5Of, crc16Of};
 
-// CRC5 of the n low bits of x.
+// The CRC5 of the n low bits of x, a bit a turn (8.3.5.1).
 pub fn crc5(x: u32, n: u32) -> u8
     ensures { λ r. ⌜ r ≡ crc5Of x n ⌝ }
 {
@@ -23,38 +23,58 @@ pub fn crc5(x: u32, n: u32) -> u8
     state ^ 0x1f
 }
 
-// Without tables. X^64 is X^18+X^8+X^3 modulo the generator, so that a word of the register, 64 bits on, is three of it shifted,
-// and what a shift drops is 64 bits on again.
+// The CRC16, below, has no tables. "n bits on" means after n steps with no data: times X^n, modulo the generator. A word of 64 bits
+// stands for the register that it becomes 64 bits on, and the data are xored into it.
+
+// The register 8 bits on: each bit of the low byte moves up by 6 and by 7, and their parity brings 0xC001.
+fn advance8(v: u64) -> u64
+    ensures { λ r. ⌜ r ≡ bits generator16 8 v 0 ⌝ }
+{
+    let x = v % 256;
+    let y = x ^ x >> 4;
+    let z = y ^ y >> 2;
+    let parity = z ^ z >> 1;
+    v >> 8 ^ x << 6 ^ x << 7 ^ parity % 2 * 0xC001
+}
+
+// A word 64 bits on. With z for a shift to the left, the generator is 1+z+z^14+z^16, which is (1+z)(1+z^14+z^15): the quotient is made by
+// dividing by the one, then by the other, and what the quotient times the generator has above 64 bits is the register.
+fn advance64(a: u64) -> u64
+    ensures { λ r. ⌜ r ≡ bits generator16 64 a 0 ⌝ }
+{
+    let b = a ^ a << 1;
+    let b = b ^ b << 2;
+    let b = b ^ b << 4;
+    let b = b ^ b << 8;
+    let b = b ^ b << 16;
+    let b = b ^ b << 32;
+    let q = b ^ b << 14 ^ b << 15;
+    let q = q ^ q << 28 ^ q << 30;
+    let q = q ^ q << 56 ^ q << 60;
+    q >> 48 ^ q >> 50 ^ q >> 63
+}
+
+// The word that stands for a, 64 bits on. X^64 is X^18+X^8+X^3 modulo the generator, so it is three shifts of a to the right, and what
+// they drop is 64 bits on once more.
 fn fold(a: u64) -> u64
-    ensures { λ r. ⌜ bits 0xA001 64 r 0 ≡ bits 0xA001 128 a 0 ⌝ }
+    ensures { λ r. ⌜ bits generator16 64 r 0 ≡ bits generator16 128 a 0 ⌝ }
 {
     let b = a ^ a << 61 ^ a << 56 ^ a << 46;
     b >> 3 ^ b >> 8 ^ b >> 18
 }
 
-// The register 8 bits on.
-fn on(v: u64) -> u64
-    ensures { λ r. ⌜ r ≡ bits 0xA001 8 v 0 ⌝ }
-{
-    let x = v % 256;
-    let y = x ^ x >> 4;
-    let z = y ^ y >> 2;
-    let odd = z ^ z >> 1;
-    v >> 8 ^ x << 6 ^ x << 7 ^ odd % 2 * 0xC001
-}
-
-// A byte, and the bits after it.
+// A byte, with the bits that follow it above it.
 fn join(b: u8, after: u64) -> u64
     requires { ⌜ after < 2 ^ 56 ⌝ }
-    ensures { λ r. ⌜ (r / 256 ≡ after) × ((n q : ℕ) → bits 0xA001 (8 + n) q r ≡ bits 0xA001 n (bits 0xA001 8 q b) after) ⌝ }
+    ensures { λ r. ⌜ (r / 256 ≡ after) × ((n q : ℕ) → bits generator16 (8 + n) q r ≡ bits generator16 n (bits generator16 8 q b) after) ⌝ }
 {
     b as u64 + after * 256
 }
 
-// Eight bytes from i, the first lowest.
+// The eight bytes from i, the first lowest.
 fn word(s: &[u8], i: usize) -> u64
     requires { ⌜ i + 8 ≤ length (now s) ⌝ }
-    ensures { λ r. ⌜ ((q : ℕ) → bits 0xA001 64 q r ≡ bytes 0xA001 q (take 8 (drop i (now (s .entry))))) ⌝ }
+    ensures { λ r. ⌜ ((q : ℕ) → bits generator16 64 q r ≡ bytes generator16 q (take 8 (drop i (now (s .entry))))) ⌝ }
 {
     let w = join(s[i + 6], join(s[i + 7], 0));
     let x = join(s[i + 4], join(s[i + 5], w));
@@ -62,87 +82,23 @@ fn word(s: &[u8], i: usize) -> u64
     join(s[i], join(s[i + 1], y))
 }
 
-// The register after the bytes of s from a place.
-fn tail(from: u64, s: &[u8], at: usize) -> u64
-    ensures { λ r. ⌜ r ≡ bytes 0xA001 from (drop at (now (s .entry))) ⌝ }
+// The register after the bytes of s from a place, a byte a turn.
+fn by_bytes(from: u64, s: &[u8], at: usize) -> u64
+    ensures { λ r. ⌜ r ≡ bytes generator16 from (drop at (now (s .entry))) ⌝ }
 {
     let mut state = from;
     let mut i = at;
     while i < s.len() {
-        state = on(state ^ s[i] as u64);
+        state = advance8(state ^ s[i] as u64);
         i += 1;
     }
     state
 }
 
-// As `fold`, from 64 bits to 32: X^32 is X^16+X^4+X.
-fn half(a: u64) -> u64
-    ensures { λ r. ⌜ bits 0xA001 32 r 0 ≡ bits 0xA001 64 a 0 ⌝ }
-{
-    let b = (a ^ a << 31 ^ a << 28 ^ a << 16) % 0x100000000;
-    b >> 1 ^ b >> 4 ^ b >> 16 ^ a >> 32
-}
-
-// The register 64 bits on.
-fn whole(a: u64) -> u64
-    ensures { λ r. ⌜ r ≡ bits 0xA001 64 a 0 ⌝ }
-{
-    on(on(on(on(half(a)))))
-}
-
-// The register, inverted.
-fn inverted(state: u64) -> u16
-    requires { ⌜ state < 65536 ⌝ }
-    ensures { λ r. ⌜ r ≡ bitXor state 0xffff ⌝ }
-{
-    state as u16 ^ 0xffff
-}
-
-// Four words of the register: 256 bits, of which the first are in a.
-struct Lanes {
-    a: u64,
-    b: u64,
-    d: u64,
-    e: u64,
-}
-
-fn near(v: u64) -> u64
-    ensures { λ r. ⌜ r ≡ nearOf v ⌝ }
-{
-    v >> 2 ^ v >> 4 ^ v >> 16
-}
-
-fn far(v: u64) -> u64
-    ensures { λ r. ⌜ r ≡ farOf v ⌝ }
-{
-    v << 62 ^ v << 60 ^ v << 48
-}
-
-// The lanes after the 32 bytes from i.
-fn turn(l: Lanes, s: &[u8], i: usize) -> Lanes
-    requires { ⌜ i + 32 ≤ length (now s) ⌝ }
-    ensures { λ r. ⌜ bytes 0xA001 (four (r .a) (r .b) (r .d) (r .e)) (drop (i + 32) (now (s .entry))) ≡ bytes 0xA001 (four (l .a) (l .b) (l .d) (l .e)) (drop i (now (s .entry))) ⌝ }
-{
-    let a = near(l.a) ^ far(l.b) ^ word(s, i);
-    let b = near(l.b) ^ far(l.d) ^ word(s, i + 8);
-    let d = near(l.d) ^ far(l.e) ^ word(s, i + 16);
-    let e = near(l.e ^ far(l.a)) ^ word(s, i + 24);
-    Lanes { a, b, d, e }
-}
-
-// The lanes as one word.
-fn merged(l: Lanes) -> u64
-    ensures { λ r. ⌜ bits 0xA001 64 r 0 ≡ four (l .a) (l .b) (l .d) (l .e) ⌝ }
-{
-    let x = fold(l.a) ^ l.b;
-    let y = fold(x) ^ l.d;
-    fold(y) ^ l.e
-}
-
-// A word of the register, and the bytes of s from a place.
-fn rest(from: u64, s: &[u8], at: usize) -> u64
+// The register after the bytes of s from a place, eight a turn, from a word that stands for the register.
+fn by_words(from: u64, s: &[u8], at: usize) -> u64
     requires { ⌜ at ≤ length (now s) ⌝ }
-    ensures { λ r. ⌜ r ≡ bytes 0xA001 (bits 0xA001 64 from 0) (drop at (now (s .entry))) ⌝ }
+    ensures { λ r. ⌜ r ≡ bytes generator16 (bits generator16 64 from 0) (drop at (now (s .entry))) ⌝ }
 {
     let n = s.len();
     let mut a = from;
@@ -151,31 +107,105 @@ fn rest(from: u64, s: &[u8], at: usize) -> u64
         a = fold(a) ^ word(s, i);
         i += 8;
     }
-    tail(whole(a), s, i)
+    by_bytes(advance64(a), s, i)
 }
 
-// CRC16 of the bytes of s, 32 bytes at a turn.
-pub fn crc16(s: &[u8]) -> u16
-    ensures { λ r. ⌜ r ≡ crc16Of (now (s .entry)) ⌝ }
+// Four words, 32 bytes, that stand for the register after them; the first holds the first bytes.
+struct Lanes {
+    first: u64,
+    second: u64,
+    third: u64,
+    fourth: u64,
+}
+
+// X^256 is X^16+X^4+X^2 modulo the generator. Of a word 256 bits on: the part that stays in the word's own place,
+fn stays(v: u64) -> u64
+    ensures { λ r. ⌜ r ≡ staysOf v ⌝ }
+{
+    v >> 2 ^ v >> 4 ^ v >> 16
+}
+
+// and the part that passes into the place of the word before it.
+fn passes(v: u64) -> u64
+    ensures { λ r. ⌜ r ≡ passesOf v ⌝ }
+{
+    v << 62 ^ v << 60 ^ v << 48
+}
+
+// The lanes after the 32 bytes from i. What passes out of the first is 256 bits on once more, from the fourth.
+fn next_lanes(l: Lanes, s: &[u8], i: usize) -> Lanes
+    requires { ⌜ i + 32 ≤ length (now s) ⌝ }
+    ensures { λ r. ⌜ bytes generator16 (four (r .first) (r .second) (r .third) (r .fourth)) (drop (i + 32) (now (s .entry))) ≡ bytes generator16 (four (l .first) (l .second) (l .third) (l .fourth)) (drop i (now (s .entry))) ⌝ }
+{
+    let first = stays(l.first) ^ passes(l.second) ^ word(s, i);
+    let second = stays(l.second) ^ passes(l.third) ^ word(s, i + 8);
+    let third = stays(l.third) ^ passes(l.fourth) ^ word(s, i + 16);
+    let fourth = stays(l.fourth ^ passes(l.first)) ^ word(s, i + 24);
+    Lanes {
+        first,
+        second,
+        third,
+        fourth,
+    }
+}
+
+// The lanes as one word.
+fn one_word(l: Lanes) -> u64
+    ensures { λ r. ⌜ bits generator16 64 r 0 ≡ four (l .first) (l .second) (l .third) (l .fourth) ⌝ }
+{
+    let x = fold(l.first) ^ l.second;
+    let y = fold(x) ^ l.third;
+    fold(y) ^ l.fourth
+}
+
+// A word that stands for the register after the bytes before a place.
+struct Taken {
+    word: u64,
+    at: usize,
+}
+
+// The first bytes of s: 32 a turn while there are as many, or else eight.
+fn by_lanes(s: &[u8]) -> Taken
+    requires { ⌜ 8 ≤ length (now s) ⌝ }
+    ensures { λ r. ⌜ (r .at ≤ length (now (s .entry))) × (bytes generator16 (bits generator16 64 (r .word) 0) (drop (r .at) (now (s .entry))) ≡ bytes generator16 ones16 (now (s .entry))) ⌝ }
 {
     let n = s.len();
-    if n < 8 {
-        return inverted(tail(0xffff, s, 0));
-    }
     let first = word(s, 0) ^ 0xffff;
     if n < 32 {
-        return inverted(rest(first, s, 8));
+        return Taken { word: first, at: 8 };
     }
     let mut l = Lanes {
-        a: first,
-        b: word(s, 8),
-        d: word(s, 16),
-        e: word(s, 24),
+        first,
+        second: word(s, 8),
+        third: word(s, 16),
+        fourth: word(s, 24),
     };
     let mut i: usize = 32;
     while 32 <= n - i {
-        l = turn(l, s, i);
+        l = next_lanes(l, s, i);
         i += 32;
     }
-    inverted(rest(merged(l), s, i))
+    Taken {
+        word: one_word(l),
+        at: i,
+    }
+}
+
+// The register, inverted.
+fn inverted(state: u64) -> u16
+    requires { ⌜ state < 65536 ⌝ }
+    ensures { λ r. ⌜ r ≡ bitXor state ones16 ⌝ }
+{
+    state as u16 ^ 0xffff
+}
+
+// The CRC16 of the bytes of s (8.3.5.2).
+pub fn crc16(s: &[u8]) -> u16
+    ensures { λ r. ⌜ r ≡ crc16Of (now (s .entry)) ⌝ }
+{
+    if s.len() < 8 {
+        return inverted(by_bytes(0xffff, s, 0));
+    }
+    let taken = by_lanes(s);
+    inverted(by_words(taken.word, s, taken.at))
 }

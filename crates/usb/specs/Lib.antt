@@ -1,4 +1,6 @@
-pub mod Packet
-pub mod Vectors
 pub mod Pid
 pub mod Types
+pub mod Bits
+pub mod Packet
+pub mod Fields
+pub mod Laws

@@ -1,78 +1,83 @@
--- USB 2.0, 8.3.1, 8.4 and 8.3.5: which byte strings are packets.
+-- USB 2.0, 8.3 and 8.4, with the lengths of document 01: which byte strings are packets.
 -- Assumes nothing.
-use Prim.Native.Nat.{ℕ, _+_, _-_, _*_, _/_, _%_, _^_}
+use Prim.Native.Nat.{ℕ, _+_, _-_, _*_}
 use mathlib.Core.Bool.{Bool, true, false}
 use mathlib.Core.List.{List, [], _∷_}
 use lib.Dec.{eqb, leb}
 use lib.ListN.{length, getD, take, drop}
 use Rattle.crc.specs.Crc.{crc5Of, crc16Of}
+use Rattle.usb.specs.Bits.{number, after, field}
+use Rattle.usb.specs.Pid.{OUT, IN, SOF, SETUP, DATA0, DATA1, DATA2, MDATA, ACK, NAK, STALL, NYET, ERR, SPLIT, PING}
 use Rattle.usb.specs.declared.Checked.{Checked}
 use Rattle.usb.specs.declared.Checked.the-variants.{Valid, Malformed}
+
+abbrev pub pick : {A : Type 0} → Bool → A → A → A
+pick true a b = a
+pick false a b = b
 
 abbrev pub both : Bool → Bool → Bool
 both true b = b
 both false b = false
 
-abbrev pub pick : Bool → Bool → Bool → Bool
-pick true a b = a
-pick false a b = b
+-- whether x stands in a list
+abbrev pub among : List ℕ → ℕ → Bool
+among [] x = false
+among (y ∷ ys) x = pick (eqb x y) true (among ys x)
 
--- the formats of 8.4
-abbrev pub none : ℕ
-none = 0
+-- the formats of 8.4, by numbers of ours
+abbrev pub noFormat : ℕ
+noFormat = 0
 
-abbrev pub token : ℕ
-token = 1
+abbrev pub tokenFormat : ℕ
+tokenFormat = 1
 
-abbrev pub handshake : ℕ
-handshake = 2
+abbrev pub handshakeFormat : ℕ
+handshakeFormat = 2
 
-abbrev pub payload : ℕ
-payload = 3
+abbrev pub dataFormat : ℕ
+dataFormat = 3
 
-abbrev pub split : ℕ
-split = 4
+abbrev pub splitFormat : ℕ
+splitFormat = 4
 
--- table 8-1, by PID<3:0>
-abbrev pub formats : List ℕ
-formats =
-    none ∷ token ∷ handshake ∷ payload  -- reserved, OUT, ACK, DATA0
-    ∷ token ∷ token ∷ handshake ∷ payload  -- PING, SOF, NYET, DATA2
-    ∷ split ∷ token ∷ handshake ∷ payload  -- SPLIT, IN, NAK, DATA1
-    ∷ handshake ∷ token ∷ handshake ∷ payload  -- ERR, SETUP, STALL, MDATA
-    ∷ []
+-- table 8-1, with the formats of 8.4.1 and 8.4.3, 8.4.2, 8.4.4, 8.4.5; any other first byte is no PID
+unfoldable pub formatOf : ℕ → ℕ
+formatOf pid =
+    pick (among (OUT ∷ IN ∷ SOF ∷ SETUP ∷ PING ∷ []) pid) tokenFormat
+    (pick (among (SPLIT ∷ []) pid) splitFormat
+    (pick (among (DATA0 ∷ DATA1 ∷ DATA2 ∷ MDATA ∷ []) pid) dataFormat
+    (pick (among (ACK ∷ NAK ∷ STALL ∷ NYET ∷ ERR ∷ []) pid) handshakeFormat noFormat)))
 
--- a field of n bits and its CRC5, lowest bit first
-abbrev pub fieldOk : ℕ → ℕ → Bool
-fieldOk n x = eqb (crc5Of x n) (x / 2 ^ n)
-
--- 8.4.1, 8.4.3: 11 bits
+-- 8.4.1, 8.4.3: three bytes; 11 bits and their CRC5
 unfoldable pub tokenOk : List ℕ → Bool
-tokenOk p = both (eqb (length p) 3) (fieldOk 11 (getD p 1 0 + getD p 2 0 * 256))
+tokenOk p = both (eqb (length p) 3) (eqb (crc5Of (after 2 p) 11) (field 11 5 (after 2 p)))
 
--- 8.4.2: 19 bits
+-- 8.4.2: four bytes; 19 bits and their CRC5
 unfoldable pub splitOk : List ℕ → Bool
-splitOk p = both (eqb (length p) 4) (fieldOk 19 (getD p 1 0 + getD p 2 0 * 256 + getD p 3 0 * 65536))
+splitOk p = both (eqb (length p) 4) (eqb (crc5Of (after 3 p) 19) (field 19 5 (after 3 p)))
 
--- 8.4.4: at most 1024 bytes, and their CRC16, low byte first
-unfoldable pub payloadOk : List ℕ → Bool
-payloadOk p =
+-- a data packet's payload: from byte 1 up to two before the end
+abbrev pub payloadOf : List ℕ → List ℕ
+payloadOf p = take (length p - 3) (drop 1 p)
+
+-- 8.4.4: a payload of at most 1,024 bytes and its CRC16
+unfoldable pub dataOk : List ℕ → Bool
+dataOk p =
     both (leb 3 (length p))
     (both (leb (length p) 1027)
-    (eqb (crc16Of (take (length p - 3) (drop 1 p))) (getD p (length p - 2) 0 + getD p (length p - 1) 0 * 256)))
+    (eqb (crc16Of (payloadOf p)) (number (getD p (length p - 2) 0 ∷ getD p (length p - 1) 0 ∷ []))))
 
-unfoldable pub bodyOk : ℕ → List ℕ → Bool
-bodyOk k p =
-    pick (eqb k token) (tokenOk p)
-    (pick (eqb k payload) (payloadOk p) (pick (eqb k handshake) (eqb (length p) 1) (pick (eqb k split) (splitOk p) false)))
+-- 8.4.5: the PID alone
+unfoldable pub handshakeOk : List ℕ → Bool
+handshakeOk p = eqb (length p) 1
 
--- 8.3.1: the high half is the complement of the low half
-unfoldable pub packetOk : List ℕ → Bool
-packetOk p = both (eqb (getD p 0 0 / 16) (15 - getD p 0 0 % 16)) (bodyOk (getD formats (getD p 0 0 % 16) 0) p)
+unfoldable pub formatOk : ℕ → List ℕ → Bool
+formatOk format p =
+    pick (eqb format tokenFormat) (tokenOk p)
+    (pick (eqb format splitFormat) (splitOk p)
+    (pick (eqb format dataFormat) (dataOk p) (pick (eqb format handshakeFormat) (handshakeOk p) false)))
 
-abbrev pub pickChecked : Bool → Checked → Checked → Checked
-pickChecked true a b = a
-pickChecked false a b = b
-
+-- the PID byte of a valid packet; all else is Malformed
 unfoldable pub checkedOf : List ℕ → Checked
-checkedOf p = pickChecked (packetOk p) (Valid (getD p 0 0)) Malformed
+checkedOf [] = Malformed
+checkedOf (pid ∷ rest) = pick (formatOk (formatOf pid) (pid ∷ rest)) (Valid pid) Malformed

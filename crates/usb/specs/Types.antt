@@ -1,4 +1,5 @@
 -- USB 2.0, 8.4.2: the endpoint types and the two values of SC, as a SPLIT packet codes them.
+-- Assumes nothing.
 use Prim.Native.Nat.{ℕ}
 
 abbrev pub Control : ℕ

@@ -1,37 +1,57 @@
-// Which byte strings are USB packets.
+// Which byte strings are USB packets (USB 2.0, 8.3 and 8.4).
+pub mod fields;
 pub mod pid;
 pub mod types;
 
 ghost use mathlib.Core.Path.{_≡_};
-ghost use Prim.Native.Nat.{_+_, _*_, _<_};
-ghost use lib.ListN.{getD, length};
-ghost use Rattle.usb.specs.Packet.{formats, tokenOk, splitOk, payloadOk, bodyOk, checkedOf};
+ghost use Rattle.usb.specs.Packet.{formatOf, tokenOk, splitOk, dataOk, formatOk, checkedOf};
 
+// The PID byte of a packet, or that the bytes are none.
 pub enum Checked {
     Valid(u8),
     Malformed,
 }
 
-// Table 8-1, by the low half of the packet identifier: 1 token, 2 handshake, 3 data, 4 split.
-const FORMATS: [u8; 16] = [0, 1, 2, 3, 1, 1, 2, 3, 4, 1, 2, 3, 2, 1, 2, 3];
+// The formats of 8.4, by number.
+const NONE: u8 = 0;
 
-fn format(low: u8) -> u8
-    requires { ⌜ low < 16 ⌝ }
-    ensures { λ r. ⌜ r ≡ getD formats low 0 ⌝ }
+const TOKEN: u8 = 1;
+
+const HANDSHAKE: u8 = 2;
+
+const DATA: u8 = 3;
+
+const SPLIT: u8 = 4;
+
+// Table 8-1, by PID<3:0>.
+const FORMATS: [u8; 16] = [
+    NONE, // reserved
+    TOKEN, // OUT
+    HANDSHAKE, // ACK
+    DATA, // DATA0
+    TOKEN, // PING
+    TOKEN, // SOF
+    HANDSHAKE, // NYET
+    DATA, // DATA2
+    SPLIT, // SPLIT
+    TOKEN, // IN
+    HANDSHAKE, // NAK
+    DATA, // DATA1
+    HANDSHAKE, // ERR
+    TOKEN, // SETUP
+    HANDSHAKE, // STALL
+    DATA, // MDATA
+];
+
+// The format that a first byte announces. 8.3.1: its high nibble is the complement of the low one, which names the packet type.
+fn format(pid: u8) -> u8
+    ensures { λ r. ⌜ r ≡ formatOf pid ⌝ }
 {
+    let low = pid % 16;
+    if pid / 16 != 15 - low {
+        return NONE;
+    }
     FORMATS[low as usize]
-}
-
-fn pair(a: u8, b: u8) -> u32
-    ensures { λ r. ⌜ r ≡ a + b * 256 ⌝ }
-{
-    a as u32 + b as u32 * 256
-}
-
-fn triple(a: u8, b: u8, c: u8) -> u32
-    ensures { λ r. ⌜ r ≡ a + b * 256 + c * 65536 ⌝ }
-{
-    a as u32 + b as u32 * 256 + c as u32 * 65536
 }
 
 fn token_ok(p: &[u8]) -> bool
@@ -40,8 +60,8 @@ fn token_ok(p: &[u8]) -> bool
     if p.len() != 3 {
         return false;
     }
-    let x = pair(p[1], p[2]);
-    crc::crc5(x, 11) as u32 == x / 2048
+    let x = fields::two(p);
+    crc::crc5(x, 11) as u32 == x / 2048 % 32
 }
 
 fn split_ok(p: &[u8]) -> bool
@@ -50,43 +70,38 @@ fn split_ok(p: &[u8]) -> bool
     if p.len() != 4 {
         return false;
     }
-    let x = triple(p[1], p[2], p[3]);
-    crc::crc5(x, 19) as u32 == x / 524288
+    let x = fields::three(p);
+    crc::crc5(x, 19) as u32 == x / 524288 % 32
 }
 
-fn payload_ok(p: &[u8]) -> bool
-    ensures { λ r. ⌜ r ≡ payloadOk (now (p .entry)) ⌝ }
+fn data_ok(p: &[u8]) -> bool
+    ensures { λ r. ⌜ r ≡ dataOk (now (p .entry)) ⌝ }
 {
-    let n = p.len();
-    if n < 3 {
+    let len = p.len();
+    if len < 3 {
         return false;
     }
-    if 1027 < n {
+    if 1027 < len {
         return false;
     }
-    let end = n - 2;
-    let check = crc::crc16(&p[1..end]);
-    check as u32 == pair(p[end], p[n - 1])
+    let end = len - 2;
+    let crc = crc::crc16(&p[1..end]);
+    crc == fields::pair(p[end], p[len - 1])
 }
 
-fn body_ok(format: u8, p: &[u8]) -> bool
-    ensures { λ r. ⌜ r ≡ bodyOk format (now (p .entry)) ⌝ }
+fn format_ok(format: u8, p: &[u8]) -> bool
+    ensures { λ r. ⌜ r ≡ formatOk format (now (p .entry)) ⌝ }
 {
-    if format == 1 {
-        return token_ok(p);
+    match format {
+        TOKEN => token_ok(p),
+        SPLIT => split_ok(p),
+        DATA => data_ok(p),
+        HANDSHAKE => p.len() == 1,
+        _ => false,
     }
-    if format == 3 {
-        return payload_ok(p);
-    }
-    if format == 2 {
-        return p.len() == 1;
-    }
-    if format == 4 {
-        return split_ok(p);
-    }
-    false
 }
 
+// `validate_packet` of the Rust.
 pub fn check(packet: &[u8]) -> Checked
     ensures { λ r. ⌜ r ≡ checkedOf (now (packet .entry)) ⌝ }
 {
@@ -94,10 +109,7 @@ pub fn check(packet: &[u8]) -> Checked
         return Checked::Malformed;
     }
     let pid = packet[0];
-    if pid / 16 != 15 - pid % 16 {
-        return Checked::Malformed;
-    }
-    if body_ok(format(pid % 16), packet) {
+    if format_ok(format(pid), packet) {
         Checked::Valid(pid)
     } else {
         Checked::Malformed

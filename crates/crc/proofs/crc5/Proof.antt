@@ -5,13 +5,13 @@ use Prim.Native.Nat.{ℕ, _%_}
 use native.Mathlib.Omega.{arith}
 use borrow.Author.Needs.{needs}
 use lib.Bits.{bitXor, xor-lt}
-use Rattle.crc.specs.Crc.{step, bits, crc5Of}
+use Rattle.crc.specs.Crc.{generator5, ones5, step, bits, crc5Of}
 use Rattle.crc.proofs.Bits.{bits-more, bits-none}
 use Rattle.crc.proofs.crc5.Statement.{statement}
 use Rattle.crc.proofs.crc5.Tie as tie
 
 abbrev Inv-loop : tie.InvT-loop
-Inv-loop x n state₀ left₀ input₀ state left input = bits 20 left state input ≡ bits 20 n 31 x
+Inv-loop x n state₀ left₀ input₀ state left input = bits generator5 left state input ≡ bits generator5 n ones5 x
 
 abbrev μ-loop : tie.MeasureT-loop
 μ-loop x n state₀ left₀ input₀ state left input = left
@@ -33,11 +33,11 @@ loop-less c = search needs
 
 loop-again : tie.Need-loop-again Inv-loop μ-loop
 unfolding step
-loop-again c = sym (bits-more 20 _ _ _ (c .loop-test .taken)) ∙ c .before .loop .inv
+loop-again c = sym (bits-more generator5 _ _ _ (c .loop-test .taken)) ∙ c .before .loop .inv
 
 returns : tie.Need-returns Inv-loop μ-loop
 unfolding crc5Of
-returns c = ap (λ (s : ℕ). bitXor s 31) (bits-none 20 _ _ _ (c .loop-test .left) ∙ c .before .loop .inv)
+returns c = ap (λ (s : ℕ). bitXor s ones5) (bits-none generator5 _ _ _ (c .loop-test .left) ∙ c .before .loop .inv)
 
 pub crc5-spec : {M : Type 1} → statement M
 crc5-spec =

@@ -1,103 +1,81 @@
+-- `crc::word` meets its contract: each byte in front takes eight bits.
+-- Assumes nothing.
 use borrow.Author.Needs.{needs}
 use mathlib.Core.Path.{sym, ap, _∙_}
-use Rattle.crc.specs.Crc.{bits, bytes}
+use Rattle.crc.specs.Crc.{generator16, bits, bytes}
 use Rattle.crc.proofs.Bytes.{eight}
 use Rattle.crc.proofs.word.Statement.{statement}
 use Rattle.crc.proofs.word.Tie as tie
 
--- src/lib.rt:119:20
 add-join : tie.Need-add-join
 add-join c = search needs
 
--- src/lib.rt:119:18
 shared-slice-read-join : tie.Need-shared-slice-read-join
 shared-slice-read-join c = search needs
 
--- src/lib.rt:119:35
 add-join-2 : tie.Need-add-join-2
 add-join-2 c = search needs
 
--- src/lib.rt:119:33
 shared-slice-read-join-2 : tie.Need-shared-slice-read-join-2
 shared-slice-read-join-2 c = search needs
 
--- src/lib.rt:119:28
 join-requires : tie.Need-join-requires
 join-requires c κs = search needs
 
--- src/lib.rt:119:9
 join-requires-2 : tie.Need-join-requires-2
 join-requires-2 c κs = search needs
 
--- src/lib.rt:120:20
 add-join-3 : tie.Need-add-join-3
 add-join-3 c = search needs
 
--- src/lib.rt:120:18
 shared-slice-read-join-3 : tie.Need-shared-slice-read-join-3
 shared-slice-read-join-3 c = search needs
 
--- src/lib.rt:120:35
 add-join-4 : tie.Need-add-join-4
 add-join-4 c = search needs
 
--- src/lib.rt:120:33
 shared-slice-read-join-4 : tie.Need-shared-slice-read-join-4
 shared-slice-read-join-4 c = search needs
 
--- src/lib.rt:120:28
 join-requires-3 : tie.Need-join-requires-3
 join-requires-3 c κs = search needs
 
--- src/lib.rt:120:9
 join-requires-4 : tie.Need-join-requires-4
 join-requires-4 c κs = search needs
 
--- src/lib.rt:121:20
 add-join-5 : tie.Need-add-join-5
 add-join-5 c = search needs
 
--- src/lib.rt:121:18
 shared-slice-read-join-5 : tie.Need-shared-slice-read-join-5
 shared-slice-read-join-5 c = search needs
 
--- src/lib.rt:121:35
 add-join-6 : tie.Need-add-join-6
 add-join-6 c = search needs
 
--- src/lib.rt:121:33
 shared-slice-read-join-6 : tie.Need-shared-slice-read-join-6
 shared-slice-read-join-6 c = search needs
 
--- src/lib.rt:121:28
 join-requires-5 : tie.Need-join-requires-5
 join-requires-5 c κs = search needs
 
--- src/lib.rt:121:9
 join-requires-6 : tie.Need-join-requires-6
 join-requires-6 c κs = search needs
 
--- src/lib.rt:122:10
 shared-slice-read-join-7 : tie.Need-shared-slice-read-join-7
 shared-slice-read-join-7 c = search needs
 
--- src/lib.rt:122:23
 add-join-7 : tie.Need-add-join-7
 add-join-7 c = search needs
 
--- src/lib.rt:122:21
 shared-slice-read-join-8 : tie.Need-shared-slice-read-join-8
 shared-slice-read-join-8 c = search needs
 
--- src/lib.rt:122:16
 join-requires-7 : tie.Need-join-requires-7
 join-requires-7 c κs = search needs
 
--- src/lib.rt:122:5
 join-requires-8 : tie.Need-join-requires-8
 join-requires-8 c κs = search needs
 
--- src/lib.rt:115:1
 returns : tie.Need-returns
 unfolding bits bytes
 returns c = λ q.
@@ -109,7 +87,7 @@ returns c = λ q.
     ∙ c .before .before .before .before .before .before .before .before .before .join3 .ensures .1 16 _
     ∙ c .before .before .before .before .before .before .before .before .before .before .before .before .join2 .ensures .1 8 _
     ∙ c .before .before .before .before .before .before .before .before .before .before .before .before .before .join .ensures .1 0 _
-    ∙ ap (bytes 0xA001 q) (sym (eight _ _ (c .before .before .before .before .before .before .before .before .before .before .before .before .before .before .before .before .before .pre)))
+    ∙ ap (bytes generator16 q) (sym (eight _ _ (c .before .before .before .before .before .before .before .before .before .before .before .before .before .before .before .before .before .pre)))
 
 pub word-spec : {M : Type 1} → statement M
 word-spec =
