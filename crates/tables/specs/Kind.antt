@@ -1,0 +1,14 @@
+-- The kinds of endpoint beyond the four types of USB 2.0: numbers of ours (01, Details and tables).
+use Prim.Native.Nat.{ℕ}
+
+abbrev pub Unknown : ℕ
+Unknown = 4
+
+abbrev pub Framing : ℕ
+Framing = 5
+
+abbrev pub Invalid : ℕ
+Invalid = 6
+
+abbrev pub Event : ℕ
+Event = 7

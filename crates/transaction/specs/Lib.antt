@@ -1,0 +1,5 @@
+pub mod Table
+pub mod Simple
+pub mod Split
+pub mod Status
+pub mod Payload

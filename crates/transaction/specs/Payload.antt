@@ -1,0 +1,40 @@
+-- Document 000, start_pid and extract_payload: the token of a transaction, and what a data packet brings to it.
+use mathlib.Core.Bool.{Bool, true, false, _&&_}
+use Prim.Native.Nat.{ℕ, _-_}
+use lib.Dec.{eqb}
+use Rattle.usb.specs.Pid.{SETUP, DATA0, DATA1}
+use Rattle.usb.specs.Types.{Control, Start}
+use Rattle.transaction.specs.declared.Style.{Style}
+use Rattle.transaction.specs.declared.Style.the-variants.{Nothing, Simple, Split, Token}
+use Rattle.transaction.specs.declared.Transaction.{Transaction}
+use Rattle.transaction.specs.Table.{pick, only, _or_}
+
+-- the PID of the token; 0 where there is none, which the Rust refuses
+abbrev pub startPid : Style → ℕ
+startPid Nothing = 0
+startPid (Simple pid) = pid
+startPid (Split sc kind) = 0
+startPid (Token sc kind pid) = pid
+
+abbrev pub splitSetup : ℕ → ℕ → ℕ → Bool
+splitSetup sc kind pid = eqb sc Start && (eqb kind Control && eqb pid SETUP)
+
+-- a DATA0 brings setup bytes after a plain SETUP, and after one in a control start split
+abbrev pub takesSetup : Style → Bool
+takesSetup Nothing = false
+takesSetup (Simple first) = eqb first SETUP
+takesSetup (Split sc kind) = false
+takesSetup (Token sc kind pid) = splitSetup sc kind pid
+
+abbrev pub withSetup : Transaction → ℕ → Transaction
+withSetup t s = record { style = t .style; id = t .id; last = t .last; endpoint = t .endpoint; kind = t .kind; linked = t .linked; link = t .link; ready = true; setup = s; filled = t .filled; payload = t .payload }
+
+abbrev pub withPayload : Transaction → ℕ → Transaction
+withPayload t n = record { style = t .style; id = t .id; last = t .last; endpoint = t .endpoint; kind = t .kind; linked = t .linked; link = t .link; ready = t .ready; setup = t .setup; filled = true; payload = n }
+
+-- a payload is the part from byte 1 up to two before the end (01, Packets; USB 2.0, 8.4.4)
+unfoldable pub extractPayload : Transaction → ℕ → ℕ → ℕ → Transaction
+extractPayload t pid len setup =
+    pick (eqb pid DATA0 && takesSetup (t .style))
+    (withSetup t setup)
+    (pick ((DATA0 or only DATA1) pid) (withPayload t (len - 3)) t)

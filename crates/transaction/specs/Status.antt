@@ -1,0 +1,33 @@
+-- Document 000, transaction_status: what a packet is to a transaction.
+use mathlib.Core.List.{List}
+use Prim.Native.Nat.{ℕ}
+use lib.ListN.{length}
+use Rattle.usb.specs.Pid.{MALFORMED}
+use Rattle.usb.specs.Packet.{checkedOf}
+use Rattle.usb.specs.declared.Checked.{Checked}
+use Rattle.usb.specs.declared.Checked.the-variants.{Valid, Malformed}
+use Rattle.transaction.specs.declared.Status.{Status}
+use Rattle.transaction.specs.declared.Status.the-variants.{Invalid}
+use Rattle.transaction.specs.declared.Style.{Style}
+use Rattle.transaction.specs.declared.Style.the-variants.{Nothing, Simple, Split, Token}
+use Rattle.transaction.specs.declared.Transaction.{Transaction}
+use Rattle.transaction.specs.declared.Judged.{Judged}
+use Rattle.transaction.specs.Simple.{startStatus, simpleStatus}
+use Rattle.transaction.specs.Split.{splitStatus}
+
+abbrev pub statusOf : Style → Transaction → ℕ → ℕ → Status
+statusOf Nothing t next len = startStatus next
+statusOf (Simple first) t next len = simpleStatus first (t .last) next (t .kind) len
+statusOf (Split sc kind) t next len = splitStatus kind sc (t .last) next len
+statusOf (Token sc kind pid) t next len = splitStatus kind sc (t .last) next len
+
+abbrev pub judged : ℕ → Status → Judged
+judged p s = record { pid = p; status = s }
+
+-- a malformed packet is Invalid whatever the transaction is
+abbrev pub judgedOf : Transaction → Checked → ℕ → Judged
+judgedOf t Malformed len = judged MALFORMED Invalid
+judgedOf t (Valid next) len = judged next (statusOf (t .style) t next len)
+
+unfoldable pub transactionStatus : Transaction → List ℕ → Judged
+transactionStatus t packet = judgedOf t (checkedOf packet) (length packet)

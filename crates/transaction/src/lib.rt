@@ -1,0 +1,89 @@
+// Transactions: whether the next packet begins, continues or ends one (document 000, transaction_status).
+pub mod payload;
+pub mod simple;
+pub mod split;
+
+use usb::Checked;
+use usb::pid::MALFORMED;
+ghost use mathlib.Core.Path.{_≡_};
+ghost use Rattle.transaction.specs.Status.{statusOf, transactionStatus};
+
+// TransactionStatus of the Rust.
+pub enum Status {
+    New,
+    Continue,
+    Retry,
+    Done,
+    Fail,
+    Ambiguous,
+    Invalid,
+}
+
+// TransactionStyle of the Rust, with its None for "no transaction".
+pub enum Style {
+    Nothing,
+    // The PID of the first packet.
+    Simple(u8),
+    // SC and the type; the token has not come.
+    Split(u8, u8),
+    // SC, the type and the token's PID.
+    Token(u8, u8, u8),
+}
+
+// TransactionState of the Rust.
+pub struct Transaction {
+    // style.
+    pub style: Style,
+    // id: the transaction row.
+    pub id: u64,
+    // last: the PID of the last packet.
+    pub last: u8,
+    // endpoint_id; where there is none 0, the event endpoint, on which no transaction is.
+    pub endpoint: usize,
+    // endpoint_type, as it was known when the transaction began; 4 where it was not.
+    pub kind: u8,
+    // ep_transaction_id: link, where linked.
+    pub linked: bool,
+    pub link: u64,
+    // setup: the 8 setup bytes, first byte lowest, where ready.
+    pub ready: bool,
+    pub setup: u64,
+    // payload: its length, where filled.
+    pub filled: bool,
+    pub payload: u64,
+}
+
+// The PID of a packet, and what the packet is to the transaction.
+pub struct Judged {
+    pub pid: u8,
+    pub status: Status,
+}
+
+// The status of a valid packet with the PID next and of len bytes.
+fn status_of(t: Transaction, next: u8, len: usize) -> Status
+    ensures { λ r. ⌜ r ≡ statusOf (t .style) t next len ⌝ }
+{
+    let style = t.style;
+    let last = t.last;
+    match style {
+        Style::Nothing => simple::start_status(next),
+        Style::Simple(first) => simple::simple_status(first, last, next, t.kind, len),
+        Style::Split(sc, kind) => split::split_status(kind, sc, last, next, len),
+        Style::Token(sc, kind, _) => split::split_status(kind, sc, last, next, len),
+    }
+}
+
+// The status of the next packet.
+pub fn transaction_status(t: Transaction, packet: &[u8]) -> Judged
+    ensures { λ r. ⌜ r ≡ transactionStatus t (now (packet .entry)) ⌝ }
+{
+    let checked = usb::check(packet);
+    let Checked::Valid(next) = checked else {
+        return Judged {
+            pid: MALFORMED,
+            status: Status::Invalid,
+        };
+    };
+    let status = status_of(t, next, packet.len());
+    Judged { pid: next, status }
+}
