@@ -1,4 +1,4 @@
--- The kinds of endpoint beyond the four types of USB 2.0: numbers of ours (01, Details and tables).
+-- The kinds of endpoint beyond the four types of USB 2.0 (usb, Types): the type that is not known, and the special three.
 use Prim.Native.Nat.{ℕ}
 
 abbrev pub Unknown : ℕ

@@ -1,1 +1,14 @@
 pub mod Kind
+pub mod Word
+pub mod Table
+pub mod Each
+pub mod Phases
+pub mod States
+pub mod Details
+pub mod Search
+pub mod TableLaws
+pub mod EachLaws
+pub mod PhasesLaws
+pub mod StatesLaws
+pub mod DetailsLaws
+pub mod SearchLaws

@@ -1,5 +1,11 @@
 // Devices and endpoints: what is known of each, where it stands, and how it is found.
+pub mod details;
+pub mod entry;
+pub mod find;
 pub mod kind;
+pub mod phases;
+pub mod states;
+pub mod word;
 
 // What is known of an endpoint: its type, and the largest payload it sends (0 where it is not known).
 pub struct Detail {
@@ -53,4 +59,10 @@ pub struct Endpoint {
     pub waits: bool,
     pub waiting: u64,
     pub waiter: u64,
+}
+
+// Where a search ended: at a row, or after the last.
+pub enum Found {
+    At(usize),
+    Nothing,
 }

@@ -1,0 +1,59 @@
+// The two searches: the first endpoint row of a device and an address, the last device row of an address.
+use crate::Device;
+use crate::Found;
+use crate::word;
+ghost use mathlib.Core.Path.{_≡_};
+ghost use mathlib.Core.Bool.{_&&_};
+ghost use Prim.Native.Nat.{_%_, _≤_};
+ghost use lib.Dec.{eqb};
+ghost use Rattle.tables.specs.Search.{foundEndpoint, foundDevice};
+
+fn is_endpoint(owner: u64, place: u64, device: u64, address: u8) -> bool
+    ensures { λ r. ⌜ r ≡ (eqb owner device && eqb (place % 256) address) ⌝ }
+{
+    if owner != device {
+        return false;
+    }
+    place % 256 == address as u64
+}
+
+// From row 0 on: no token has a number above 15, so none finds a special endpoint (rows 0 to 2, numbers 0x10 to 0x12).
+pub fn find_endpoint(table: &[u64; 2176], n: usize, device: u64, address: u8) -> Found
+    requires { ⌜ n ≤ 128 ⌝ }
+    ensures { λ r. ⌜ r ≡ foundEndpoint (now (table .entry)) n device address ⌝ }
+{
+    let mut i: usize = 0;
+    loop {
+        if n <= i {
+            break Found::Nothing;
+        }
+        let at = i * word::WIDTH;
+        if is_endpoint(
+            table[at + word::DEVICE],
+            table[at + word::ADDRESS],
+            device,
+            address,
+        ) {
+            break Found::At(i);
+        }
+        i += 1;
+    }
+}
+
+// From the last device back, since the last one stands for its address.
+pub fn find_device(devices: [Device; 64], n: usize, address: u8) -> Found
+    requires { ⌜ n ≤ 64 ⌝ }
+    ensures { λ r. ⌜ r ≡ foundDevice devices n address ⌝ }
+{
+    let mut i = n;
+    loop {
+        if i == 0 {
+            break Found::Nothing;
+        }
+        i -= 1;
+        let device = devices[i];
+        if device.address == address {
+            break Found::At(i);
+        }
+    }
+}
