@@ -1,2 +1,9 @@
+pub mod Facts
+pub mod Loops
+pub mod Keeps
+pub mod Moves
+pub mod Demand
+pub mod Links
+pub mod Linked
 pub mod Runs
 pub mod Oracle

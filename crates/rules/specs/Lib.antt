@@ -1,8 +1,10 @@
 pub mod Rows
 pub mod World
-pub mod Groups
 pub mod Endpoints
+pub mod Groups
 pub mod Transactions
 pub mod Events
 pub mod Decoder
+pub mod Marks
 pub mod Demand
+pub mod Linked
