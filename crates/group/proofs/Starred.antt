@@ -18,11 +18,41 @@ use Rattle.group.specs.Data.{otherGroup, repeatGroup}
 
 -- a bulk or isochronous endpoint with an active group of INs that went well
 abbrev pub going : Endpoint
-going = record { device = 0; address = 129; phase = Active; state = 2; transactions = 1; groups = 1; total = 64; first = IN; done = true; last = IN; success = true; ready = false; setup = 0; payload = 0; waits = false; waiting = 0; waiter = 0 }
+going = record {
+  device = 0;
+  address = 129;
+  phase = Active;
+  state = 2;
+  transactions = 1;
+  groups = 1;
+  total = 64;
+  first = IN;
+  done = true;
+  last = IN;
+  success = true;
+  ready = false;
+  setup = 0;
+  payload = 0;
+  waits = false;
+  waiting = 0;
+  waiter = 0;
+}
 
 -- an IN whose data packet had len bytes
 abbrev pub read : ℕ → Transaction
-read len = record { style = Simple IN; id = 1; last = 0xD2; endpoint = 3; kind = Bulk; linked = true; link = 1; ready = false; setup = 0; filled = true; payload = len }
+read len = record {
+  style = Simple IN;
+  id = 1;
+  last = 0xD2;
+  endpoint = 3;
+  kind = Bulk;
+  linked = true;
+  link = 1;
+  ready = false;
+  setup = 0;
+  filled = true;
+  payload = len;
+}
 
 abbrev pub detail : ℕ → ℕ → Detail
 detail type size = record { kind = type; max = size }

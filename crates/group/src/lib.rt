@@ -1,8 +1,8 @@
 // What the end of a transaction means for the groups of its endpoint (document 000, group_status).
-pub mod control;
-pub mod data;
-pub mod setup;
-pub mod step;
+mod control;
+mod data;
+mod setup;
+mod step;
 
 use crate::step::Step;
 use tables::Detail;
@@ -39,7 +39,7 @@ pub enum Effect {
 pub struct Grouped {
     pub status: GroupStatus,
     pub effect: Effect,
-    // The endpoint after it; pending, counted and grouped it is by the caller.
+    // The endpoint after it; the effect and the status are for the caller to act on.
     pub endpoint: Endpoint,
 }
 

@@ -13,7 +13,19 @@ use Rattle.transaction.specs.Status.{statusOf}
 
 -- a plain transaction of one token
 abbrev pub begun : ℕ → ℕ → Transaction
-begun token type = record { style = Simple token; id = 0; last = token; endpoint = 3; kind = type; linked = false; link = 0; ready = false; setup = 0; filled = false; payload = 0 }
+begun token type = record {
+  style = Simple token;
+  id = 0;
+  last = token;
+  endpoint = 3;
+  kind = type;
+  linked = false;
+  link = 0;
+  ready = false;
+  setup = 0;
+  filled = false;
+  payload = 0;
+}
 
 pub record Case : Type 0 where
   pub token : ℕ

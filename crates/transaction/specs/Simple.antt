@@ -1,4 +1,5 @@
--- Document 000, transaction_status: the rows where there is no transaction, or a plain one, in the Rust's order.
+-- Document 000, transaction_status: the rows where there is no transaction, or a plain one, in the Rust's order. As there, those for
+-- MALFORMED are never reached: such a packet is Invalid before any row is looked at.
 use mathlib.Core.List.{List, [], _∷_}
 use Prim.Native.Nat.{ℕ}
 use lib.Dec.{eqb}
