@@ -9,7 +9,7 @@ use lib.ListN.{length, length-append}
 use Rattle.transaction.specs.Table.{pick}
 use Rattle.tables.specs.declared.Phase.{Phase}
 use Rattle.tables.specs.declared.Phase.the-variants.{None}
-use Rattle.rules.specs.Rows.{Row, BytesRow, DeviceRow, EndpointRow, PacketRow, EventRow, TransactionRow, GroupRow, StateRow, StateBytes, ItemRow, T, G, D, E, RequestRow, Over, logOf, wordsOf, log}
+use Rattle.rules.specs.Rows.{Row, BytesRow, DeviceRow, EndpointRow, PacketRow, EventRow, TransactionRow, GroupRow, StateRow, StateBytes, ItemRow, T, G, D, E, RequestRow, Over, written, log}
 use Rattle.rules.specs.World.{World, phase, withJournal}
 use Rattle.rules.specs.Marks.{Mark, other, started, ended, closed, mark, marks, starts, endings, closings}
 use Rattle.rules.specs.Demand.{Reach, upTo, linksOf, Demand3, OnMarks, OnLinks, Quiet}
@@ -20,7 +20,7 @@ use Rattle.rules.proofs.Demand.{Sound, always, demand3}
 
 -- a row's words in the link log
 abbrev words : Row → List ℕ
-words r = pick (eqb (logOf r) 10) (wordsOf r) []
+words r = pick (eqb (written r .0) 10) (written r .1) []
 
 module _ (k e : ℕ) where
   abbrev linked : List ℕ → List ℕ

@@ -32,7 +32,7 @@ use Rattle.group.specs.declared.Grouped.{Grouped}
 use Rattle.group.proofs.Laws.{group-keeps}
 use Rattle.rules.specs.Rows.{Row, D, EventRow}
 use Rattle.rules.specs.World.{World, eventEp, phase, push, change, withSlot, withTransaction, withEventState, withKeepalive, withId, withPid, withPending, withTotal, newTransaction}
-use Rattle.rules.specs.Endpoints.{addDevice, deviceFor, pushEndpoint, addEndpointOn, addressFor, endpointOn, found, packetEndpointAt, packetEndpoint, numberAt, endpointOf, detailOf, setEndpointType, setDetailOn}
+use Rattle.rules.specs.Endpoints.{addDevice, deviceFor, pushEndpoint, addEndpointOn, addressFor, endpointLookup, found, packetEndpointAt, packetEndpoint, numberAt, endpointOf, detailOf, setEndpointType, setDetailOn}
 use Rattle.rules.specs.Groups.{addItem, addGroupEntry, pushGroup, link, linkOnce, groupStep, effectStep, grouped, becomes, groupUpdate, groupEarlyAppend, undecided, groupEarlyStart}
 use Rattle.rules.specs.Transactions.{transactionEndAt, transactionEnd, appendToken, transactionAppend, pushTransaction, begin, typeOf, beginOn, beginSplit, beginPlain, transactionStart, resumeAt, stateAt, completes, extracted, updateAt, updateFrom, isDropped, transactionUpdate}
 use Rattle.rules.specs.Events.{eventAddSubgroup, eventLink, eventSubgroupStart, eventAddGroup, Act, nothing, single, group, subgroup, keepalive, Turn, turnOf, eventAct, eventUpdate}
@@ -56,7 +56,7 @@ and-right : (p q : Bool) → (p && q) ≡ true → q ≡ true
 and-right true q h = h
 and-right false q h = let z : false ≡ true = h in cc
 
-on-spot : (f : Found) (a : ℕ) (w : World) → w .endpoints 0 .address ≡ 16 → ¬ (a ≡ 16) → Spot (endpointOn f a w) (w .count)
+on-spot : (f : Found) (a : ℕ) (w : World) → w .endpoints 0 .address ≡ 16 → ¬ (a ≡ 16) → Spot (endpointLookup f a w) (w .count)
 on-spot Nothing a w s d = tt
 on-spot (At i) a w s d = by (firstFrom test 0 (w .count)) (first-is test (w .count) 0)
   where
@@ -82,7 +82,7 @@ not-16 false n h z = omega arith
 found-spot : (pid : ℕ) (p : List ℕ) (w : World) → 3 ≤ w .count → w .endpoints 0 .address ≡ 16 → Spot (found pid p w) (w .count)
 found-spot pid p w t s = by (eqb pid SOF) ((SETUP or IN or OUT or only PING) pid)
   where
-    by : (a b : Bool) → Spot (pick a (At 2) (pick b (endpointOn (deviceFor (tokenOf p .address) w) (addressFor pid (tokenOf p .number)) w) (At 1))) (w .count)
+    by : (a b : Bool) → Spot (pick a (At 2) (pick b (endpointLookup (deviceFor (tokenOf p .address) w) (addressFor pid (tokenOf p .number)) w) (At 1))) (w .count)
     by true b = (omega arith, λ z. omega arith)
     by false true = on-spot (deviceFor (tokenOf p .address) w) (addressFor pid (tokenOf p .number)) w s (not-16 (eqb pid IN && not (eqb (tokenOf p .number) 0)) (tokenOf p .number) (small p))
     by false false = (omega arith, λ z. omega arith)

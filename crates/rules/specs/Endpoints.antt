@@ -50,16 +50,16 @@ abbrev pub addressFor : ℕ → ℕ → ℕ
 addressFor pid number = pick (eqb pid IN && not (eqb number 0)) (number + 128) number
 
 -- fn endpoint_lookup of capture.rs
-abbrev pub endpointOn : Found → ℕ → World → Found
-endpointOn (At d) address w = firstFrom (λ i. eqb (w .endpoints i .device) d && eqb (w .endpoints i .address) address) 0 (w .count)
-endpointOn Nothing address w = Nothing
+abbrev pub endpointLookup : Found → ℕ → World → Found
+endpointLookup (At d) address w = firstFrom (λ i. eqb (w .endpoints i .device) d && eqb (w .endpoints i .address) address) 0 (w .count)
+endpointLookup Nothing address w = Nothing
 
 -- fn packet_endpoint of capture.rs: SOF goes to framing, a token to its address and number, any other packet to invalid
 abbrev pub found : ℕ → List ℕ → World → Found
 found pid packet w =
     pick (eqb pid SOF) (At framingEp)
     (pick ((SETUP or IN or OUT or only PING) pid)
-    (endpointOn (deviceFor (tokenOf packet .address) w) (addressFor pid (tokenOf packet .number)) w)
+    (endpointLookup (deviceFor (tokenOf packet .address) w) (addressFor pid (tokenOf packet .number)) w)
     (At invalidEp))
 
 abbrev pub packetEndpointAt : Found → ℕ → List ℕ → World → World

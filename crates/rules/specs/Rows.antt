@@ -34,44 +34,26 @@ pub data Row : Type 0 where
 -- ---- the logs, by number: 0 packet bytes, 1 devices, 2 endpoints, 3 packets, 4 events, 5 transactions, 6 groups, 7 state bytes, 8 states,
 -- 9 items, 10 links, 11 requests; 12 is none
 
-abbrev pub logOf : Row → ℕ
-logOf (BytesRow bs) = 0
-logOf (DeviceRow a) = 1
-logOf (EndpointRow d n r) = 2
-logOf (PacketRow s t) = 3
-logOf (EventRow p c) = 4
-logOf (TransactionRow p) = 5
-logOf (GroupRow x g s) = 6
-logOf (StateRow s) = 8
-logOf (StateBytes ss) = 7
-logOf (ItemRow g) = 9
-logOf (T x t) = 10
-logOf (G x t) = 10
-logOf (D x t n) = 10
-logOf (E x i) = 10
-logOf (RequestRow x s n) = 11
-logOf (Over x k) = 12
-
--- the words of a row in its log; a link row has its kind first (T 0, G 1, D 2, E 3) and four words
-abbrev pub wordsOf : Row → List ℕ
-wordsOf (BytesRow bs) = bs
-wordsOf (DeviceRow a) = a ∷ []
-wordsOf (EndpointRow d n r) = d ∷ n ∷ r ∷ []
-wordsOf (PacketRow s t) = s ∷ t ∷ []
-wordsOf (EventRow p c) = p ∷ c ∷ []
-wordsOf (TransactionRow p) = p ∷ []
-wordsOf (GroupRow x g s) = x ∷ g ∷ one s ∷ []
-wordsOf (StateRow s) = s ∷ []
-wordsOf (StateBytes ss) = ss
-wordsOf (ItemRow g) = g ∷ []
-wordsOf (T x t) = 0 ∷ x ∷ t ∷ 0 ∷ []
-wordsOf (G x t) = 1 ∷ x ∷ t ∷ 0 ∷ []
-wordsOf (D x t n) = 2 ∷ x ∷ t ∷ n ∷ []
-wordsOf (E x i) = 3 ∷ x ∷ i ∷ 0 ∷ []
-wordsOf (RequestRow x s n) = x ∷ s ∷ n ∷ []
-wordsOf (Over x k) = []
+-- a row's log, and its words there; a link row has four, the first its kind: T 0, G 1, D 2, E 3
+abbrev pub written : Row → ℕ × List ℕ
+written (BytesRow bs) = (0, bs)
+written (DeviceRow a) = (1, a ∷ [])
+written (EndpointRow d n r) = (2, d ∷ n ∷ r ∷ [])
+written (PacketRow s t) = (3, s ∷ t ∷ [])
+written (EventRow p c) = (4, p ∷ c ∷ [])
+written (TransactionRow p) = (5, p ∷ [])
+written (GroupRow x g s) = (6, x ∷ g ∷ one s ∷ [])
+written (StateRow s) = (8, s ∷ [])
+written (StateBytes ss) = (7, ss)
+written (ItemRow g) = (9, g ∷ [])
+written (T x t) = (10, 0 ∷ x ∷ t ∷ 0 ∷ [])
+written (G x t) = (10, 1 ∷ x ∷ t ∷ 0 ∷ [])
+written (D x t n) = (10, 2 ∷ x ∷ t ∷ n ∷ [])
+written (E x i) = (10, 3 ∷ x ∷ i ∷ 0 ∷ [])
+written (RequestRow x s n) = (11, x ∷ s ∷ n ∷ [])
+written (Over x k) = (12, [])
 
 -- a log's words, the oldest first
 abbrev pub log : ℕ → List Row → List ℕ
 log k [] = []
-log k (r ∷ js) = log k js ++ pick (eqb (logOf r) k) (wordsOf r) []
+log k (r ∷ js) = log k js ++ pick (eqb (written r .0) k) (written r .1) []
