@@ -1,16 +1,19 @@
 -- A turn of each loop over the endpoints: what the definition by recursion says of endpoint i and of those after it.
-use Prim.Native.Nat.{ℕ, suc, _+_, _*_, _-_, _<_}
+use Prim.Native.Nat.{ℕ, suc, _+_, _*_, _-_, _<_, _≤_}
 use native.Mathlib.Omega.{arith}
 use native.Mathlib.Numerals.{add-one}
-use mathlib.Core.Path.{_≡_}
+use mathlib.Core.Path.{_≡_, ap, _∙_}
 use mathlib.Core.Bool.{Bool, true, false}
 use mathlib.Core.List.{List, [], _∷_}
 use borrow.Author.Tests.{eq-eqb, ne-eqb}
-use lib.ListN.{set}
-use lib.Seq.{sets}
+use lib.Dec.{eqb}
+use lib.ListN.{length, set}
+use lib.Seq.{sets, getD-set-same}
 use Rattle.tables.specs.Each.{each}
 use Rattle.tables.specs.Phases.{count, closed, closing}
-use Rattle.tables.specs.States.{stateBytes}
+use Rattle.tables.specs.EachLaws.{each-else}
+use Rattle.tables.specs.States.{stateBytes, stateWord}
+use Rattle.tables.specs.StatesLaws.{state-byte}
 use Rattle.tables.specs.Table.{wordAt, byteOf}
 use Rattle.tables.specs.Word as word
 
@@ -35,10 +38,30 @@ module _ (t : List ℕ) (n i : ℕ) (h : i < n) where
   pub closing-miss : (item : ℕ) → (wordAt t i word.phase ≡ word.Ended → ⊥) → closing t item i (n - i) ≡ closing t item (i + 1) (n - (i + 1))
   closing-miss item w = rw (left n i h, ne-eqb _ _ w, add-one)
 
-  pub states-next : stateBytes t i (n - i) ≡ byteOf (wordAt t i word.state) ∷ stateBytes t (i + 1) (n - (i + 1))
-  states-next = rw (left n i h, add-one)
-
 -- a row of four, and the rest behind it
 pub row-next : (l l′ rest : List ℕ) (row a b c d : ℕ) → l′ ≡ sets l (row * 4) (a ∷ b ∷ c ∷ d ∷ [])
     → sets l (row * 4) (a ∷ b ∷ c ∷ d ∷ rest) ≡ sets l′ ((row + 1) * 4) rest
 row-next l l′ rest row a b c d p = let e : (row + 1) * 4 ≡ suc (suc (suc (suc (row * 4)))) = omega arith in rw (p, e)
+
+-- the bytes of a state row, from endpoint i on, where the states from i on are still to be made anew
+abbrev pub rowFrom : ℕ → Bool → List ℕ → ℕ → ℕ → List ℕ
+rowFrom endpoint start t i n = stateBytes (each word.state (stateWord endpoint start) t i n) i n
+
+pub row-turn : (t : List ℕ) (n i endpoint : ℕ) (start : Bool) (r : ℕ) → i < n → n ≤ 128 → length t ≡ 2176 → r ≡ stateWord endpoint start i (wordAt t i word.state)
+    → rowFrom endpoint start t i (n - i) ≡ r ∷ rowFrom endpoint start (set t (i * word.width + word.state) r) (i + 1) (n - (i + 1))
+row-turn t n i endpoint start r h g l e =
+    rw (left n i h, e, add-one) (ap (λ (x : ℕ). x ∷ stateBytes later (suc i) (n - suc i)) (ap byteOf same ∙ state-byte (eqb i endpoint) (eqb endpoint 0) start (byteOf (wordAt t i word.state))))
+  where
+    f : ℕ → ℕ → ℕ
+    f = stateWord endpoint start
+
+    stored : List ℕ
+    stored = set t (i * word.width + word.state) (f i (wordAt t i word.state))
+
+    later : List ℕ
+    later = each word.state f stored (suc i) (n - suc i)
+
+    same : wordAt later i word.state ≡ f i (wordAt t i word.state)
+    same =
+        each-else word.state f (n - suc i) stored (suc i) (i * word.width + word.state) (λ j u v w. omega arith)
+        ∙ getD-set-same t (i * word.width + word.state) (f i (wordAt t i word.state)) 0 (omega arith)

@@ -14,7 +14,7 @@ use Rattle.usb.specs.Types.{Control}
 abbrev pub bare : ℕ → Detail
 bare k = record { kind = k; max = 0 }
 
--- USB 2.0, 9.6.6, bEndpointAddress: the number, and 128 more where the direction is In
+-- USB 2.0, 9.6.6, bEndpointAddress, and EndpointAddr of usb.rs: the number, and 128 more where the direction is In
 abbrev pub numberOf : ℕ → ℕ
 numberOf address = address % 128
 
@@ -30,7 +30,7 @@ stored d i = getD (d .details) i (bare 0)
 abbrev pub ordinary : Device → ℕ → Detail
 ordinary d address = cond (ltb (numberOf address) 16) (stored d (entryFor address)) (bare kind.Unknown)
 
--- numbers 16, 17 and 18 are the special three; 0 is always control
+-- 01: the special three have a kind of their own (numbers 0x10 to 0x12, EVENT_EP_NUM and on, of capture.rs), and 0 is always control
 unfoldable pub detailsOf : Device → ℕ → Detail
 detailsOf d address =
     cond (eqb (numberOf address) 16)

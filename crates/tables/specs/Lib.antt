@@ -1,4 +1,5 @@
 pub mod Kind
+pub mod Link
 pub mod Word
 pub mod Table
 pub mod Each

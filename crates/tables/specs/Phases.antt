@@ -5,6 +5,7 @@ use mathlib.Core.Bool.{Bool, cond}
 use lib.Dec.{eqb}
 use Rattle.tables.specs.Each.{each}
 use Rattle.tables.specs.Table.{wordAt}
+use Rattle.tables.specs.Link as link
 use Rattle.tables.specs.Word as word
 
 -- whether endpoint i has the phase of number p
@@ -20,9 +21,9 @@ count test i (suc n) = cond (test i) (suc (count test (suc i) n)) (count test (s
 abbrev pub waiting : List ℕ → ℕ → ℕ
 waiting t n = count (inPhase word.Ended t) 0 n
 
--- 01, trace and listing: an E link; the kinds of link are T 0, G 1, D 2, E 3
+-- 01, trace and listing: an E link has the endpoint and the item; the fourth word is 0
 abbrev pub closed : ℕ → ℕ → List ℕ → List ℕ
-closed endpoint item rest = 3 ∷ endpoint ∷ item ∷ 0 ∷ rest
+closed endpoint item rest = link.E ∷ endpoint ∷ item ∷ 0 ∷ rest
 
 -- the links that close those that wait among the n endpoints from i on, in endpoint order
 abbrev pub closing : List ℕ → ℕ → ℕ → ℕ → List ℕ

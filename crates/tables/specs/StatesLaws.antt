@@ -24,6 +24,21 @@ states-at t zero i j h = absurd (omega arith)
 states-at t (suc n) i zero h = let e : i + 0 ≡ i = omega arith in rw e
 states-at t (suc n) i (suc j) h = let e : i + suc j ≡ suc i + j = omega arith in rw e (states-at t n (suc i) j (omega arith))
 
+-- a state is a byte
+pub state-byte : (same event start : Bool) (last : ℕ) → byteOf (nextState same event start last) ≡ nextState same event start last
+state-byte same event start last = pick same event start (eqb last word.Starting) (eqb last word.Ongoing)
+  where
+    pick : (same event start a b : Bool)
+        → byteOf (cond same (cond start word.Starting word.Ending) (cond a (cond event word.Ending word.Ongoing) (cond b (cond event word.Ending word.Ongoing) word.Idle)))
+        ≡ cond same (cond start word.Starting word.Ending) (cond a (cond event word.Ending word.Ongoing) (cond b (cond event word.Ending word.Ongoing) word.Idle))
+    pick true event true a b = refl
+    pick true event false a b = refl
+    pick false true start true b = refl
+    pick false false start true b = refl
+    pick false true start false true = refl
+    pick false false start false true = refl
+    pick false event start false false = refl
+
 module _ (t : List ℕ) (n endpoint : ℕ) (start : Bool) where
   pub length-next : length (nextStates t n endpoint start) ≡ length t
   unfolding nextStates
@@ -35,18 +50,7 @@ module _ (t : List ℕ) (n endpoint : ℕ) (start : Bool) where
   unfolding nextStates entryAt
   entry-next j l h =
       entry-state (stateWord endpoint start) t n j l h
-      ∙ ap (λ (s : ℕ). withState s (entryAt t j)) (small (eqb j endpoint) (eqb endpoint 0) start (eqb (byteOf (wordAt t j word.state)) word.Starting) (eqb (byteOf (wordAt t j word.state)) word.Ongoing))
-    where
-      small : (same event start a b : Bool)
-          → byteOf (cond same (cond start word.Starting word.Ending) (cond a (cond event word.Ending word.Ongoing) (cond b (cond event word.Ending word.Ongoing) word.Idle)))
-          ≡ cond same (cond start word.Starting word.Ending) (cond a (cond event word.Ending word.Ongoing) (cond b (cond event word.Ending word.Ongoing) word.Idle))
-      small true event true a b = refl
-      small true event false a b = refl
-      small false true start true b = refl
-      small false false start true b = refl
-      small false true start false true = refl
-      small false false start false true = refl
-      small false event start false false = refl
+      ∙ ap (λ (s : ℕ). withState s (entryAt t j)) (state-byte (eqb j endpoint) (eqb endpoint 0) start (byteOf (wordAt t j word.state)))
 
   pub next-beyond : (j : ℕ) → n ≤ j → entryAt (nextStates t n endpoint start) j ≡ entryAt t j
   unfolding nextStates

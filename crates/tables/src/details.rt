@@ -16,6 +16,11 @@ pub const INVALID_EP_NUM: u8 = 0x11;
 
 pub const FRAMING_EP_NUM: u8 = 0x12;
 
+// Document 01's answers to a detail call.
+const WRONG: u8 = 5;
+
+const NO_DEVICE: u8 = 6;
+
 // A kind with no max known.
 fn bare_kind(kind: u8) -> Detail
     ensures { λ r. ⌜ r ≡ bare kind ⌝ }
@@ -120,26 +125,26 @@ fn no_device(found: Found) -> u8
 {
     match found {
         Found::At(_) => 0,
-        Found::Nothing => 6,
+        Found::Nothing => NO_DEVICE,
     }
 }
 
-// The answer to a detail call, of the search for its address: 5, 6 or 0.
+// The answer to a detail call; found is the search for its device.
 pub fn detail_answer(number: u8, direction: u8, kind: u8, found: Found) -> u8
     ensures { λ r. ⌜ r ≡ detailAnswer number direction kind found ⌝ }
 {
     if 15 < number {
-        return 5;
+        return WRONG;
     }
     if 3 < kind {
-        return 5;
+        return WRONG;
     }
     if 1 < direction {
-        return 5;
+        return WRONG;
     }
     if number == CONTROL_EP_NUM {
         if kind != types::CONTROL {
-            return 5;
+            return WRONG;
         }
         return no_device(found);
     }

@@ -4,6 +4,7 @@ use crate::Phase;
 use crate::word;
 ghost use mathlib.Core.Path.{_≡_};
 ghost use Prim.Native.Nat.{_<_};
+ghost use lib.ListN.{length};
 ghost use Rattle.rows.specs.Sets.{one};
 ghost use Rattle.tables.specs.Table.{phaseOf, phaseWord, entryAt, storeAt};
 
@@ -33,6 +34,15 @@ fn flag_word(flag: bool) -> u64
     ensures { λ r. ⌜ r ≡ one flag ⌝ }
 {
     if flag { 1 } else { 0 }
+}
+
+fn lent(_words: &[u64]) {}
+
+// A lent table has all its words: a proof learns it where the array is lent on as a slice, and the laws of store ask for it.
+pub fn sized(table: &[u64; 2176])
+    ensures { λ r. ⌜ length (now (table .entry)) ≡ 2176 ⌝ }
+{
+    lent(table);
 }
 
 pub fn load(table: &[u64; 2176], i: usize) -> Endpoint

@@ -3,6 +3,7 @@ pub mod details;
 pub mod entry;
 pub mod find;
 pub mod kind;
+pub mod link;
 pub mod phases;
 pub mod states;
 pub mod word;

@@ -1,4 +1,5 @@
 // The loops over the endpoints' phases: who waits for an item, closing them, and ending all that is active.
+use crate::link;
 use crate::word;
 ghost use mathlib.Core.Path.{_≡_};
 ghost use Prim.Native.Nat.{_+_, _*_, _≤_};
@@ -7,9 +8,6 @@ ghost use lib.Seq.{sets};
 ghost use Rattle.tables.specs.Each.{each};
 ghost use Rattle.tables.specs.Word as word;
 ghost use Rattle.tables.specs.Phases.{waiting, closing, becomes, cleared, ended};
-
-// The kind of an E link.
-const E: u64 = 3;
 
 // How many of the first n endpoints wait for an item.
 pub fn count_waiting(table: &[u64; 2176], n: usize) -> usize
@@ -39,7 +37,7 @@ pub fn close_waiting(links: &mut [u64], at: usize, table: &[u64; 2176], n: usize
     let mut i: usize = 0;
     while i < n {
         if table[i * word::WIDTH + word::PHASE] == word::ENDED {
-            rows::put4(links, row * 4, E, i as u64, item, 0);
+            rows::put4(links, row * 4, link::E, i as u64, item, 0);
             row += 1;
             i += 1;
         } else {

@@ -46,10 +46,10 @@ pub const ACTIVE: u64 = 2;
 pub const ENDED: u64 = 3;
 
 // The state word (EndpointState of the Rust): any other number counts as IDLE.
-pub const IDLE: u64 = 0;
+pub const IDLE: u8 = 0;
 
-pub const STARTING: u64 = 1;
+pub const STARTING: u8 = 1;
 
-pub const ONGOING: u64 = 2;
+pub const ONGOING: u8 = 2;
 
-pub const ENDING: u64 = 3;
+pub const ENDING: u8 = 3;
