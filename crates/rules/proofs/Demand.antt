@@ -16,7 +16,7 @@ use Rattle.rules.specs.World.{World, phase, withJournal, newEndpoint}
 use Rattle.rules.specs.Decoder as Decoder
 use Rattle.rules.specs.Marks.{Mark, marks, starts, endings, closings}
 use Rattle.rules.specs.Demand.{Call, call, Reach, begin, next, upTo, Standing, none, open-one, waiting-one, Demand3, OnMarks}
-use Rattle.rules.proofs.Facts.{Facts, pass, extra}
+use Rattle.rules.proofs.Facts.{Facts, pass, extra, one}
 use Rattle.rules.proofs.Facts as facts
 use Rattle.rules.proofs.Loops.{openOf, waitOf}
 use Rattle.rules.proofs.Keeps.{Holds, Keeps}
@@ -81,3 +81,24 @@ demand3 {js} {w} r e d =
     let l : Keeps js e (always r .c) (always r .y) (withJournal [] w) = always r .keeps e in
     let f = l .facts in
     record { standing = stand (phase e w) d f; ended = f .finished (length (endings (marks e js))) (ended-length (phase e w) f); closing = f .named; asserted = f .asserted }
+
+-- ---- what the world's own numbers say, for the crates above
+
+abbrev pub unclosed : Phase → ℕ
+unclosed None = 0
+unclosed Early = 1
+unclosed Active = 1
+unclosed Ended = 1
+
+-- the groups of an endpoint are its G rows: those closed, and the one that its phase speaks of
+pub groups-are : {js : List Row} {w : World} → Reach js w → (e : ℕ) → ¬ (e ≡ 0) → (starts (marks e js) ≡ w .endpoints e .groups) × (w .endpoints e .groups ≡ length (closings (marks e js)) + unclosed (phase e w))
+groups-are {js} {w} r e d = (l .facts .grouped d, l .facts .counted d ∙ by (phase e w))
+  where
+    l : Keeps js e (always r .c) (always r .y) (withJournal [] w)
+    l = always r .keeps e
+
+    by : (p : Phase) → length (closings (marks e js)) + (extra (waitOf p) + one (openOf p)) ≡ length (closings (marks e js)) + unclosed p
+    by None = refl
+    by Early = refl
+    by Active = refl
+    by Ended = refl

@@ -81,29 +81,25 @@ pub fresh : (e : ℕ) → Facts e false calm 0 0 []
 fresh e =
     record { grouped = λ d. refl; counted = λ d. refl; unclosed = λ z. refl; added = refl; finished = λ m q. rw q; waited = tt; named = λ k h. absurd (omega arith); asserted = tt }
 
-waits-other : (v : Wait) (k n : ℕ) (ms : List Mark) → Waits v k n ms → Waits v k n (other ∷ ms)
-waits-other calm k n ms t = tt
-waits-other waits k n ms t = (still other (λ l. refl) (t .0), t .1)
-waits-other due k n ms t = (λ i q. on other (t .0 i q), t .1)
-
-waits-started : (v : Wait) (k n : ℕ) (ms : List Mark) → Waits v k n ms → Waits v k n (started ∷ ms)
-waits-started calm k n ms t = tt
-waits-started waits k n ms t = (still started (λ l. refl) (t .0), t .1)
-waits-started due k n ms t = (λ i q. on started (t .0 i q), t .1)
+-- a mark that is neither an item nor an end
+waits-on : (m : Mark) → ((l : List Mark) → items (m ∷ l) ≡ items l) → ((l : List Mark) → lastEnded (m ∷ l) ≡ lastEnded l) → (v : Wait) (k n : ℕ) (ms : List Mark) → Waits v k n ms → Waits v k n (m ∷ ms)
+waits-on m h j calm k n ms t = tt
+waits-on m h j waits k n ms t = (still m h (t .0), j ms ∙ t .1)
+waits-on m h j due k n ms t = (λ i q. on m (t .0 i q), j ms ∙ t .1)
 
 module _ {e g n : ℕ} {ms : List Mark} where
   pub pass : {o : Bool} {v : Wait} → Facts e o v g n ms → Facts e o v g n (other ∷ ms)
   pass {o} {v} f =
-      record { grouped = f .grouped; counted = f .counted; unclosed = f .unclosed; added = f .added; finished = f .finished; waited = waits-other v _ n ms (f .waited); named = λ k h. on other (f .named k h); asserted = f .asserted }
+      record { grouped = f .grouped; counted = f .counted; unclosed = f .unclosed; added = f .added; finished = f .finished; waited = waits-on other (λ l. refl) (λ l. refl) v _ n ms (f .waited); named = λ k h. on other (f .named k h); asserted = f .asserted }
 
   -- a group of the event endpoint
   pub skip : {o : Bool} {v : Wait} (g′ : ℕ) → e ≡ 0 → Facts e o v g n ms → Facts e o v g′ n (started ∷ ms)
   skip {o} {v} g′ z f =
-      record { grouped = λ d. absurd (d z); counted = λ d. absurd (d z); unclosed = f .unclosed; added = f .added; finished = f .finished; waited = waits-started v _ n ms (f .waited); named = λ k h. on started (f .named k h); asserted = f .asserted }
+      record { grouped = λ d. absurd (d z); counted = λ d. absurd (d z); unclosed = f .unclosed; added = f .added; finished = f .finished; waited = waits-on started (λ l. refl) (λ l. refl) v _ n ms (f .waited); named = λ k h. on started (f .named k h); asserted = f .asserted }
 
   pub begin : {v : Wait} → Facts e false v g n ms → Facts e true v (suc g) n (started ∷ ms)
   begin {v} f =
-      record { grouped = λ d. ap suc (f .grouped d); counted = λ d. omega (arith, f .counted d); unclosed = f .unclosed; added = f .added; finished = f .finished; waited = waits-started v _ n ms (f .waited); named = λ k h. on started (f .named k h); asserted = f .asserted }
+      record { grouped = λ d. ap suc (f .grouped d); counted = λ d. omega (arith, f .counted d); unclosed = f .unclosed; added = f .added; finished = f .finished; waited = waits-on started (λ l. refl) (λ l. refl) v _ n ms (f .waited); named = λ k h. on started (f .named k h); asserted = f .asserted }
 
   pub end : ¬ (e ≡ 0) → Facts e true calm g n ms → Facts e false waits g n (ended (pred g) ∷ ms)
   end d f =

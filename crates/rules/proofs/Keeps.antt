@@ -14,8 +14,8 @@ use Rattle.tables.specs.declared.Phase.{Phase}
 use Rattle.tables.specs.declared.Phase.the-variants.{None, Early, Active, Ended}
 use Rattle.group.specs.declared.GroupStatus.{GroupStatus}
 use Rattle.group.specs.declared.GroupStatus.the-variants.{Single, New, Continue, Retry, Done, Invalid}
-use Rattle.rules.specs.Rows.{Row}
-use Rattle.rules.specs.World.{World, phase, cleared, withLast, moreTransactions, moreGroups, change}
+use Rattle.rules.specs.Rows.{Row, T}
+use Rattle.rules.specs.World.{World, phase, push, change, withTransaction, withLink, cleared, withLast, moreTransactions, moreGroups}
 use Rattle.rules.specs.Groups.{closePhase, addItem, addGroupEntry, link, linkOnce, pushGroup, over, endActive, addGroup, groupEndAt, groupEnd, activated, activate, groupStartAt, groupStart, groupAppendAt, groupAppend, groupStep, becomes, endEarly, groupEarlyStart, startsEarly}
 use Rattle.rules.specs.Decoder.{endAllActive, endPhase}
 use Rattle.rules.specs.Marks.{Mark, other, started, marks}
@@ -61,7 +61,7 @@ module _ (base : List Row) (e c y : ℕ) where
   abbrev pub Keeps : World → Type 0
   Keeps w = HoldsAt (w .endpoints e) w
 
-  -- ---- add_item, add_group_entry, the T row
+  -- ---- add_item, add_group_entry
 
   close-inside : (p : Phase) → Inside p e c → Inside (closePhase p) e c
   close-inside None l = tt
@@ -93,20 +93,6 @@ module _ (base : List Row) (e c y : ℕ) where
   pub entry-keeps : (x : ℕ) (s : Bool) (w : World) → Keeps w → Keeps (addGroupEntry x s w)
   entry-keeps x s w l = passed (passed (passed l))
 
-  pub more-keeps : (b : Bool) (a : Endpoint) {k t n : ℕ} {ms : List Mark} → Holds e c y (a .phase) (a .groups) (a .address) k t n ms → Holds e c y (pick b (moreTransactions a) a .phase) (pick b (moreTransactions a) a .groups) (pick b (moreTransactions a) a .address) k t n (other ∷ ms)
-  more-keeps true a l = passed l
-  more-keeps false a l = passed l
-
-  pub link-keeps : (x : ℕ) (w : World) → Keeps w → Keeps (link x w)
-  link-keeps x w l = more-keeps (eqb e x) (w .endpoints e) l
-
-  pub linkOnce-keeps : (x : ℕ) (w : World) → Keeps w → Keeps (linkOnce x w)
-  linkOnce-keeps x w l = by (w .transaction .linked)
-    where
-      by : (b : Bool) → Keeps (pick b w (link x w))
-      by true = l
-      by false = link-keeps x w l
-
   -- a change of what the facts don't speak of
   pub quiet-keeps : (f : Endpoint → Endpoint) → ((a : Endpoint) → f a .phase ≡ a .phase) → ((a : Endpoint) → f a .groups ≡ a .groups) → ((a : Endpoint) → f a .address ≡ a .address) → (x : ℕ) (w : World) → Keeps w → Keeps (change x f w)
   quiet-keeps f fp fg fd x w l = by (eqb e x)
@@ -128,23 +114,31 @@ module _ (base : List Row) (e c y : ℕ) where
           rw (p, g, d) l
       at false h = l
 
+  -- ---- the T row
+
+  pub link-keeps : (x : ℕ) (w : World) → Keeps w → Keeps (link x w)
+  link-keeps x w l = quiet-keeps moreTransactions (λ a. refl) (λ a. refl) (λ a. refl) x (withTransaction (withLink (w .endpoints x .transactions) (w .transaction)) (push (T x (w .transaction .id)) w)) (passed l)
+
+  pub linkOnce-keeps : (x : ℕ) (w : World) → Keeps w → Keeps (linkOnce x w)
+  linkOnce-keeps x w l = by (w .transaction .linked)
+    where
+      by : (b : Bool) → Keeps (pick b w (link x w))
+      by true = l
+      by false = link-keeps x w l
+
   -- ---- the end of an early or an active group
 
   over-phase : (b : Bool) (a : Endpoint) → b ≡ true → pick b (withPhase Ended a) a .phase ≡ Ended
   over-phase true a h = refl
   over-phase false a h = let z : false ≡ true = h in cc
 
-  same-phase : (b : Bool) (a : Endpoint) → pick b (moreGroups a) a .phase ≡ a .phase
-  same-phase true a = refl
-  same-phase false a = refl
-
-  linked-same : (b : Bool) (a : Endpoint) → pick b (moreTransactions a) a .phase ≡ a .phase
-  linked-same true a = refl
-  linked-same false a = refl
+  kept-phase : (f : Endpoint → Endpoint) → ((a : Endpoint) → f a .phase ≡ a .phase) → (b : Bool) (a : Endpoint) → pick b (f a) a .phase ≡ a .phase
+  kept-phase f h true a = h a
+  kept-phase f h false a = refl
 
   linked-phase : (b : Bool) (x : ℕ) (w : World) → phase x (pick b w (link x w)) ≡ phase x w
   linked-phase true x w = refl
-  linked-phase false x w = linked-same (eqb x x) (w .endpoints x)
+  linked-phase false x w = kept-phase moreTransactions (λ a. refl) (eqb x x) (w .endpoints x)
 
   shut-after : (r : Phase) (x : ℕ) (w : World) → phase x w ≡ r → early r ≡ false → Shut (phase x (endActive r x w))
   shut-after None x w t d = ap openOf t
@@ -206,7 +200,7 @@ module _ (base : List Row) (e c y : ℕ) where
           v = addGroupEntry x true (pushGroup x i w)
 
           same : v .endpoints e .phase ≡ phase e w
-          same = same-phase (eqb e x) (w .endpoints e)
+          same = kept-phase moreGroups (λ a. refl) (eqb e x) (w .endpoints e)
 
           here : Inside (phase e w) e (w .count)
           here = rw (l .size) (l .inside)
@@ -266,12 +260,8 @@ module _ (base : List Row) (e c y : ℕ) where
         may-add (eqb (w .lastItem) x) (addGroupEntry x false (over x w)) (entry-keeps x false (over x w) (over-keeps w (rw q (refl, refl)) l))
     groupEndAt-keeps Ended w q l = l
 
-    cleared-phase : (b : Bool) (a : Endpoint) → pick b (cleared a) a .phase ≡ a .phase
-    cleared-phase true a = refl
-    cleared-phase false a = refl
-
     groupEnd-keeps : (w : World) → Keeps w → Keeps (groupEnd x w)
-    groupEnd-keeps w l = groupEndAt-keeps (phase x w) (change x cleared w) (cleared-phase (eqb x x) (w .endpoints x)) (quiet-keeps cleared (λ a. refl) (λ a. refl) (λ a. refl) x w l)
+    groupEnd-keeps w l = groupEndAt-keeps (phase x w) (change x cleared w) (kept-phase cleared (λ a. refl) (eqb x x) (w .endpoints x)) (quiet-keeps cleared (λ a. refl) (λ a. refl) (λ a. refl) x w l)
 
     pub groupStep-keeps : (g : GroupStatus) (w : World) → Keeps w → Keeps (groupStep g x w)
     groupStep-keeps Single w l = groupEnd-keeps (groupStart true x w) (groupStart-keeps true w l)

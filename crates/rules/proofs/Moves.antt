@@ -30,8 +30,8 @@ use Rattle.group.specs.declared.Effect.{Effect}
 use Rattle.group.specs.declared.Effect.the-variants.{NoEffect, NewDevice, Request, PendingData, IndexData}
 use Rattle.group.specs.declared.Grouped.{Grouped}
 use Rattle.group.proofs.Laws.{group-keeps}
-use Rattle.rules.specs.Rows.{Row, D, EventRow}
-use Rattle.rules.specs.World.{World, eventEp, phase, push, change, withSlot, withTransaction, withEventState, withKeepalive, withId, withPid, withPending, withTotal, newTransaction}
+use Rattle.rules.specs.Rows.{Row, T, D, EventRow}
+use Rattle.rules.specs.World.{World, eventEp, phase, push, change, withSlot, withTransaction, withEventState, withKeepalive, withId, withPid, moreTransactions, withPending, withTotal, newTransaction}
 use Rattle.rules.specs.Endpoints.{addDevice, deviceFor, pushEndpoint, addEndpointOn, addressFor, endpointLookup, found, packetEndpointAt, packetEndpoint, numberAt, endpointOf, detailOf, setEndpointType, setDetailOn}
 use Rattle.rules.specs.Groups.{addItem, addGroupEntry, pushGroup, link, linkOnce, groupStep, effectStep, grouped, becomes, groupUpdate, groupEarlyAppend, undecided, groupEarlyStart}
 use Rattle.rules.specs.Transactions.{transactionEndAt, transactionEnd, appendToken, transactionAppend, pushTransaction, begin, typeOf, beginOn, beginSplit, beginPlain, transactionStart, resumeAt, stateAt, completes, extracted, updateAt, updateFrom, isDropped, transactionUpdate}
@@ -44,7 +44,7 @@ use Rattle.rules.specs.declared.Slot.the-variants.{Empty, Current, Suspe
 use Rattle.rules.specs.declared.EventState.the-variants.{Idle}
 use Rattle.rules.proofs.Facts.{Facts, pass, calm}
 use Rattle.rules.proofs.Loops.{openOf, waitOf, Inside}
-use Rattle.rules.proofs.Keeps.{Holds, Keeps, passed, item-keeps, entry-keeps, more-keeps, link-keeps, linkOnce-keeps, quiet-keeps, becomes-keeps, groupStep-keeps, groupEarlyStart-keeps, endAllActive-keeps, pushGroup-keeps}
+use Rattle.rules.proofs.Keeps.{Holds, Keeps, passed, item-keeps, entry-keeps, link-keeps, linkOnce-keeps, quiet-keeps, becomes-keeps, groupStep-keeps, groupEarlyStart-keeps, endAllActive-keeps, pushGroup-keeps}
 
 -- ---- where a token's endpoint is found: at a row that is there, and not at the event endpoint's
 
@@ -335,7 +335,7 @@ module _ (base : List Row) where
 
     subgroup-starts : (n : ℕ) (w : World) → Moves c y w (eventSubgroupStart n w)
     subgroup-starts n w =
-        record { c′ = m .c′; y′ = m .y′; fits = m .fits; three = m .three; keeps = λ e l. more-keeps base e (m .c′) (m .y′) (eqb e 0) (v .endpoints e) (m .keeps e l) }
+        record { c′ = m .c′; y′ = m .y′; fits = m .fits; three = m .three; keeps = λ e l. quiet-keeps base e (m .c′) (m .y′) moreTransactions (λ a. refl) (λ a. refl) (λ a. refl) 0 (push (T 0 (pred (v .transactions))) v) (passed (m .keeps e l)) }
       where
         v : World
         v = eventAddSubgroup n w
