@@ -11,7 +11,7 @@ use Rattle.tables.specs.declared.Phase.{Phase}
 use Rattle.tables.specs.declared.Phase.the-variants.{None}
 use Rattle.rules.specs.Rows.{Row, BytesRow, DeviceRow, EndpointRow, PacketRow, EventRow, TransactionRow, GroupRow, StateRow, StateBytes, ItemRow, T, G, D, E, RequestRow, Over, written, log}
 use Rattle.rules.specs.World.{World, phase, withJournal}
-use Rattle.rules.specs.Marks.{Mark, other, started, ended, closed, mark, marks, starts, endings, closings}
+use Rattle.rules.specs.Marks.{Mark, other, started, ended, closed, mark, marks, starts, endings, closings, items}
 use Rattle.rules.specs.Demand.{Reach, upTo, linksOf, Demand3, OnMarks, OnLinks, Quiet}
 use Rattle.rules.proofs.Facts.{Facts, extra}
 use Rattle.rules.proofs.Loops.{openOf, waitOf}
@@ -126,6 +126,36 @@ module _ (e : ℕ) where
       ap length (links-append 1 e js (words r))
       ∙ (length-append (linksOf 1 e (log 10 js)) (linksOf 1 e (words r))
       ∙ (ap (λ (n : ℕ). n + length (linksOf 1 e (words r))) (start-rows js) ∙ start-row r (marks e js)))
+
+  -- ---- items: the item that a closing row names is a row of the item log
+
+  no-item-by : (b : Bool) (m : Mark) (ms : List Mark) → items (m ∷ ms) ≡ items ms → items ms + 0 ≡ items (pick b m other ∷ ms)
+  no-item-by true m ms h = omega arith
+  no-item-by false m ms h = omega arith
+
+  item-row : (r : Row) (ms : List Mark) → items ms + length (pick (eqb (written r .0) 9) (written r .1) []) ≡ items (mark e r ∷ ms)
+  item-row (BytesRow bs) ms = omega arith
+  item-row (DeviceRow a) ms = omega arith
+  item-row (EndpointRow d n r) ms = omega arith
+  item-row (PacketRow s t) ms = omega arith
+  item-row (EventRow p c) ms = omega arith
+  item-row (TransactionRow p) ms = omega arith
+  item-row (GroupRow x g s) ms = omega arith
+  item-row (StateRow s) ms = omega arith
+  item-row (StateBytes ss) ms = omega arith
+  item-row (ItemRow g) ms = omega arith
+  item-row (T x t) ms = omega arith
+  item-row (G x t) ms = no-item-by (eqb e x) started ms refl
+  item-row (D x t n) ms = omega arith
+  item-row (E x i) ms = no-item-by (eqb e x) (closed i) ms refl
+  item-row (RequestRow x s n) ms = omega arith
+  item-row (Over x j) ms = no-item-by (eqb e x) (ended j) ms refl
+
+  pub item-rows : (js : List Row) → length (log 9 js) ≡ items (marks e js)
+  item-rows [] = refl
+  item-rows (r ∷ js) =
+      length-append (log 9 js) (pick (eqb (written r .0) 9) (written r .1) [])
+      ∙ (ap (λ (n : ℕ). n + length (pick (eqb (written r .0) 9) (written r .1) [])) (item-rows js) ∙ item-row r (marks e js))
 
 pub on-links : {js : List Row} {w : World} → Reach js w → (e : ℕ) → ¬ (e ≡ 0) → OnLinks e js
 on-links {js} r e d =
