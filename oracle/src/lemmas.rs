@@ -26,12 +26,17 @@ use Rattle.tables.specs.Details.{detailsOf, withType, withDetail, fresh}
 use Rattle.group.specs.Control.{setupGroup, controlGroup}
 use Rattle.group.specs.Data.{beginGroup, repeatGroup, otherGroup}
 use Rattle.group.specs.Group.{groupStatus}
+use Rattle.rules.specs.Groups.{groupUpdate, groupEarlyStart, groupEarlyAppend}
+use Rattle.rules.specs.Transactions.{transactionUpdate}
+use Rattle.rules.specs.Events.{eventUpdate}
+use Rattle.rules.specs.Decoder.{handleRawPacket, handleEvent, handleDetail, finish}
 use Rattle.rules.specs.Demand.{packet, event, detail, finishing}
 use Rattle.rules.proofs.Runs.{Leaves}
 ";
 
 const PROOF: &str = "unfolding step bits bytes crc5Of crc16Of after formatOf tokenOk splitOk dataOk handshakeOk formatOk checkedOf transactionStatus \
-                     extractPayload detailsOf withType withDetail fresh setupGroup controlGroup beginGroup repeatGroup otherGroup groupStatus";
+                     extractPayload detailsOf withType withDetail fresh setupGroup controlGroup beginGroup repeatGroup otherGroup groupStatus \
+                     groupUpdate groupEarlyStart groupEarlyAppend transactionUpdate eventUpdate handleRawPacket handleEvent handleDetail finish";
 
 fn list(items: impl Iterator<Item = String>) -> String {
     let mut text: String = items.map(|item| format!("{item} ∷ ")).collect();

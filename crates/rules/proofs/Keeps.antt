@@ -280,6 +280,7 @@ module _ (base : List Row) (e c y : ℕ) where
     not-early Ended w q = ap early q
 
     pub groupEarlyStart-keeps : (pid : ℕ) (w : World) → Keeps w → Keeps (groupEarlyStart pid x w)
+    unfolding groupEarlyStart
     groupEarlyStart-keeps pid w l = by (startsEarly pid (phase x w))
       where
         u : World

@@ -37,7 +37,7 @@ use Rattle.rules.specs.Endpoints.{deviceFor, addEndpointOn, found, packe
 use Rattle.rules.specs.Groups.{closePhase, undecided, groupEarlyAppend, link, linkOnce, endEarly, endActive, addGroup, startsEarly, groupEarlyStart}
 use Rattle.rules.specs.Transactions.{transactionEndAt, transactionEnd, appendToken, transactionAppend, pushTransaction, begin, typeOf, beginOn, beginSplit, beginPlain, transactionStart, resumeAt, stateAt, completes, extracted, updateAt, updateFrom, isDropped, transactionUpdate}
 use Rattle.rules.specs.Events.{eventAddSubgroup, eventSubgroupStart, eventAddGroup, Act, nothing, single, group, subgroup, keepalive, Turn, turnOf, eventAct, eventUpdate}
-use Rattle.rules.specs.Decoder.{appendBytes, pushPacket, handleRawPacket, suspendAt, suspend, endPhase, endAllActive, endAll, handleEvent}
+use Rattle.rules.specs.Decoder.{appendBytes, pushPacket, handleRawPacket, suspendAt, suspend, endPhase, endAllActive, endAll, handleEvent, finish, handleDetail}
 use Rattle.rules.specs.Decoder as Decoder
 use Rattle.rules.specs.Demand.{Call, packet, event, detail, finishing, call, Reach, next}
 use Rattle.rules.specs.Demand.{begin as reached}
@@ -65,6 +65,7 @@ undecided-excused Active f h = h
 undecided-excused Ended f h = refl
 
 append-links : (w : World) → linkedAt (groupEarlyAppend w .transaction) (groupEarlyAppend w .endpoints) ≡ true
+unfolding groupEarlyAppend
 append-links w = by (eqb (w .transaction .endpoint) 0) (undecided (w .endpoints (w .transaction .endpoint))) (w .transaction .linked) refl refl refl
   where
     x : ℕ
@@ -150,6 +151,7 @@ suspend-links Current w l = l
 suspend-links Suspended w l = tt
 
 event-links : (kind code time : ℕ) (w : World) → Linked w → Linked (handleEvent kind code time w)
+unfolding handleEvent eventUpdate
 event-links kind code time w l = by (eqb kind 0)
   where
     v : World
@@ -225,6 +227,7 @@ early-slot true x w = once-slot (v .transaction .linked) x v ∙ (endActive-slot
 early-slot false x w = refl
 
 begun-slot : (x kind pid n : ℕ) (w : World) → beginOn x kind pid n w .slot ≡ Current
+unfolding groupEarlyStart
 begun-slot x kind pid n w = early-slot (startsEarly pid (phase x w)) x (begin (newTransaction (Simple pid) n pid x kind) w)
 
 started-slot : (n pid : ℕ) (p : List ℕ) (w : World) → transactionStart n pid p w .slot ≡ Current
@@ -324,6 +327,7 @@ module _ (pid : ℕ) (p : List ℕ) where
   update-links Invalid n k w a l d = awake-ends (transactionStart n pid p w .slot) false false (transactionStart n pid p w) refl (rw (started-slot n pid p w) tt)
 
 packet-links : (p : List ℕ) (time : ℕ) (w : World) → Linked w → Linked (handleRawPacket p time w)
+unfolding handleRawPacket transactionUpdate
 packet-links p time w l = by (isDropped (w .slot) (w .transaction))
   where
     v : World
@@ -347,6 +351,7 @@ detail-links (At i) number direction kind max w l = l
 detail-links Nothing number direction kind max w l = l
 
 pub linked-after : (k : Call) (w : World) → Linked w → Linked (call k w)
+unfolding handleDetail finish
 linked-after (packet p time) w l = packet-links p time w l
 linked-after (event kind code time) w l = event-links kind code time w l
 linked-after (detail a number r kind m) w l = detail-links (deviceFor a w) number r kind m w l

@@ -115,6 +115,7 @@ module _ (base : List Row) where
         stays w (effectStep (IndexData n b i) x w) (λ e l. quiet-keeps base e c y (withTotal (w .endpoints x .total + n)) (λ a. refl) (λ a. refl) (λ a. refl) x (push (D x (pick b i (w .transaction .link)) (w .endpoints x .total)) w) (passed l))
 
     update : (s k : Bool) (w : World) → ¬ (w .transaction .endpoint ≡ 0) → Moves c y w (groupUpdate (w .transaction .endpoint) s k w)
+    unfolding groupUpdate
     update s k w real = then (stays w v (λ e l. groupStep-keeps base e c y x (rw (l .target) f) real (r .status) u (status e l))) (effect (r .effect) x v)
       where
         x : ℕ
@@ -150,6 +151,7 @@ module _ (base : List Row) where
     ending s k w = endAt (w .slot) s k w
 
     appending : (w : World) → Moves c y w (groupEarlyAppend w)
+    unfolding groupEarlyAppend
     appending w = by (eqb (w .transaction .endpoint) 0 || undecided (w .endpoints (w .transaction .endpoint)))
       where
         by : (b : Bool) → Moves c y w (pick b w (linkOnce (w .transaction .endpoint) w))
@@ -305,6 +307,7 @@ module _ (base : List Row) where
 
   module _ (c y : ℕ) (f : y < c) (t : 3 ≤ c) where
     transacting : (n : ℕ) (p : List ℕ) (w : World) → Keeps base 0 c y w → Moves c y w (transactionUpdate n p w)
+    unfolding transactionUpdate
     transacting n p w z = by (isDropped (w .slot) (w .transaction))
       where
         u : World
@@ -322,6 +325,7 @@ module _ (base : List Row) where
             then m (updating (m .c′) (m .y′) (m .fits) (m .three) n (j .pid) p (j .status) (completes (stateAt (u .slot) (u .transaction) .style) (j .status)) u (m .keeps 0 z))
 
     packets : (p : List ℕ) (time : ℕ) (w : World) → Keeps base 0 c y w → Moves c y w (handleRawPacket p time w)
+    unfolding handleRawPacket
     packets p time w z = then (stays c y f t w v (λ e l. passed (passed l))) (transacting (w .packets) p v (passed (passed z)))
       where
         v : World
@@ -371,6 +375,7 @@ module _ (base : List Row) where
         by false m = record { c′ = m .c′; y′ = m .y′; fits = m .fits; three = m .three; keeps = m .keeps }
 
     turning : (n kind : ℕ) (w : World) → Moves c y w (eventUpdate n kind w)
+    unfolding eventUpdate
     turning n kind w = again (acts (r .act) n w)
       where
         r : Turn
@@ -387,6 +392,7 @@ module _ (base : List Row) where
 
   module _ (c y : ℕ) (f : y < c) (t : 3 ≤ c) where
     events : (kind code time : ℕ) (w : World) → Moves c y w (handleEvent kind code time w)
+    unfolding handleEvent
     events kind code time w = by (eqb kind 0)
       where
         go : {v : World} → Moves c y w v → Moves c y w (eventUpdate (w .packets) kind (push (EventRow (w .packets) code) (pushPacket (w .bytes) time v)))
@@ -404,6 +410,7 @@ module _ (base : List Row) where
     details Nothing number direction kind max w = stays c y f t w w (λ e l. l)
 
     pub calls : (k : Call) (w : World) → Keeps base 0 c y w → Moves c y w (call k w)
+    unfolding handleDetail finish
     calls (packet p time) w z = packets c y f t p time w z
     calls (event kind code time) w z = events kind code time w
     calls (detail a number r kind m) w z = details (deviceFor a w) number r kind m w

@@ -41,7 +41,7 @@ appendBytes packet w = w ▷ push (BytesRow packet) ▷ withBytes (w .bytes + le
 abbrev pub pushPacket : ℕ → ℕ → World → World
 pushPacket start time w = w ▷ push (PacketRow start time) ▷ withPackets (suc (w .packets))
 
-abbrev pub handleRawPacket : List ℕ → ℕ → World → World
+unfoldable pub handleRawPacket : List ℕ → ℕ → World → World
 handleRawPacket packet time w =
     w ▷ withEventState Idle
     ▷ appendBytes packet
@@ -87,7 +87,7 @@ endAll w =
     ▷ endAllActive
     ▷ withKeepalive false
 
-abbrev pub handleEvent : ℕ → ℕ → ℕ → World → World
+unfoldable pub handleEvent : ℕ → ℕ → ℕ → World → World
 handleEvent kind code time w =
     pick (eqb kind LsKeepalive) (suspend w) (endAll w)
     ▷ pushPacket (w .bytes) time
@@ -96,10 +96,10 @@ handleEvent kind code time w =
 
 -- ---- fn finish
 
-abbrev pub finish : World → World
+unfoldable pub finish : World → World
 finish w = transactionEnd false false w
 
 -- ---- the detail call (01, Details and tables)
 
-abbrev pub handleDetail : ℕ → ℕ → ℕ → ℕ → ℕ → World → World
+unfoldable pub handleDetail : ℕ → ℕ → ℕ → ℕ → ℕ → World → World
 handleDetail address number direction kind max w = setDetailOn (deviceFor address w) number direction kind max w

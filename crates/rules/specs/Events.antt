@@ -120,7 +120,7 @@ eventAct group id w = w ▷ eventGroupStart id
 eventAct subgroup id w = w ▷ eventSubgroupStart id
 eventAct keepalive id w = pick (w .keepalive) (eventSubgroupStart id w) (w ▷ eventGroupStart id ▷ withKeepalive true)
 
-abbrev pub eventUpdate : ℕ → ℕ → World → World
+unfoldable pub eventUpdate : ℕ → ℕ → World → World
 eventUpdate id kind w =
     let t = turnOf (w .eventState) kind in
     w ▷ eventAct (t .act) id

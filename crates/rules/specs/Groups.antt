@@ -193,7 +193,7 @@ grouped x success complete w = groupStatus (w .endpoints x) (w .transaction) (de
 abbrev pub becomes : Endpoint → Endpoint → Endpoint
 becomes b a = b
 
-abbrev pub groupUpdate : ℕ → Bool → Bool → World → World
+unfoldable pub groupUpdate : ℕ → Bool → Bool → World → World
 groupUpdate x success complete w =
     let r = grouped x success complete w in
     w ▷ change x (becomes (r .endpoint))
@@ -207,7 +207,7 @@ abbrev pub undecided : Endpoint → Bool
 undecided a = isActive (a .phase) && (IN or only OUT) (a .first)
 
 -- a split without its token has no endpoint yet
-abbrev pub groupEarlyAppend : World → World
+unfoldable pub groupEarlyAppend : World → World
 groupEarlyAppend w =
     pick (eqb (w .transaction .endpoint) 0 || undecided (w .endpoints (w .transaction .endpoint)))
     w
@@ -226,7 +226,7 @@ endEarly Early x w = w ▷ over x
 endEarly Active x w = w
 endEarly Ended x w = w
 
-abbrev pub groupEarlyStart : ℕ → ℕ → World → World
+unfoldable pub groupEarlyStart : ℕ → ℕ → World → World
 groupEarlyStart pid x w =
     pick (startsEarly pid (phase x w))
     (w ▷ endEarly (phase x w) x

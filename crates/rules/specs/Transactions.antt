@@ -148,7 +148,7 @@ isDropped Empty t = false
 isDropped Current t = false
 isDropped Suspended t = eqb (t .endpoint) 0
 
-abbrev pub transactionUpdate : ℕ → List ℕ → World → World
+unfoldable pub transactionUpdate : ℕ → List ℕ → World → World
 transactionUpdate id packet w =
     pick (isDropped (w .slot) (w .transaction))
     (withSlot Empty w)
