@@ -10,6 +10,18 @@ use crate::storage::Mark;
 use crate::trace::{Clock, Reader, Record, call};
 use crate::traces::{SEQUENCES, written};
 
+/// Sequences in which a keepalive shows where a row is written: a T row at the token, a group row at the SETUP.
+const PLACES: &[(&str, &str)] = &[
+    (
+        "linked-at-token",
+        "SETUP 0 0; DATA0 =80 06 00 01 00 00 12 00; ACK; IN 0 0; event 0; DATA1 *8; ACK; OUT 0 0; event 0; DATA1 *0; ACK",
+    ),
+    (
+        "setup-in-transfer",
+        "SETUP 0 0; DATA0 =80 06 00 01 00 00 12 00; ACK; IN 0 0; DATA1 *8; ACK; SETUP 0 0; event 0; DATA0 =80 06 00 01 00 00 12 00; ACK",
+    ),
+];
+
 /// A longer packet is left out of a run: its CRC would be computed bit by bit.
 const LONGEST: usize = 80;
 
@@ -108,10 +120,10 @@ fn lemma(name: &str, trace: &[u8]) -> String {
     out
 }
 
-/// The sequences of `traces`, and so many runs of so many records, each kind in turn.
+/// The sequences of `traces` and those above, and so many runs of so many records, each kind in turn.
 pub fn lemmas(seed: u64, runs: u64, records: u64) -> String {
     let mut out = HEADER.to_string();
-    for (name, text) in SEQUENCES {
+    for (name, text) in SEQUENCES.iter().chain(PLACES) {
         out += &lemma(name, &written(text));
     }
     for i in 0..runs {

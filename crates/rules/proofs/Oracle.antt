@@ -329,6 +329,18 @@ run-refused-6 :
 unfolding step bits bytes crc5Of crc16Of after formatOf tokenOk splitOk dataOk handshakeOk formatOk checkedOf transactionStatus extractPayload detailsOf withType withDetail fresh setupGroup controlGroup beginGroup repeatGroup otherGroup groupStatus groupUpdate groupEarlyStart groupEarlyAppend transactionUpdate eventUpdate handleRawPacket handleEvent handleDetail finish
 run-refused-6 = refl
 
+run-linked-at-token :
+    Leaves (packet (0x2D ∷ 0x00 ∷ 0x10 ∷ []) 0 ∷ packet (0xC3 ∷ 0x80 ∷ 0x06 ∷ 0x00 ∷ 0x01 ∷ 0x00 ∷ 0x00 ∷ 0x12 ∷ 0x00 ∷ 0xE0 ∷ 0xF4 ∷ []) 1 ∷ packet (0xD2 ∷ []) 2 ∷ packet (0x69 ∷ 0x00 ∷ 0x10 ∷ []) 3 ∷ event 0 100 4 ∷ packet (0x4B ∷ 0x00 ∷ 0x01 ∷ 0x02 ∷ 0x03 ∷ 0x04 ∷ 0x05 ∷ 0x06 ∷ 0x07 ∷ 0xB9 ∷ 0x85 ∷ []) 5 ∷ packet (0xD2 ∷ []) 6 ∷ packet (0xE1 ∷ 0x00 ∷ 0x10 ∷ []) 7 ∷ event 0 100 8 ∷ packet (0x4B ∷ 0x00 ∷ 0x00 ∷ []) 9 ∷ packet (0xD2 ∷ []) 10 ∷ finishing ∷ [])
+    ((45 ∷ 0 ∷ 16 ∷ 195 ∷ 128 ∷ 6 ∷ 0 ∷ 1 ∷ 0 ∷ 0 ∷ 18 ∷ 0 ∷ 224 ∷ 244 ∷ 210 ∷ 105 ∷ 0 ∷ 16 ∷ 75 ∷ 0 ∷ 1 ∷ 2 ∷ 3 ∷ 4 ∷ 5 ∷ 6 ∷ 7 ∷ 185 ∷ 133 ∷ 210 ∷ 225 ∷ 0 ∷ 16 ∷ 75 ∷ 0 ∷ 0 ∷ 210 ∷ []) ∷ (0 ∷ []) ∷ (0 ∷ 16 ∷ 0 ∷ 0 ∷ 17 ∷ 0 ∷ 0 ∷ 18 ∷ 0 ∷ 0 ∷ 0 ∷ 0 ∷ []) ∷ (0 ∷ 0 ∷ 3 ∷ 1 ∷ 14 ∷ 2 ∷ 15 ∷ 3 ∷ 18 ∷ 4 ∷ 18 ∷ 5 ∷ 29 ∷ 6 ∷ 30 ∷ 7 ∷ 33 ∷ 8 ∷ 33 ∷ 9 ∷ 36 ∷ 10 ∷ []) ∷ (4 ∷ 100 ∷ 8 ∷ 100 ∷ []) ∷ (0 ∷ 3 ∷ 4 ∷ 5 ∷ 7 ∷ 8 ∷ 9 ∷ []) ∷ (3 ∷ 0 ∷ 1 ∷ 0 ∷ 0 ∷ 1 ∷ 3 ∷ 0 ∷ 0 ∷ []) ∷ (0 ∷ 0 ∷ 0 ∷ 1 ∷ 1 ∷ 0 ∷ 0 ∷ 3 ∷ 2 ∷ 0 ∷ 0 ∷ 3 ∷ []) ∷ (0 ∷ 4 ∷ 8 ∷ []) ∷ (0 ∷ 1 ∷ 2 ∷ []) ∷ (0 ∷ 3 ∷ 0 ∷ 0 ∷ 1 ∷ 3 ∷ 0 ∷ 0 ∷ 0 ∷ 3 ∷ 1 ∷ 0 ∷ 0 ∷ 0 ∷ 2 ∷ 0 ∷ 1 ∷ 0 ∷ 0 ∷ 0 ∷ 0 ∷ 3 ∷ 3 ∷ 0 ∷ 2 ∷ 3 ∷ 2 ∷ 0 ∷ 0 ∷ 3 ∷ 4 ∷ 0 ∷ 0 ∷ 0 ∷ 5 ∷ 0 ∷ 0 ∷ 3 ∷ 6 ∷ 0 ∷ 3 ∷ 3 ∷ 2 ∷ 0 ∷ []) ∷ (3 ∷ 5066549597570688 ∷ 8 ∷ []) ∷ [])
+unfolding step bits bytes crc5Of crc16Of after formatOf tokenOk splitOk dataOk handshakeOk formatOk checkedOf transactionStatus extractPayload detailsOf withType withDetail fresh setupGroup controlGroup beginGroup repeatGroup otherGroup groupStatus groupUpdate groupEarlyStart groupEarlyAppend transactionUpdate eventUpdate handleRawPacket handleEvent handleDetail finish
+run-linked-at-token = refl
+
+run-setup-in-transfer :
+    Leaves (packet (0x2D ∷ 0x00 ∷ 0x10 ∷ []) 0 ∷ packet (0xC3 ∷ 0x80 ∷ 0x06 ∷ 0x00 ∷ 0x01 ∷ 0x00 ∷ 0x00 ∷ 0x12 ∷ 0x00 ∷ 0xE0 ∷ 0xF4 ∷ []) 1 ∷ packet (0xD2 ∷ []) 2 ∷ packet (0x69 ∷ 0x00 ∷ 0x10 ∷ []) 3 ∷ packet (0x4B ∷ 0x00 ∷ 0x01 ∷ 0x02 ∷ 0x03 ∷ 0x04 ∷ 0x05 ∷ 0x06 ∷ 0x07 ∷ 0xB9 ∷ 0x85 ∷ []) 4 ∷ packet (0xD2 ∷ []) 5 ∷ packet (0x2D ∷ 0x00 ∷ 0x10 ∷ []) 6 ∷ event 0 100 7 ∷ packet (0xC3 ∷ 0x80 ∷ 0x06 ∷ 0x00 ∷ 0x01 ∷ 0x00 ∷ 0x00 ∷ 0x12 ∷ 0x00 ∷ 0xE0 ∷ 0xF4 ∷ []) 8 ∷ packet (0xD2 ∷ []) 9 ∷ finishing ∷ [])
+    ((45 ∷ 0 ∷ 16 ∷ 195 ∷ 128 ∷ 6 ∷ 0 ∷ 1 ∷ 0 ∷ 0 ∷ 18 ∷ 0 ∷ 224 ∷ 244 ∷ 210 ∷ 105 ∷ 0 ∷ 16 ∷ 75 ∷ 0 ∷ 1 ∷ 2 ∷ 3 ∷ 4 ∷ 5 ∷ 6 ∷ 7 ∷ 185 ∷ 133 ∷ 210 ∷ 45 ∷ 0 ∷ 16 ∷ 195 ∷ 128 ∷ 6 ∷ 0 ∷ 1 ∷ 0 ∷ 0 ∷ 18 ∷ 0 ∷ 224 ∷ 244 ∷ 210 ∷ []) ∷ (0 ∷ []) ∷ (0 ∷ 16 ∷ 0 ∷ 0 ∷ 17 ∷ 0 ∷ 0 ∷ 18 ∷ 0 ∷ 0 ∷ 0 ∷ 0 ∷ []) ∷ (0 ∷ 0 ∷ 3 ∷ 1 ∷ 14 ∷ 2 ∷ 15 ∷ 3 ∷ 18 ∷ 4 ∷ 29 ∷ 5 ∷ 30 ∷ 6 ∷ 33 ∷ 7 ∷ 33 ∷ 8 ∷ 44 ∷ 9 ∷ []) ∷ (7 ∷ 100 ∷ []) ∷ (0 ∷ 3 ∷ 6 ∷ 7 ∷ 8 ∷ []) ∷ (3 ∷ 0 ∷ 1 ∷ 3 ∷ 0 ∷ 0 ∷ 3 ∷ 1 ∷ 1 ∷ 0 ∷ 0 ∷ 1 ∷ []) ∷ (0 ∷ 0 ∷ 0 ∷ 1 ∷ 0 ∷ 0 ∷ 0 ∷ 3 ∷ 0 ∷ 0 ∷ 0 ∷ 1 ∷ 1 ∷ 0 ∷ 0 ∷ 3 ∷ []) ∷ (0 ∷ 4 ∷ 8 ∷ 12 ∷ []) ∷ (0 ∷ 2 ∷ 3 ∷ []) ∷ (0 ∷ 3 ∷ 0 ∷ 0 ∷ 1 ∷ 3 ∷ 0 ∷ 0 ∷ 0 ∷ 3 ∷ 1 ∷ 0 ∷ 2 ∷ 3 ∷ 1 ∷ 0 ∷ 0 ∷ 3 ∷ 2 ∷ 0 ∷ 1 ∷ 3 ∷ 2 ∷ 0 ∷ 3 ∷ 3 ∷ 1 ∷ 0 ∷ 0 ∷ 0 ∷ 3 ∷ 0 ∷ 1 ∷ 0 ∷ 0 ∷ 0 ∷ 0 ∷ 3 ∷ 4 ∷ 0 ∷ []) ∷ ([]) ∷ [])
+unfolding step bits bytes crc5Of crc16Of after formatOf tokenOk splitOk dataOk handshakeOk formatOk checkedOf transactionStatus extractPayload detailsOf withType withDetail fresh setupGroup controlGroup beginGroup repeatGroup otherGroup groupStatus groupUpdate groupEarlyStart groupEarlyAppend transactionUpdate eventUpdate handleRawPacket handleEvent handleDetail finish
+run-setup-in-transfer = refl
+
 run-enumeration-1 :
     Leaves (packet (0x2D ∷ 0x00 ∷ 0x10 ∷ []) 2298633644 ∷ packet (0xC3 ∷ 0x80 ∷ 0x06 ∷ 0x00 ∷ 0x01 ∷ 0x00 ∷ 0x00 ∷ 0x12 ∷ 0x00 ∷ 0xE0 ∷ 0xF4 ∷ []) 2298633692 ∷ packet (0xD2 ∷ []) 2298634225 ∷ packet (0x69 ∷ 0x00 ∷ 0x10 ∷ []) 2298634239 ∷ packet (0xC3 ∷ 0xA8 ∷ 0x96 ∷ 0x61 ∷ 0xFE ∷ 0xC0 ∷ 0x8A ∷ 0xA8 ∷ 0x3B ∷ 0x40 ∷ 0x7F ∷ []) 2298635883 ∷ packet (0xD2 ∷ []) 2298637559 ∷ packet (0x69 ∷ 0x00 ∷ 0x10 ∷ []) 2298638339 ∷ packet (0x4B ∷ 0xF7 ∷ 0x35 ∷ 0xAB ∷ 0x27 ∷ 0x8A ∷ 0x84 ∷ 0xBA ∷ 0x6D ∷ 0x61 ∷ 0x35 ∷ []) 2298640027 ∷ packet (0xD2 ∷ []) 2298640609 ∷ packet (0x69 ∷ 0x00 ∷ 0x10 ∷ []) 2298640847 ∷ packet (0xC3 ∷ 0x63 ∷ 0xB2 ∷ 0x56 ∷ 0xCA ∷ []) 2298641065 ∷ packet (0xD2 ∷ []) 2298642302 ∷ packet (0xE1 ∷ 0x00 ∷ 0x10 ∷ []) 2298643194 ∷ packet (0xC3 ∷ 0x00 ∷ 0x00 ∷ []) 2298644894 ∷ packet (0xD2 ∷ []) 2298645097 ∷ packet (0x2D ∷ 0x00 ∷ 0x10 ∷ []) 2298646229 ∷ finishing ∷ [])
     ((45 ∷ 0 ∷ 16 ∷ 195 ∷ 128 ∷ 6 ∷ 0 ∷ 1 ∷ 0 ∷ 0 ∷ 18 ∷ 0 ∷ 224 ∷ 244 ∷ 210 ∷ 105 ∷ 0 ∷ 16 ∷ 195 ∷ 168 ∷ 150 ∷ 97 ∷ 254 ∷ 192 ∷ 138 ∷ 168 ∷ 59 ∷ 64 ∷ 127 ∷ 210 ∷ 105 ∷ 0 ∷ 16 ∷ 75 ∷ 247 ∷ 53 ∷ 171 ∷ 39 ∷ 138 ∷ 132 ∷ 186 ∷ 109 ∷ 97 ∷ 53 ∷ 210 ∷ 105 ∷ 0 ∷ 16 ∷ 195 ∷ 99 ∷ 178 ∷ 86 ∷ 202 ∷ 210 ∷ 225 ∷ 0 ∷ 16 ∷ 195 ∷ 0 ∷ 0 ∷ 210 ∷ 45 ∷ 0 ∷ 16 ∷ []) ∷ (0 ∷ []) ∷ (0 ∷ 16 ∷ 0 ∷ 0 ∷ 17 ∷ 0 ∷ 0 ∷ 18 ∷ 0 ∷ 0 ∷ 0 ∷ 0 ∷ []) ∷ (0 ∷ 2298633644 ∷ 3 ∷ 2298633692 ∷ 14 ∷ 2298634225 ∷ 15 ∷ 2298634239 ∷ 18 ∷ 2298635883 ∷ 29 ∷ 2298637559 ∷ 30 ∷ 2298638339 ∷ 33 ∷ 2298640027 ∷ 44 ∷ 2298640609 ∷ 45 ∷ 2298640847 ∷ 48 ∷ 2298641065 ∷ 53 ∷ 2298642302 ∷ 54 ∷ 2298643194 ∷ 57 ∷ 2298644894 ∷ 60 ∷ 2298645097 ∷ 61 ∷ 2298646229 ∷ []) ∷ ([]) ∷ (0 ∷ 3 ∷ 6 ∷ 9 ∷ 12 ∷ 15 ∷ []) ∷ (3 ∷ 0 ∷ 1 ∷ 3 ∷ 0 ∷ 0 ∷ 3 ∷ 1 ∷ 1 ∷ []) ∷ (0 ∷ 0 ∷ 0 ∷ 1 ∷ 0 ∷ 0 ∷ 0 ∷ 3 ∷ 0 ∷ 0 ∷ 0 ∷ 1 ∷ []) ∷ (0 ∷ 4 ∷ 8 ∷ []) ∷ (0 ∷ 2 ∷ []) ∷ (0 ∷ 3 ∷ 0 ∷ 0 ∷ 1 ∷ 3 ∷ 0 ∷ 0 ∷ 0 ∷ 3 ∷ 1 ∷ 0 ∷ 2 ∷ 3 ∷ 1 ∷ 0 ∷ 0 ∷ 3 ∷ 2 ∷ 0 ∷ 2 ∷ 3 ∷ 2 ∷ 8 ∷ 0 ∷ 3 ∷ 3 ∷ 0 ∷ 2 ∷ 3 ∷ 3 ∷ 16 ∷ 0 ∷ 3 ∷ 4 ∷ 0 ∷ 0 ∷ 3 ∷ 5 ∷ 0 ∷ 1 ∷ 3 ∷ 5 ∷ 0 ∷ 3 ∷ 3 ∷ 1 ∷ 0 ∷ []) ∷ (3 ∷ 5066549597570688 ∷ 18 ∷ []) ∷ [])
