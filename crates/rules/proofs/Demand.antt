@@ -102,3 +102,11 @@ groups-are {js} {w} r e d = (l .facts .grouped d, l .facts .counted d ∙ by (ph
     by Early = refl
     by Active = refl
     by Ended = refl
+
+-- the three special endpoints are there, and the transaction's endpoint is
+pub endpoints-there : {js : List Row} {w : World} → Reach js w → (3 ≤ w .count) × (w .transaction .endpoint < w .count)
+endpoints-there {js} {w} r =
+    let s : Sound js w = always r in
+    let k = s .keeps 0 .size in
+    let t = s .keeps 0 .target in
+    (omega (arith, s .three), omega (arith, s .fits))

@@ -24,7 +24,6 @@ use Rattle.transaction.specs.declared.Status.{Status}
 use Rattle.transaction.specs.declared.Status.the-variants.{New, Continue, Retry, Done, Fail, Ambiguous, Invalid}
 use Rattle.tables.specs.Details.{fresh}
 use Rattle.tables.specs.Kind.{Unknown}
-use Rattle.tables.specs.Table.{withPhase}
 use Rattle.tables.specs.declared.Endpoint.{Endpoint}
 use Rattle.tables.specs.declared.Found.{Found}
 use Rattle.tables.specs.declared.Found.the-variants.{At, Nothing}
@@ -33,8 +32,8 @@ use Rattle.tables.specs.declared.Phase.the-variants.{None, Early, Active, Ended
 use Rattle.group.specs.Step.{isActive}
 use Rattle.rules.specs.Rows.{Row, EventRow}
 use Rattle.rules.specs.World.{World, phase, push, change, withSlot, withTransaction, withEventState, withKeepalive, withJournal, moreTransactions, moreGroups, withPid, newTransaction}
-use Rattle.rules.specs.Endpoints.{deviceFor, addEndpointOn, found, packetEndpointAt, packetEndpoint, endpointOf, setDetailOn}
-use Rattle.rules.specs.Groups.{closePhase, undecided, groupEarlyAppend, link, linkOnce, endEarly, endActive, addGroup, startsEarly, groupEarlyStart}
+use Rattle.rules.specs.Endpoints.{deviceFor, packetEndpoint, endpointOf, setDetailOn}
+use Rattle.rules.specs.Groups.{closePhase, undecided, groupEarlyAppend, link}
 use Rattle.rules.specs.Transactions.{transactionEndAt, transactionEnd, appendToken, transactionAppend, pushTransaction, begin, typeOf, beginOn, beginSplit, beginPlain, transactionStart, resumeAt, stateAt, completes, extracted, updateAt, updateFrom, isDropped, transactionUpdate}
 use Rattle.rules.specs.Events.{eventAddSubgroup, eventSubgroupStart, eventAddGroup, Act, nothing, single, group, subgroup, keepalive, Turn, turnOf, eventAct, eventUpdate}
 use Rattle.rules.specs.Decoder.{appendBytes, pushPacket, handleRawPacket, suspendAt, suspend, endPhase, endAllActive, endAll, handleEvent, finish, handleDetail}
@@ -45,6 +44,7 @@ use Rattle.rules.specs.Linked.{excused, linkedAt, LinkedIn, Linked}
 use Rattle.rules.specs.declared.Slot.{Slot}
 use Rattle.rules.specs.declared.Slot.the-variants.{Empty, Current, Suspended}
 use Rattle.rules.specs.declared.EventState.the-variants.{Idle}
+use Rattle.rules.proofs.Seen.{Seen, packet-seen, start-seen}
 
 -- linked, whatever the slot
 any-slot : (s : Slot) (t : Transaction) (f : ℕ → Endpoint) → linkedAt t f ≡ true → LinkedIn s t f
@@ -186,49 +186,14 @@ awake-ends Empty b c w q a = rw q tt
 awake-ends Current b c w q a = tt
 awake-ends Suspended b c w q a = absurd a
 
-add-slot : (g : Found) (d a : ℕ) (w : World) → addEndpointOn g d a w .slot ≡ w .slot
-add-slot (At i) d a w = refl
-add-slot Nothing d a w = refl
-
-place-slot : (g : Found) (pid : ℕ) (p : List ℕ) (w : World) → packetEndpointAt g pid p w .slot ≡ w .slot
-place-slot (At i) pid p w = refl
-place-slot Nothing pid p w = add-slot (deviceFor _ w) _ _ w
-
 token-slot : (s : Style) (pid : ℕ) (p : List ℕ) (w : World) → appendToken s pid p w .slot ≡ w .slot
 token-slot NoStyle pid p w = refl
 token-slot (Simple first) pid p w = refl
-token-slot (Split sc kind) pid p w = place-slot (found pid p w) pid p w
+token-slot (Split sc kind) pid p w = ap (λ (s : Seen). s .slot) (packet-seen pid p w)
 token-slot (Token sc kind first) pid p w = refl
 
-endEarly-slot : (p : Phase) (x : ℕ) (w : World) → endEarly p x w .slot ≡ w .slot
-endEarly-slot None x w = refl
-endEarly-slot Early x w = refl
-endEarly-slot Active x w = refl
-endEarly-slot Ended x w = refl
-
-endActive-slot : (p : Phase) (x : ℕ) (w : World) → endActive p x w .slot ≡ w .slot
-endActive-slot None x w = refl
-endActive-slot Early x w = refl
-endActive-slot Active x w = refl
-endActive-slot Ended x w = refl
-
-once-slot : (b : Bool) (x : ℕ) (w : World) → pick b w (link x w) .slot ≡ w .slot
-once-slot true x w = refl
-once-slot false x w = refl
-
-early-slot : (b : Bool) (x : ℕ) (w : World) → pick b (change x (withPhase Early) (addGroup x (endEarly (phase x w) x w))) w .slot ≡ w .slot
-early-slot true x w = once-slot (v .transaction .linked) x v ∙ (endActive-slot (phase x u) x u ∙ endEarly-slot (phase x w) x w)
-  where
-    u : World
-    u = endEarly (phase x w) x w
-
-    v : World
-    v = endActive (phase x u) x u
-early-slot false x w = refl
-
 begun-slot : (x kind pid n : ℕ) (w : World) → beginOn x kind pid n w .slot ≡ Current
-unfolding groupEarlyStart
-begun-slot x kind pid n w = early-slot (startsEarly pid (phase x w)) x (begin (newTransaction (Simple pid) n pid x kind) w)
+begun-slot x kind pid n w = ap (λ (s : Seen). s .slot) (start-seen pid x (begin (newTransaction (Simple pid) n pid x kind) w))
 
 started-slot : (n pid : ℕ) (p : List ℕ) (w : World) → transactionStart n pid p w .slot ≡ Current
 started-slot n pid p w = by (eqb pid MALFORMED) (eqb pid SPLIT)

@@ -48,7 +48,7 @@ use Rattle.rules.proofs.Keeps.{Holds, Keeps, passed, item-keeps, entry-
 
 -- ---- where a token's endpoint is found: at a row that is there, and not at the event endpoint's
 
-abbrev Spot : Found → ℕ → Type 0
+abbrev pub Spot : Found → ℕ → Type 0
 Spot (At i) n = (i < n) × ¬ (i ≡ 0)
 Spot Nothing n = Unit {0}
 
@@ -79,7 +79,7 @@ not-16 : (b : Bool) (n : ℕ) → n < 16 → ¬ (pick b (n + 128) n ≡ 16)
 not-16 true n h z = omega arith
 not-16 false n h z = omega arith
 
-found-spot : (pid : ℕ) (p : List ℕ) (w : World) → 3 ≤ w .count → w .endpoints 0 .address ≡ 16 → Spot (found pid p w) (w .count)
+pub found-spot : (pid : ℕ) (p : List ℕ) (w : World) → 3 ≤ w .count → w .endpoints 0 .address ≡ 16 → Spot (found pid p w) (w .count)
 found-spot pid p w t s = by (eqb pid SOF) ((SETUP or IN or OUT or only PING) pid)
   where
     by : (a b : Bool) → Spot (pick a (At 2) (pick b (endpointLookup (deviceFor (tokenOf p .address) w) (addressFor pid (tokenOf p .number)) w) (At 1))) (w .count)
@@ -158,7 +158,7 @@ module _ (base : List Row) where
         by true = stays w w (λ e l. l)
         by false = stays w (linkOnce (w .transaction .endpoint) w) (λ e l. linkOnce-keeps base e c y (w .transaction .endpoint) w l)
 
-    resuming : (z : Slot) (n : ℕ) (w : World) → Moves c y w (resumeAt z n w)
+    pub resuming : (z : Slot) (n : ℕ) (w : World) → Moves c y w (resumeAt z n w)
     resuming Empty n w = stays w w (λ e l. l)
     resuming Current n w = stays w w (λ e l. l)
     resuming Suspended n w = stays w (link (w .transaction .endpoint) v) (λ e l. link-keeps base e c y (w .transaction .endpoint) v (passed l))
@@ -272,7 +272,7 @@ module _ (base : List Row) where
         let m : Moves c y w (transactionAppend pid p w) = appended c y f t pid p w z in
         then m (ending (m .c′) (m .y′) (m .fits) (m .three) s k (transactionAppend pid p w))
 
-    abbrev extracting : (w : World) → Moves c y w (extracted pid p w)
+    abbrev pub extracting : (w : World) → Moves c y w (extracted pid p w)
     extracting w =
         stays c y f t w (extracted pid p w) (λ e l. record { facts = l .facts; inside = l .inside; unused = l .unused; quiet = l .quiet; special = l .special; size = l .size; target = extract-keeps (w .transaction) pid (length p) (setupDataOf p) .endpoint ∙ l .target })
 

@@ -8,3 +8,4 @@ pub mod Decoder
 pub mod Marks
 pub mod Demand
 pub mod Linked
+pub mod Tokened
