@@ -9,6 +9,7 @@ pub mod bench;
 pub mod calls;
 pub mod crates;
 pub mod generate;
+pub mod lemmas;
 pub mod listing;
 pub mod packets;
 pub mod selfcheck;

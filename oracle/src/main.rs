@@ -6,7 +6,7 @@ use std::process::ExitCode;
 use oracle::calls::{LOGS, Rows};
 use oracle::decoder::machine::Machine;
 use oracle::generate::{KINDS, download, generate};
-use oracle::{bench, listing, selfcheck, trace, traces};
+use oracle::{bench, lemmas, listing, selfcheck, trace, traces};
 
 const USAGE: &str = "usage: oracle COMMAND
   listing [OPTION..]     a UTL trace on standard input; prints the listing of document 01
@@ -17,6 +17,7 @@ const USAGE: &str = "usage: oracle COMMAND
   selfcheck N            N random calls, 01's well-formed list and demand 3 after each; then the mutants
   traces DIR             writes the traces of the repository and the listings that they must give
   traces --check DIR     compares them with what stands in DIR
+  lemmas SEED RUNS CALLS writes the sequences of `traces` and RUNS random runs of CALLS records as lemmas of crates/rules (proofs/Oracle.antt)
 options:
   --program              room and buffer of the program `listing` (docs/SIZES.md); otherwise the largest that 01 allows
   --room LOG=ROWS        room of one log; LOG is one of
@@ -103,6 +104,7 @@ fn run(words: &[String]) -> Result<bool, String> {
         }
         ("selfcheck", [n]) => return Ok(selfcheck::report(number(n)?)),
         ("traces", [folder]) => traces::write(folder)?,
+        ("lemmas", [seed, runs, calls]) => output(lemmas::lemmas(number(seed)?, number(runs)?, number(calls)?).as_bytes())?,
         ("traces", [flag, folder]) if flag == "--check" => traces::check(folder)?,
         _ => return Err(USAGE.to_string()),
     }

@@ -13,7 +13,7 @@ use crate::trace::Writer;
 use crate::usb::PID;
 
 /// Sequences by name. `script` says how they are written.
-const SEQUENCES: &[(&str, &str)] = &[
+pub const SEQUENCES: &[(&str, &str)] = &[
     // 01, "Trace and listing": the worked example.
     ("worked", "raw A5 00 10; raw D2"),
     // 01, "Bench cases".

@@ -1,0 +1,112 @@
+-- Demand 3 on the marks, after every sequence of calls.
+use mathlib.Core.Path.{_≡_, refl, sym, ap, _∙_}
+use mathlib.Core.Bool.{Bool, true, false}
+use mathlib.Core.List.{List, [], _∷_, _++_}
+use Prim.Native.Nat.{ℕ, zero, suc, _+_, _<_, _≤_}
+use native.Mathlib.Omega.{arith}
+use lib.Dec.{eqb}
+use lib.ListN.{length, length-append}
+use Rattle.transaction.specs.Table.{pick}
+use Rattle.tables.specs.Details.{fresh}
+use Rattle.tables.specs.declared.Endpoint.{Endpoint}
+use Rattle.tables.specs.declared.Phase.{Phase}
+use Rattle.tables.specs.declared.Phase.the-variants.{None, Early, Active, Ended}
+use Rattle.rules.specs.Rows.{Row}
+use Rattle.rules.specs.World.{World, phase, withJournal, newEndpoint}
+use Rattle.rules.specs.Decoder as Decoder
+use Rattle.rules.specs.Marks.{Mark, marks, starts, endings, closings}
+use Rattle.rules.specs.Demand.{Call, call, Reach, begin, next, upTo, Standing, none, open-one, waiting-one, Demand3, OnMarks}
+use Rattle.rules.proofs.Facts.{Facts, pass, extra, one}
+use Rattle.rules.proofs.Facts as facts
+use Rattle.rules.proofs.Loops.{openOf, waitOf}
+use Rattle.rules.proofs.Keeps.{Holds, Keeps}
+use Rattle.rules.proofs.Moves.{Moves, calls}
+
+-- of every endpoint: c of them are there, and the transaction is on y
+pub record Sound (js : List Row) (w : World) : Type 0 where
+  pub c : ℕ
+  pub y : ℕ
+  pub fits : y < c
+  pub three : 3 ≤ c
+  pub keeps : (e : ℕ) → Keeps js e c y (withJournal [] w)
+
+sound : (js : List Row) (w : World) (k : Call) → Sound js w → Sound (call k (withJournal [] w) .journal ++ js) (call k (withJournal [] w))
+sound js w k s = record { c = m .c′; y = m .y′; fits = m .fits; three = m .three; keeps = λ e. m .keeps e (s .keeps e) }
+  where
+    m : Moves js (s .c) (s .y) (withJournal [] w) (call k (withJournal [] w))
+    m = calls js (s .c) (s .y) (s .fits) (s .three) k (withJournal [] w) (s .keeps 0)
+
+fresh-keeps : (e : ℕ) → Keeps (Decoder.fresh .journal) e 3 0 (withJournal [] Decoder.fresh)
+unfolding fresh
+fresh-keeps e = new (place (eqb e 2) (eqb e 1) (eqb e 0) .phase) _ _ (none-yet (eqb e 2) (eqb e 1) (eqb e 0)) (no-groups (eqb e 2) (eqb e 1) (eqb e 0)) (λ z. rw z)
+  where
+    place : (i j k : Bool) → Endpoint
+    place i j k = pick i (newEndpoint 0 18) (pick j (newEndpoint 0 17) (pick k (newEndpoint 0 16) (newEndpoint 0 0)))
+
+    new : (p : Phase) (g d : ℕ) → p ≡ None → g ≡ 0 → (e ≡ 0 → d ≡ 16) → Holds e 3 0 p g d 3 0 0 (marks e (Decoder.fresh .journal))
+    new p g d q h s = rw (q, h) (record { facts = pass (pass (pass (pass (facts.fresh e)))); inside = tt; unused = λ i. refl; quiet = λ i. refl; special = s; size = refl; target = refl })
+
+    none-yet : (i j k : Bool) → place i j k .phase ≡ None
+    none-yet true j k = refl
+    none-yet false true k = refl
+    none-yet false false true = refl
+    none-yet false false false = refl
+
+    no-groups : (i j k : Bool) → place i j k .groups ≡ 0
+    no-groups true j k = refl
+    no-groups false true k = refl
+    no-groups false false true = refl
+    no-groups false false false = refl
+
+pub always : {js : List Row} {w : World} → Reach js w → Sound js w
+always begin = record { c = 3; y = 0; fits = omega arith; three = omega arith; keeps = fresh-keeps }
+always (next {js} {w} k r) = sound js w k (always r)
+
+length-upTo : (n : ℕ) → length (upTo n) ≡ n
+length-upTo zero = refl
+length-upTo (suc n) = simp length-append (omega (arith, length-upTo n))
+
+module _ {e g n : ℕ} {ms : List Mark} where
+  pub ended-length : (p : Phase) → Facts e (openOf p) (waitOf p) g n ms → length (endings ms) ≡ length (closings ms) + extra (waitOf p)
+  ended-length p f = ap length (f .finished _ refl) ∙ length-upTo _
+
+  stand : (p : Phase) → ¬ (e ≡ 0) → Facts e (openOf p) (waitOf p) g n ms → Standing (starts ms) (length (endings ms)) (length (closings ms))
+  stand None d f = let a = f .grouped d in let b = f .counted d in let l = ended-length None f in none (omega arith) (omega arith)
+  stand Early d f = let a = f .grouped d in let b = f .counted d in let l = ended-length Early f in open-one (omega arith) (omega arith)
+  stand Active d f = let a = f .grouped d in let b = f .counted d in let l = ended-length Active f in open-one (omega arith) (omega arith)
+  stand Ended d f = let a = f .grouped d in let b = f .counted d in let l = ended-length Ended f in waiting-one (omega arith) (omega arith)
+
+pub demand3 : {js : List Row} {w : World} → Reach js w → (e : ℕ) → ¬ (e ≡ 0) → OnMarks e js
+demand3 {js} {w} r e d =
+    let l : Keeps js e (always r .c) (always r .y) (withJournal [] w) = always r .keeps e in
+    let f = l .facts in
+    record { standing = stand (phase e w) d f; ended = f .finished (length (endings (marks e js))) (ended-length (phase e w) f); closing = f .named; asserted = f .asserted }
+
+-- ---- what the world's own numbers say, for the crates above
+
+abbrev pub unclosed : Phase → ℕ
+unclosed None = 0
+unclosed Early = 1
+unclosed Active = 1
+unclosed Ended = 1
+
+-- the groups of an endpoint are its G rows: those closed, and the one that its phase speaks of
+pub groups-are : {js : List Row} {w : World} → Reach js w → (e : ℕ) → ¬ (e ≡ 0) → (starts (marks e js) ≡ w .endpoints e .groups) × (w .endpoints e .groups ≡ length (closings (marks e js)) + unclosed (phase e w))
+groups-are {js} {w} r e d = (l .facts .grouped d, l .facts .counted d ∙ by (phase e w))
+  where
+    l : Keeps js e (always r .c) (always r .y) (withJournal [] w)
+    l = always r .keeps e
+
+    by : (p : Phase) → length (closings (marks e js)) + (extra (waitOf p) + one (openOf p)) ≡ length (closings (marks e js)) + unclosed p
+    by None = refl
+    by Early = refl
+    by Active = refl
+    by Ended = refl
+
+-- the three special endpoints are there, and the transaction's endpoint is
+pub endpoints-there : {js : List Row} {w : World} → Reach js w → (3 ≤ w .count) × (w .transaction .endpoint < w .count)
+endpoints-there {js} {w} r =
+    let s : Sound js w = always r in
+    let k = s .keeps 0 .size in
+    let t = s .keeps 0 .target in
+    (omega (arith, s .three), omega (arith, s .fits))

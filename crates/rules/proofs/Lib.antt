@@ -1,0 +1,11 @@
+pub mod Facts
+pub mod Loops
+pub mod Keeps
+pub mod Moves
+pub mod Demand
+pub mod Links
+pub mod Seen
+pub mod Linked
+pub mod Tokened
+pub mod Runs
+pub mod Oracle

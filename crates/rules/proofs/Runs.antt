@@ -1,0 +1,31 @@
+-- A run of calls from a fresh decoder, computed; what it leaves in each log (proofs/Oracle.antt).
+use mathlib.Core.Path.{_≡_}
+use mathlib.Core.List.{List, [], _∷_}
+use Prim.Native.Nat.{ℕ, zero, suc}
+use lib.ListN.{getD}
+use Rattle.rules.specs.Rows.{log}
+use Rattle.rules.specs.World.{World, withEndpoints, withDevices}
+use Rattle.rules.specs.Decoder.{nothingYet, fresh}
+use Rattle.rules.specs.Demand.{Call, call}
+
+abbrev below : {A : Type 0} → ℕ → (ℕ → A) → List A → List A
+below zero f acc = acc
+below (suc n) f acc = below n f (f n ∷ acc)
+
+-- the tables written out, so that the next call computes with values
+abbrev settle : World → World
+settle w =
+    let es = below (w .count) (w .endpoints) [] in
+    let ds = below (w .deviceCount) (w .devices) [] in
+    withDevices (λ j. getD ds j (nothingYet .devices j)) (withEndpoints (λ j. getD es j (nothingYet .endpoints j)) w)
+
+abbrev pub runs : List Call → World → World
+runs [] w = w
+runs (k ∷ ks) w = runs ks (settle (call k w))
+
+-- each log of a world, in the order of their numbers
+abbrev pub logs : World → List (List ℕ)
+logs w = below 12 (λ k. log k (w .journal)) []
+
+abbrev pub Leaves : List Call → List (List ℕ) → Type 0
+Leaves calls words = logs (runs calls fresh) ≡ words

@@ -1,0 +1,191 @@
+-- After every sequence of calls a transaction lacks an endpoint exactly if it is a split without its token.
+use mathlib.Core.Path.{_≡_, refl, sym, ap, _∙_, subst}
+use mathlib.Core.Bool.{Bool, true, false}
+use mathlib.Core.List.{List, []}
+use Prim.Native.Nat.{ℕ, suc, _<_, _≤_}
+use native.Mathlib.Omega.{arith}
+use lib.Dec.{eqb}
+use Rattle.usb.specs.Pid.{SPLIT, MALFORMED}
+use Rattle.transaction.specs.Table.{pick}
+use Rattle.transaction.specs.Status.{transactionStatus}
+use Rattle.transaction.specs.declared.Judged.{Judged}
+use Rattle.transaction.specs.declared.Style.{Style}
+use Rattle.transaction.specs.declared.Style.the-variants.{Nothing as NoStyle, Simple, Split, Token}
+use Rattle.transaction.specs.declared.Status.{Status}
+use Rattle.transaction.specs.declared.Status.the-variants.{New, Continue, Retry, Done, Fail, Ambiguous, Invalid}
+use Rattle.tables.specs.Details.{fresh}
+use Rattle.tables.specs.Kind.{Unknown}
+use Rattle.tables.specs.declared.Found.{Found}
+use Rattle.tables.specs.declared.Found.the-variants.{At, Nothing}
+use Rattle.rules.specs.Rows.{Row, EventRow}
+use Rattle.rules.specs.World.{World, push, withSlot, withJournal, withKeepalive, withEventState}
+use Rattle.rules.specs.Endpoints.{deviceFor, found, packetEndpoint, numberAt, endpointOf, setDetailOn}
+use Rattle.rules.specs.Groups.{groupEarlyAppend}
+use Rattle.rules.specs.Transactions.{transactionEndAt, transactionEnd, appendToken, transactionAppend, pushTransaction, begin, typeOf, beginOn, beginSplit, beginPlain, transactionStart, resumeAt, stateAt, completes, extracted, updateAt, updateFrom, isDropped, transactionUpdate}
+use Rattle.rules.specs.Events.{eventSubgroupStart, eventAddGroup, Act, nothing, single, group, subgroup, keepalive, turnOf, eventAct, eventUpdate}
+use Rattle.rules.specs.Decoder.{appendBytes, pushPacket, handleRawPacket, suspendAt, suspend, endAll, handleEvent, finish, handleDetail}
+use Rattle.rules.specs.Decoder as Decoder
+use Rattle.rules.specs.Demand.{Call, packet, event, detail, finishing, call, Reach, next}
+use Rattle.rules.specs.Demand.{begin as reached}
+use Rattle.rules.specs.Tokened.{TokenedAt, TokenedIn, Tokened}
+use Rattle.rules.specs.declared.Slot.{Slot}
+use Rattle.rules.specs.declared.Slot.the-variants.{Empty, Current, Suspended}
+use Rattle.rules.specs.declared.EventState.the-variants.{Idle}
+use Rattle.rules.proofs.Keeps.{Keeps, passed}
+use Rattle.rules.proofs.Seen.{Seen, seen, packet-seen, start-seen, append-seen, extract-seen}
+use Rattle.rules.proofs.Moves.{Spot, found-spot, Moves, ending, extracting, resuming}
+use Rattle.rules.proofs.Demand.{Sound, always}
+
+-- it goes by what is seen of the transaction
+abbrev In : Seen → Type 0
+In s = TokenedIn (s .slot) (s .style) (s .endpoint)
+
+carried : {a b : Seen} → b ≡ a → In a → In b
+carried q h = subst In (sym q) h
+
+real-in : (s : Slot) (sc kind pid x : ℕ) → ¬ (x ≡ 0) → TokenedIn s (Token sc kind pid) x
+real-in Empty sc kind pid x d = tt
+real-in Current sc kind pid x d = d
+real-in Suspended sc kind pid x d = d
+
+-- ---- transaction_end, transaction_append, transaction_start
+
+end-at : (s : Slot) (b c : Bool) (w : World) → w .slot ≡ s → Tokened w → Tokened (transactionEndAt s b c w)
+end-at Empty b c w q h = h
+end-at Current b c w q h = tt
+end-at Suspended b c w q h = h
+
+ends : (b c : Bool) (w : World) → Tokened w → Tokened (transactionEnd b c w)
+ends b c w h = end-at (w .slot) b c w refl h
+
+number-real : (g : Found) (w : World) → 3 ≤ w .count → Spot g (w .count) → ¬ (numberAt g w ≡ 0)
+number-real (At i) w t s = s .1
+number-real Nothing w t s = λ z. omega arith
+
+module _ (base : List Row) (pid : ℕ) (p : List ℕ) where
+  endpoint-real : (c y : ℕ) (w : World) → 3 ≤ c → Keeps base 0 c y w → ¬ (endpointOf pid p w ≡ 0)
+  endpoint-real c y w t z =
+      let q = z .size in
+      let l : 3 ≤ w .count = omega arith in
+      number-real (found pid p w) w l (found-spot pid p w l (z .special refl))
+
+  token : (c y : ℕ) → 3 ≤ c → (s : Style) (w : World) → Keeps base 0 c y w → Tokened w → Tokened (appendToken s pid p w)
+  token c y t NoStyle w z h = h
+  token c y t (Simple first) w z h = h
+  token c y t (Split sc kind) w z h =
+      rw (ap (λ (s : Seen). s .slot) (packet-seen pid p w)) (real-in (w .slot) sc kind pid (endpointOf pid p w) (endpoint-real c y w t z))
+  token c y t (Token sc kind first) w z h = h
+
+  appends : (c y : ℕ) → 3 ≤ c → (w : World) → Keeps base 0 c y w → Tokened w → Tokened (transactionAppend pid p w)
+  appends c y t w z h = token c y t (w .transaction .style) w z h
+
+  on : (x kind n : ℕ) (w : World) → ¬ (x ≡ 0) → Tokened (beginOn x kind pid n w)
+  on x kind n w d = carried (start-seen pid x _) d
+
+  starts : (c y : ℕ) → 3 ≤ c → (n : ℕ) (w : World) → Keeps base 0 c y w → Tokened (transactionStart n pid p w)
+  starts c y t n w z = by (eqb pid MALFORMED) (eqb pid SPLIT)
+    where
+      v : World
+      v = pushTransaction n w
+
+      x : ℕ
+      x = endpointOf pid p v
+
+      by : (a b : Bool) → Tokened (pick a (beginOn 1 Unknown pid (w .transactions) v) (pick b (beginSplit p pid (w .transactions) v) (beginPlain pid p (w .transactions) v)))
+      by true b = on 1 Unknown (w .transactions) v (λ h. omega arith)
+      by false true = refl
+      by false false = on x (typeOf x (packetEndpoint pid p v)) (w .transactions) (packetEndpoint pid p v) (endpoint-real c y v t (passed z))
+
+  -- ---- transaction_update
+
+  module _ (c y : ℕ) (f : y < c) (t : 3 ≤ c) where
+    appended : (n : ℕ) (w : World) → Keeps base 0 c y w → Tokened w → Tokened (transactionAppend pid p (extracted pid p w))
+    appended n w z h = appends c y t (extracted pid p w) (extracting base c y f t n pid p w .keeps 0 z) (carried (extract-seen pid p w) h)
+
+    updates : (s : Status) (n : ℕ) (k : Bool) (w : World) → Keeps base 0 c y w → Tokened w → Tokened (updateAt s n pid p k w)
+    updates New n k w z h = carried (append-seen (transactionStart n pid p v)) (starts (m .c′) (m .y′) (m .three) n v (m .keeps 0 (extracting base c y f t n pid p w .keeps 0 z)))
+      where
+        v : World
+        v = transactionEnd false false (extracted pid p w)
+
+        m : Moves base c y (extracted pid p w) v
+        m = ending base c y f t false false (extracted pid p w)
+    updates Continue n k w z h = carried (append-seen (transactionAppend pid p (extracted pid p w))) (appended n w z h)
+    updates Retry n k w z h = ends true k (transactionAppend pid p (extracted pid p w)) (appended n w z h)
+    updates Done n k w z h = ends true k (transactionAppend pid p (extracted pid p w)) (appended n w z h)
+    updates Fail n k w z h = ends false k (transactionAppend pid p (extracted pid p w)) (appended n w z h)
+    updates Ambiguous n k w z h = appended n w z h
+    updates Invalid n k w z h = ends false false (transactionStart n pid p w) (starts c y t n w z)
+
+resumes : (s : Slot) (n : ℕ) (w : World) → w .slot ≡ s → Tokened w → Tokened (resumeAt s n w)
+resumes Empty n w q h = h
+resumes Current n w q h = h
+resumes Suspended n w q h = rw q at h
+
+packets : (js : List Row) (c y : ℕ) → y < c → 3 ≤ c → (p : List ℕ) (time : ℕ) (w : World) → Keeps js 0 c y w → Tokened w → Tokened (handleRawPacket p time w)
+unfolding handleRawPacket transactionUpdate
+packets js c y f t p time w z h = by (isDropped (w .slot) (w .transaction))
+  where
+    v : World
+    v = pushPacket (w .bytes) time (appendBytes p (withEventState Idle w))
+
+    u : World
+    u = resumeAt (w .slot) (w .packets) v
+
+    m : Moves js c y v u
+    m = resuming js c y f t (w .slot) (w .packets) v
+
+    j : Judged
+    j = transactionStatus (stateAt (u .slot) (u .transaction)) p
+
+    by : (b : Bool) → Tokened (pick b (withSlot Empty v) (updateFrom (w .packets) p u))
+    by true = tt
+    by false =
+        updates js (j .pid) p (m .c′) (m .y′) (m .fits) (m .three) (j .status) (w .packets) (completes (stateAt (u .slot) (u .transaction) .style) (j .status)) u (m .keeps 0 (passed (passed z))) (resumes (w .slot) (w .packets) v refl h)
+
+-- ---- events, details
+
+acts : (a : Act) (n : ℕ) (w : World) → Tokened w → Tokened (eventAct a n w)
+acts nothing n w h = h
+acts single n w h = ends false false w h
+acts group n w h = ends false false w h
+acts subgroup n w h = ends false false w h
+acts keepalive n w h = by (w .keepalive)
+  where
+    by : (b : Bool) → Tokened (pick b (eventSubgroupStart n w) (withKeepalive true (eventAddGroup n true w)))
+    by true = ends false false w h
+    by false = ends false false w h
+
+suspends : (s : Slot) (t : Style) (x : ℕ) → TokenedIn s t x → TokenedIn (suspendAt s) t x
+suspends Empty t x h = tt
+suspends Current t x h = h
+suspends Suspended t x h = tt
+
+events : (kind code time : ℕ) (w : World) → Tokened w → Tokened (handleEvent kind code time w)
+unfolding handleEvent eventUpdate
+events kind code time w h = by (eqb kind 0)
+  where
+    by : (b : Bool) → Tokened (eventUpdate (w .packets) kind (push (EventRow (w .packets) code) (pushPacket (w .bytes) time (pick b (suspend w) (endAll w)))))
+    by true = acts (turnOf (w .eventState) kind .act) (w .packets) (push (EventRow (w .packets) code) (pushPacket (w .bytes) time (suspend w))) (suspends (w .slot) (w .transaction .style) (w .transaction .endpoint) h)
+    by false = acts (turnOf (endAll w .eventState) kind .act) (w .packets) (push (EventRow (w .packets) code) (pushPacket (w .bytes) time (endAll w))) (ends false false w h)
+
+details : (g : Found) (number direction kind max : ℕ) (w : World) → Tokened w → Tokened (setDetailOn g number direction kind max w)
+details (At i) number direction kind max w h = h
+details Nothing number direction kind max w h = h
+
+calls : (js : List Row) (c y : ℕ) → y < c → 3 ≤ c → (k : Call) (w : World) → Keeps js 0 c y w → Tokened w → Tokened (call k w)
+unfolding handleDetail finish
+calls js c y f t (packet p time) w z h = packets js c y f t p time w z h
+calls js c y f t (event kind code time) w z h = events kind code time w h
+calls js c y f t (detail a number r kind m) w z h = details (deviceFor a w) number r kind m w h
+calls js c y f t finishing w z h = ends false false w h
+
+fresh-tokened : Tokened Decoder.fresh
+unfolding fresh
+fresh-tokened = tt
+
+pub tokened-always : {js : List Row} {w : World} → Reach js w → Tokened w
+tokened-always reached = fresh-tokened
+tokened-always (next {js} {w} k r) =
+    let s : Sound js w = always r in
+    calls js (s .c) (s .y) (s .fits) (s .three) k (withJournal [] w) (s .keeps 0) (tokened-always r)

@@ -1,0 +1,11 @@
+pub mod Rows
+pub mod World
+pub mod Endpoints
+pub mod Groups
+pub mod Transactions
+pub mod Events
+pub mod Decoder
+pub mod Marks
+pub mod Demand
+pub mod Linked
+pub mod Tokened

@@ -1,0 +1,21 @@
+// The grouping as rules on a world (specs/): only the types that the crates above share.
+
+// The one transaction that a decoder may hold: transaction_state or suspended_transaction of the Rust, never both.
+pub enum Slot {
+    Empty,
+    Current,
+    // An LS keepalive suspended it.
+    Suspended,
+}
+
+// EventState of the Rust.
+pub enum EventState {
+    Idle,
+    LsKeepaliveGroup,
+    AwaitDeviceChirp,
+    PartialDeviceChirp,
+    ValidDeviceChirp,
+    AwaitHostChirp,
+    PartialHostChirp,
+    ValidHostChirp,
+}

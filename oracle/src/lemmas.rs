@@ -1,0 +1,134 @@
+//! Runs of the Rust as lemmas of the crate `rules`: the calls, and the words that they leave in each of the twelve logs.
+
+use std::fmt::Write;
+
+use crate::calls::{Calls, Mechanism, Rows};
+use crate::capture::CaptureWriter;
+use crate::decoder::machine::Machine;
+use crate::generate::{KINDS, generate};
+use crate::storage::Mark;
+use crate::trace::{Clock, Reader, Record, call};
+use crate::traces::{SEQUENCES, written};
+
+/// Sequences in which a keepalive shows where a row is written: a T row at the token, a group row at the SETUP.
+const PLACES: &[(&str, &str)] = &[
+    (
+        "linked-at-token",
+        "SETUP 0 0; DATA0 =80 06 00 01 00 00 12 00; ACK; IN 0 0; event 0; DATA1 *8; ACK; OUT 0 0; event 0; DATA1 *0; ACK",
+    ),
+    (
+        "setup-in-transfer",
+        "SETUP 0 0; DATA0 =80 06 00 01 00 00 12 00; ACK; IN 0 0; DATA1 *8; ACK; SETUP 0 0; event 0; DATA0 =80 06 00 01 00 00 12 00; ACK",
+    ),
+];
+
+/// A longer packet is left out of a run: its CRC would be computed bit by bit.
+const LONGEST: usize = 80;
+
+const HEADER: &str = "\
+-- Runs of the Rust of docs/src, and the words that it left in each log: written by `oracle lemmas SEED RUNS CALLS` (oracle/), not by hand.
+use mathlib.Core.Path.{refl}
+use mathlib.Core.List.{List, [], _∷_}
+use Rattle.crc.specs.Crc.{step, bits, bytes, crc5Of, crc16Of}
+use Rattle.usb.specs.Bits.{after}
+use Rattle.usb.specs.Packet.{formatOf, tokenOk, splitOk, dataOk, handshakeOk, formatOk, checkedOf}
+use Rattle.transaction.specs.Status.{transactionStatus}
+use Rattle.transaction.specs.Payload.{extractPayload}
+use Rattle.tables.specs.Details.{detailsOf, withType, withDetail, fresh}
+use Rattle.group.specs.Control.{setupGroup, controlGroup}
+use Rattle.group.specs.Data.{beginGroup, repeatGroup, otherGroup}
+use Rattle.group.specs.Group.{groupStatus}
+use Rattle.rules.specs.Groups.{groupUpdate, groupEarlyStart, groupEarlyAppend}
+use Rattle.rules.specs.Transactions.{transactionUpdate}
+use Rattle.rules.specs.Events.{eventUpdate}
+use Rattle.rules.specs.Decoder.{handleRawPacket, handleEvent, handleDetail, finish}
+use Rattle.rules.specs.Demand.{packet, event, detail, finishing}
+use Rattle.rules.proofs.Runs.{Leaves}
+";
+
+const PROOF: &str = "unfolding step bits bytes crc5Of crc16Of after formatOf tokenOk splitOk dataOk handshakeOk formatOk checkedOf transactionStatus \
+                     extractPayload detailsOf withType withDetail fresh setupGroup controlGroup beginGroup repeatGroup otherGroup groupStatus \
+                     groupUpdate groupEarlyStart groupEarlyAppend transactionUpdate eventUpdate handleRawPacket handleEvent handleDetail finish";
+
+fn list(items: impl Iterator<Item = String>) -> String {
+    let mut text: String = items.map(|item| format!("{item} ∷ ")).collect();
+    text.push_str("[]");
+    text
+}
+
+fn numbers(words: &[u64]) -> String {
+    format!("({})", list(words.iter().map(u64::to_string)))
+}
+
+fn written_call(record: &Record, time: u64) -> String {
+    match record {
+        Record::Packet { bytes, .. } => format!("packet ({}) {time}", list(bytes.iter().map(|b| format!("0x{b:02X}")))),
+        Record::Event { kind, code, .. } => format!("event {kind} {code} {time}"),
+        Record::Detail { address, number, direction, kind, max } => format!("detail {address} {number} {direction} {kind} {max}"),
+    }
+}
+
+/// The words of each log, in the order of `calls::LOGS`.
+fn words(c: &CaptureWriter) -> [Vec<u64>; 12] {
+    let links = |mark: &Mark| match *mark {
+        Mark::T(x, transaction) => vec![0, x, transaction, 0],
+        Mark::G(x, transaction) => vec![1, x, transaction, 0],
+        Mark::D(x, transaction, total) => vec![2, x, transaction, total],
+        Mark::E(x, item) => vec![3, x, item, 0],
+        Mark::Packet | Mark::Group(..) | Mark::Item(_) => vec![],
+    };
+    let starts = c.packet_index.stream.rows.iter();
+    [
+        c.packet_data.rows.iter().map(|b| *b as u64).collect(),
+        c.devices.rows.iter().map(|d| d.address.0 as u64).collect(),
+        c.endpoints.rows.iter().flat_map(|e| [e.device_id().value, e.number().0 as u64, e.direction() as u64]).collect(),
+        starts.zip(&c.packet_times.stream.rows).flat_map(|(start, time)| [*start, *time]).collect(),
+        c.event_index.stream.rows.iter().zip(&c.event_codes.rows).flat_map(|(packet, code)| [*packet, *code as u64]).collect(),
+        c.transaction_index.stream.rows.to_vec(),
+        c.group_index.rows.iter().flat_map(|g| [g.endpoint_id().value, g.group_id().value, g.is_start() as u64]).collect(),
+        c.endpoint_states.rows.iter().map(|s| *s as u64).collect(),
+        c.endpoint_state_index.stream.rows.to_vec(),
+        c.item_index.stream.rows.to_vec(),
+        c.counters.journal.borrow().marks.iter().flat_map(links).collect(),
+        c.shared.requests.borrow().iter().flat_map(|r| [r.endpoint, u64::from_le_bytes(r.setup), r.length]).collect(),
+    ]
+}
+
+/// A trace and its finish as one lemma: refused calls are no step, and a long packet is left out.
+fn lemma(name: &str, trace: &[u8]) -> String {
+    let mut calls = Calls::<Machine>::new(Rows::LARGEST, 0, false);
+    let mut reader = Reader::new(trace);
+    let mut clock = Clock::default();
+    let mut steps = Vec::new();
+    while let Some(Ok(record)) = reader.next() {
+        if matches!(record, Record::Packet { bytes, .. } if bytes.len() > LONGEST) {
+            continue;
+        }
+        let answer = call(&mut calls, &mut clock, &record);
+        if answer == 0 || answer == 8 {
+            let time = calls.machine.capture().packet_times.stream.rows.last().copied().unwrap_or(0);
+            steps.push(written_call(&record, time));
+        }
+    }
+    assert_eq!(calls.finish(), 0, "a run of ours is refused at its end");
+    steps.push("finishing".to_string());
+    let mut out = format!("\nrun-{name} :\n    Leaves ({})\n    (", list(steps.into_iter()));
+    for log in words(calls.machine.capture()) {
+        write!(out, "{} ∷ ", numbers(&log)).ok();
+    }
+    writeln!(out, "[])\n{PROOF}\nrun-{name} = refl").ok();
+    out
+}
+
+/// The sequences of `traces` and those above, and so many runs of so many records, each kind in turn.
+pub fn lemmas(seed: u64, runs: u64, records: u64) -> String {
+    let mut out = HEADER.to_string();
+    for (name, text) in SEQUENCES.iter().chain(PLACES) {
+        out += &lemma(name, &written(text));
+    }
+    for i in 0..runs {
+        let kind = KINDS[(i % KINDS.len() as u64) as usize].0;
+        out += &lemma(&format!("{kind}-{}", seed + i), &generate(seed + i, records, kind).expect("a kind of the list"));
+    }
+    out
+}
