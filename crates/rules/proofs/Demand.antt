@@ -1,7 +1,7 @@
 -- Demand 3 on the marks, after every sequence of calls.
-use mathlib.Core.Path.{_≡_, refl, sym, ap, _∙_}
+use mathlib.Core.Path.{_≡_, refl, ap, _∙_}
 use mathlib.Core.Bool.{Bool, true, false}
-use mathlib.Core.List.{List, [], _∷_, _++_}
+use mathlib.Core.List.{List, [], _++_}
 use Prim.Native.Nat.{ℕ, zero, suc, _+_, _<_, _≤_}
 use native.Mathlib.Omega.{arith}
 use lib.Dec.{eqb}
@@ -15,7 +15,7 @@ use Rattle.rules.specs.Rows.{Row}
 use Rattle.rules.specs.World.{World, phase, withJournal, newEndpoint}
 use Rattle.rules.specs.Decoder as Decoder
 use Rattle.rules.specs.Marks.{Mark, marks, starts, endings, closings}
-use Rattle.rules.specs.Demand.{Call, call, Reach, begin, next, upTo, Standing, none, open-one, waiting-one, Demand3, OnMarks}
+use Rattle.rules.specs.Demand.{Call, call, Reach, begin, next, upTo, Standing, none, open-one, waiting-one, OnMarks}
 use Rattle.rules.proofs.Facts.{Facts, pass, extra, one}
 use Rattle.rules.proofs.Facts as facts
 use Rattle.rules.proofs.Loops.{openOf, waitOf}

@@ -1,11 +1,11 @@
 -- Each function of Groups and Events keeps what holds of an endpoint e.
 use mathlib.Core.Path.{_≡_, refl, sym, ap, _∙_}
 use mathlib.Core.Bool.{Bool, true, false}
-use mathlib.Core.List.{List, [], _∷_, _++_}
-use Prim.Native.Nat.{ℕ, zero, suc, pred, _+_, _<_, _≤_}
+use mathlib.Core.List.{List, _∷_, _++_}
+use Prim.Native.Nat.{ℕ, suc, _<_, _≤_}
 use native.Mathlib.Omega.{arith}
 use lib.Dec.{eqb}
-use borrow.Author.Tests.{eqb-true, eqb-false, ne-eqb, eq-eqb}
+use borrow.Author.Tests.{eqb-true, eq-eqb}
 use Rattle.transaction.specs.Table.{pick}
 use Rattle.transaction.specs.Payload.{startPid}
 use Rattle.tables.specs.Table.{withPhase}
@@ -18,9 +18,9 @@ use Rattle.rules.specs.Rows.{Row, T}
 use Rattle.rules.specs.World.{World, phase, push, change, withTransaction, withLink, cleared, withLast, moreTransactions, moreGroups}
 use Rattle.rules.specs.Groups.{closePhase, addItem, addGroupEntry, link, linkOnce, pushGroup, over, endActive, addGroup, groupEndAt, groupEnd, activated, activate, groupStartAt, groupStart, groupAppendAt, groupAppend, groupStep, becomes, endEarly, groupEarlyStart, startsEarly}
 use Rattle.rules.specs.Decoder.{endAllActive, endPhase}
-use Rattle.rules.specs.Marks.{Mark, other, started, marks}
-use Rattle.rules.proofs.Facts.{Wait, calm, waits, Facts, pass, skip, begin, end}
-use Rattle.rules.proofs.Loops.{openOf, waitOf, Inside, miss, item-facts, over-facts}
+use Rattle.rules.specs.Marks.{Mark, other, marks}
+use Rattle.rules.proofs.Facts.{calm, Facts, pass, skip, begin, end}
+use Rattle.rules.proofs.Loops.{openOf, waitOf, Inside, item-facts, over-facts}
 
 -- early or active; neither
 abbrev pub Open : Phase → Type 0

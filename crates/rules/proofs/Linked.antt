@@ -2,7 +2,7 @@
 use mathlib.Core.Path.{_≡_, refl, sym, ap, _∙_}
 use mathlib.Core.Bool.{Bool, true, false, _||_, _&&_}
 use mathlib.Core.List.{List, [], _∷_}
-use Prim.Native.Nat.{ℕ, zero, suc}
+use Prim.Native.Nat.{ℕ}
 use native.Mathlib.Omega.{arith}
 use lib.Dec.{eqb}
 use lib.ListN.{length}
@@ -14,7 +14,7 @@ use Rattle.usb.specs.declared.Checked.the-variants.{Valid, Malformed}
 use Rattle.transaction.specs.Table.{pick, Row as Rule, fits, only, _or_, look}
 use Rattle.transaction.specs.Payload.{extractPayload}
 use Rattle.transaction.specs.Split.{splitRows}
-use Rattle.transaction.specs.Status.{judgedOf, statusOf, transactionStatus}
+use Rattle.transaction.specs.Status.{judgedOf, transactionStatus}
 use Rattle.transaction.proofs.Laws.{extract-keeps}
 use Rattle.transaction.specs.declared.Transaction.{Transaction}
 use Rattle.transaction.specs.declared.Judged.{Judged}
@@ -31,12 +31,12 @@ use Rattle.tables.specs.declared.Phase.{Phase}
 use Rattle.tables.specs.declared.Phase.the-variants.{None, Early, Active, Ended}
 use Rattle.group.specs.Step.{isActive}
 use Rattle.rules.specs.Rows.{Row, EventRow}
-use Rattle.rules.specs.World.{World, phase, push, change, withSlot, withTransaction, withEventState, withKeepalive, withJournal, moreTransactions, moreGroups, withPid, newTransaction}
+use Rattle.rules.specs.World.{World, phase, push, withSlot, withTransaction, withEventState, withKeepalive, withJournal, moreTransactions, moreGroups, withPid, newTransaction}
 use Rattle.rules.specs.Endpoints.{deviceFor, packetEndpoint, endpointOf, setDetailOn}
 use Rattle.rules.specs.Groups.{closePhase, undecided, groupEarlyAppend, link}
 use Rattle.rules.specs.Transactions.{transactionEndAt, transactionEnd, appendToken, transactionAppend, pushTransaction, begin, typeOf, beginOn, beginSplit, beginPlain, transactionStart, resumeAt, stateAt, completes, extracted, updateAt, updateFrom, isDropped, transactionUpdate}
-use Rattle.rules.specs.Events.{eventAddSubgroup, eventSubgroupStart, eventAddGroup, Act, nothing, single, group, subgroup, keepalive, Turn, turnOf, eventAct, eventUpdate}
-use Rattle.rules.specs.Decoder.{appendBytes, pushPacket, handleRawPacket, suspendAt, suspend, endPhase, endAllActive, endAll, handleEvent, finish, handleDetail}
+use Rattle.rules.specs.Events.{eventSubgroupStart, eventAddGroup, Act, nothing, single, group, subgroup, keepalive, turnOf, eventAct, eventUpdate}
+use Rattle.rules.specs.Decoder.{appendBytes, pushPacket, handleRawPacket, suspendAt, suspend, endPhase, endAll, handleEvent, finish, handleDetail}
 use Rattle.rules.specs.Decoder as Decoder
 use Rattle.rules.specs.Demand.{Call, packet, event, detail, finishing, call, Reach, next}
 use Rattle.rules.specs.Demand.{begin as reached}

@@ -2,7 +2,7 @@
 use mathlib.Core.Path.{_≡_, refl, sym, ap, _∙_}
 use mathlib.Core.Bool.{Bool, true, false, _&&_}
 use mathlib.Core.List.{List, [], _∷_, _++_, append-nil, append-assoc}
-use Prim.Native.Nat.{ℕ, suc, _+_}
+use Prim.Native.Nat.{ℕ, _+_}
 use native.Mathlib.Omega.{arith}
 use lib.Dec.{eqb}
 use lib.ListN.{length, length-append}
@@ -11,12 +11,12 @@ use Rattle.tables.specs.declared.Phase.{Phase}
 use Rattle.tables.specs.declared.Phase.the-variants.{None}
 use Rattle.rules.specs.Rows.{Row, BytesRow, DeviceRow, EndpointRow, PacketRow, EventRow, TransactionRow, GroupRow, StateRow, StateBytes, ItemRow, T, G, D, E, RequestRow, Over, written, log}
 use Rattle.rules.specs.World.{World, phase, withJournal}
-use Rattle.rules.specs.Marks.{Mark, other, started, ended, closed, mark, marks, starts, endings, closings, items}
-use Rattle.rules.specs.Demand.{Reach, upTo, linksOf, Demand3, OnMarks, OnLinks, Quiet}
+use Rattle.rules.specs.Marks.{Mark, other, started, ended, closed, mark, marks, starts, closings, items}
+use Rattle.rules.specs.Demand.{Reach, linksOf, OnMarks, OnLinks, Quiet}
 use Rattle.rules.proofs.Facts.{Facts, extra}
 use Rattle.rules.proofs.Loops.{openOf, waitOf}
 use Rattle.rules.proofs.Keeps.{Keeps}
-use Rattle.rules.proofs.Demand.{Sound, always, demand3}
+use Rattle.rules.proofs.Demand.{always, demand3}
 
 -- a row's words in the link log
 abbrev words : Row → List ℕ

@@ -1,8 +1,8 @@
 -- Each call keeps what holds of every endpoint: the functions of Endpoints, Transactions, Events and Decoder.
 use mathlib.Core.Path.{_≡_, refl, sym, ap, _∙_}
 use mathlib.Core.Bool.{Bool, true, false, _||_, _&&_, not}
-use mathlib.Core.List.{List, [], _∷_, _++_}
-use Prim.Native.Nat.{ℕ, zero, suc, pred, _+_, _<_, _≤_}
+use mathlib.Core.List.{List}
+use Prim.Native.Nat.{ℕ, suc, pred, _+_, _<_, _≤_}
 use native.Mathlib.Nat.{mod-lt}
 use native.Mathlib.Omega.{arith}
 use borrow.Author.Tests.{eqb-false, eqb-true}
@@ -18,7 +18,6 @@ use Rattle.transaction.specs.declared.Style.{Style}
 use Rattle.transaction.specs.declared.Style.the-variants.{Nothing as NoStyle, Simple, Split, Token}
 use Rattle.transaction.specs.declared.Status.{Status}
 use Rattle.transaction.specs.declared.Status.the-variants.{New, Continue, Retry, Done, Fail, Ambiguous, Invalid}
-use Rattle.transaction.specs.declared.Transaction.{Transaction}
 use Rattle.tables.specs.Kind.{Unknown}
 use Rattle.tables.specs.SearchLaws.{First, first-is}
 use Rattle.tables.specs.Search.{firstFrom}
@@ -31,11 +30,11 @@ use Rattle.group.specs.declared.Effect.the-variants.{NoEffect, NewDevice, Reque
 use Rattle.group.specs.declared.Grouped.{Grouped}
 use Rattle.group.proofs.Laws.{group-keeps}
 use Rattle.rules.specs.Rows.{Row, T, D, EventRow}
-use Rattle.rules.specs.World.{World, eventEp, phase, push, change, withSlot, withTransaction, withEventState, withKeepalive, withId, withPid, moreTransactions, withPending, withTotal, newTransaction}
-use Rattle.rules.specs.Endpoints.{addDevice, deviceFor, pushEndpoint, addEndpointOn, addressFor, endpointLookup, found, packetEndpointAt, packetEndpoint, numberAt, endpointOf, detailOf, setEndpointType, setDetailOn}
-use Rattle.rules.specs.Groups.{addItem, addGroupEntry, pushGroup, link, linkOnce, groupStep, effectStep, grouped, becomes, groupUpdate, groupEarlyAppend, undecided, groupEarlyStart}
+use Rattle.rules.specs.World.{World, phase, push, change, withSlot, withTransaction, withEventState, withKeepalive, withId, withPid, moreTransactions, withPending, withTotal, newTransaction}
+use Rattle.rules.specs.Endpoints.{addDevice, deviceFor, pushEndpoint, addEndpointOn, addressFor, endpointLookup, found, packetEndpointAt, packetEndpoint, numberAt, endpointOf, detailOf, setDetailOn}
+use Rattle.rules.specs.Groups.{addGroupEntry, pushGroup, link, linkOnce, groupStep, effectStep, grouped, becomes, groupUpdate, groupEarlyAppend, undecided}
 use Rattle.rules.specs.Transactions.{transactionEndAt, transactionEnd, appendToken, transactionAppend, pushTransaction, begin, typeOf, beginOn, beginSplit, beginPlain, transactionStart, resumeAt, stateAt, completes, extracted, updateAt, updateFrom, isDropped, transactionUpdate}
-use Rattle.rules.specs.Events.{eventAddSubgroup, eventLink, eventSubgroupStart, eventAddGroup, Act, nothing, single, group, subgroup, keepalive, Turn, turnOf, eventAct, eventUpdate}
+use Rattle.rules.specs.Events.{eventAddSubgroup, eventSubgroupStart, eventAddGroup, Act, nothing, single, group, subgroup, keepalive, Turn, turnOf, eventAct, eventUpdate}
 use Rattle.rules.specs.Decoder.{appendBytes, pushPacket, handleRawPacket, suspend, endAllActive, endAll, handleEvent, finish, handleDetail}
 use Rattle.rules.specs.Demand.{Call, packet, event, detail, finishing, call}
 use Rattle.rules.specs.Marks.{Mark}
@@ -44,7 +43,7 @@ use Rattle.rules.specs.declared.Slot.the-variants.{Empty, Current, Suspe
 use Rattle.rules.specs.declared.EventState.the-variants.{Idle}
 use Rattle.rules.proofs.Facts.{Facts, pass, calm}
 use Rattle.rules.proofs.Loops.{openOf, waitOf, Inside}
-use Rattle.rules.proofs.Keeps.{Holds, Keeps, passed, item-keeps, entry-keeps, link-keeps, linkOnce-keeps, quiet-keeps, becomes-keeps, groupStep-keeps, groupEarlyStart-keeps, endAllActive-keeps, pushGroup-keeps}
+use Rattle.rules.proofs.Keeps.{Keeps, passed, item-keeps, entry-keeps, link-keeps, linkOnce-keeps, quiet-keeps, becomes-keeps, groupStep-keeps, groupEarlyStart-keeps, endAllActive-keeps, pushGroup-keeps}
 
 -- ---- where a token's endpoint is found: at a row that is there, and not at the event endpoint's
 

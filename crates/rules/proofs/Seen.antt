@@ -1,5 +1,5 @@
 -- What a step leaves of the transaction: its slot, its style and its endpoint, which only transaction_start, _append and _end and a keepalive change.
-use mathlib.Core.Path.{_≡_, refl, ap, _∙_}
+use mathlib.Core.Path.{_≡_, refl, _∙_}
 use mathlib.Core.Bool.{Bool, true, false, _||_}
 use mathlib.Core.List.{List}
 use Prim.Native.Nat.{ℕ}

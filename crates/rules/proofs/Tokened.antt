@@ -1,8 +1,8 @@
 -- After every sequence of calls a transaction lacks an endpoint exactly if it is a split without its token.
-use mathlib.Core.Path.{_≡_, refl, sym, ap, _∙_, subst}
+use mathlib.Core.Path.{_≡_, refl, sym, ap, subst}
 use mathlib.Core.Bool.{Bool, true, false}
 use mathlib.Core.List.{List, []}
-use Prim.Native.Nat.{ℕ, suc, _<_, _≤_}
+use Prim.Native.Nat.{ℕ, _<_, _≤_}
 use native.Mathlib.Omega.{arith}
 use lib.Dec.{eqb}
 use Rattle.usb.specs.Pid.{SPLIT, MALFORMED}
@@ -20,19 +20,18 @@ use Rattle.tables.specs.declared.Found.the-variants.{At, Nothing}
 use Rattle.rules.specs.Rows.{Row, EventRow}
 use Rattle.rules.specs.World.{World, push, withSlot, withJournal, withKeepalive, withEventState}
 use Rattle.rules.specs.Endpoints.{deviceFor, found, packetEndpoint, numberAt, endpointOf, setDetailOn}
-use Rattle.rules.specs.Groups.{groupEarlyAppend}
-use Rattle.rules.specs.Transactions.{transactionEndAt, transactionEnd, appendToken, transactionAppend, pushTransaction, begin, typeOf, beginOn, beginSplit, beginPlain, transactionStart, resumeAt, stateAt, completes, extracted, updateAt, updateFrom, isDropped, transactionUpdate}
+use Rattle.rules.specs.Transactions.{transactionEndAt, transactionEnd, appendToken, transactionAppend, pushTransaction, typeOf, beginOn, beginSplit, beginPlain, transactionStart, resumeAt, stateAt, completes, extracted, updateAt, updateFrom, isDropped, transactionUpdate}
 use Rattle.rules.specs.Events.{eventSubgroupStart, eventAddGroup, Act, nothing, single, group, subgroup, keepalive, turnOf, eventAct, eventUpdate}
 use Rattle.rules.specs.Decoder.{appendBytes, pushPacket, handleRawPacket, suspendAt, suspend, endAll, handleEvent, finish, handleDetail}
 use Rattle.rules.specs.Decoder as Decoder
 use Rattle.rules.specs.Demand.{Call, packet, event, detail, finishing, call, Reach, next}
 use Rattle.rules.specs.Demand.{begin as reached}
-use Rattle.rules.specs.Tokened.{TokenedAt, TokenedIn, Tokened}
+use Rattle.rules.specs.Tokened.{TokenedIn, Tokened}
 use Rattle.rules.specs.declared.Slot.{Slot}
 use Rattle.rules.specs.declared.Slot.the-variants.{Empty, Current, Suspended}
 use Rattle.rules.specs.declared.EventState.the-variants.{Idle}
 use Rattle.rules.proofs.Keeps.{Keeps, passed}
-use Rattle.rules.proofs.Seen.{Seen, seen, packet-seen, start-seen, append-seen, extract-seen}
+use Rattle.rules.proofs.Seen.{Seen, packet-seen, start-seen, append-seen, extract-seen}
 use Rattle.rules.proofs.Moves.{Spot, found-spot, Moves, ending, extracting, resuming}
 use Rattle.rules.proofs.Demand.{Sound, always}
 

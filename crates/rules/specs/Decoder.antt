@@ -1,5 +1,5 @@
 -- The public functions of decoder.rs, and the detail call of 01. handle_metadata is left out.
-use mathlib.Core.Bool.{Bool, false}
+use mathlib.Core.Bool.{false}
 use mathlib.Core.List.{List, [], _∷_}
 use Prim.Native.Nat.{ℕ, zero, suc, pred, _+_}
 use lib.Dec.{eqb}

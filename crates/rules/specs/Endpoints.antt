@@ -1,5 +1,5 @@
 -- The functions of decoder.rs that find and add devices and endpoints, and what is known of an endpoint.
-use mathlib.Core.Bool.{Bool, _&&_, not}
+use mathlib.Core.Bool.{_&&_, not}
 use mathlib.Core.List.{List}
 use Prim.Native.Nat.{ℕ, suc, _+_, _/_}
 use lib.Dec.{eqb}
@@ -10,7 +10,6 @@ use Rattle.tables.specs.Details.{numberOf, detailsOf, withType, withDetail, fre
 use Rattle.tables.specs.Search.{firstFrom, lastOf}
 use Rattle.tables.specs.declared.Detail.{Detail}
 use Rattle.tables.specs.declared.Device.{Device}
-use Rattle.tables.specs.declared.Endpoint.{Endpoint}
 use Rattle.tables.specs.declared.Found.{Found}
 use Rattle.tables.specs.declared.Found.the-variants.{At, Nothing}
 use Rattle.rules.specs.Rows.{DeviceRow, EndpointRow}

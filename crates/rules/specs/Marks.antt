@@ -1,7 +1,7 @@
 -- What the rows of a journal are to one endpoint. Marks, like rows, stand the newest first.
 use mathlib.Core.Path.{_≡_}
 use mathlib.Core.List.{List, [], _∷_, _++_}
-use Prim.Native.Nat.{ℕ, zero, suc}
+use Prim.Native.Nat.{ℕ, suc}
 use lib.Dec.{eqb}
 use lib.ListN.{length}
 use Rattle.transaction.specs.Table.{pick}

@@ -11,7 +11,6 @@ use Rattle.transaction.specs.Table.{pick}
 use Rattle.transaction.specs.Status.{transactionStatus}
 use Rattle.transaction.specs.Payload.{extractPayload}
 use Rattle.transaction.specs.declared.Transaction.{Transaction}
-use Rattle.transaction.specs.declared.Judged.{Judged}
 use Rattle.transaction.specs.declared.Style.{Style}
 use Rattle.transaction.specs.declared.Style.the-variants.{Nothing, Simple, Split, Token}
 use Rattle.transaction.specs.declared.Status.{Status}

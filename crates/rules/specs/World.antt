@@ -1,6 +1,6 @@
 -- What a call works on: struct Decoder of decoder.rs, the numbers of rows that it hands out, and the journal of what it appends.
 use mathlib.Core.Bool.{Bool, true, false}
-use mathlib.Core.List.{List, [], _∷_}
+use mathlib.Core.List.{List, _∷_}
 use Prim.Native.Nat.{ℕ, suc, pred}
 use lib.Dec.{eqb}
 use Rattle.transaction.specs.Table.{pick}
