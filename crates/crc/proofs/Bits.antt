@@ -1,4 +1,4 @@
--- The bitwise check: a bit at a time from a count that falls; and all bits of a byte at once, by way of the register.
+-- The register a bit at a time, by a count that falls; and many data bits at once, xored into the register beforehand.
 -- Assumes nothing.
 use mathlib.Core.Path.{_≡_, refl, sym, ap, _∙_}
 use Prim.Native.Nat.{ℕ, zero, suc, _+_, _-_, _*_, _/_, _%_, _^_, _≤_, _<_}

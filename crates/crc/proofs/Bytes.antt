@@ -1,4 +1,4 @@
--- The check over a list of bytes, at a place of the list that goes up.
+-- The register over a list of bytes, at a place of the list that goes up.
 -- Assumes nothing.
 use mathlib.Core.Path.{_≡_, sym}
 use mathlib.Core.List.{List, [], _∷_}

@@ -1,4 +1,4 @@
--- Four words at a turn.
+-- The CRC16 four words at a turn: a word 256 bits on is the part that stays in its place and the part that passes into the place before.
 -- Assumes nothing.
 use mathlib.Core.Path.{_≡_, refl, sym, ap, ap₂, _∙_}
 use Prim.Native.Nat.{ℕ, zero, _+_, _*_, _%_, _^_, _<_}
@@ -49,20 +49,8 @@ _⊞_ {f} {g} l m =
       same4 = λ a b d e. ap₂ bitXor (l .same4 a b d e) (m .same4 a b d e);
     }
 
--- each word by itself
+-- a function of four words is that of each by itself
 module _ {f : ℕ → ℕ → ℕ → ℕ → ℕ} (l : Lin4 f) where
-  abbrev on0 : Lin (λ a. f a 0 0 0)
-  on0 = record { lin = λ x y. l .lin4 x 0 0 0 y 0 0 0; quick = λ a. l .quick4 a 0 0 0; same = λ a. l .same4 a 0 0 0 }
-
-  abbrev on1 : Lin (λ b. f 0 b 0 0)
-  on1 = record { lin = λ x y. l .lin4 0 x 0 0 0 y 0 0; quick = λ b. l .quick4 0 b 0 0; same = λ b. l .same4 0 b 0 0 }
-
-  abbrev on2 : Lin (λ d. f 0 0 d 0)
-  on2 = record { lin = λ x y. l .lin4 0 0 x 0 0 0 y 0; quick = λ d. l .quick4 0 0 d 0; same = λ d. l .same4 0 0 d 0 }
-
-  abbrev on3 : Lin (λ e. f 0 0 0 e)
-  on3 = record { lin = λ x y. l .lin4 0 0 0 x 0 0 0 y; quick = λ e. l .quick4 0 0 0 e; same = λ e. l .same4 0 0 0 e }
-
   parts : (a b d e : ℕ) → bitXor (bitXor (bitXor (f a 0 0 0) (f 0 b 0 0)) (f 0 0 d 0)) (f 0 0 0 e) ≡ f a b d e
   parts a b d e =
       ap (λ (x : ℕ). bitXor (bitXor x (f 0 0 d 0)) (f 0 0 0 e)) (sym (l .lin4 a 0 0 0 0 b 0 0))
@@ -127,7 +115,7 @@ old-lin : Lin4 old
 unfolding old
 old-lin = regs (at0 id) (at1 id) (at2 id) (at3 id) ▸ run 64
 
--- the words one by one
+-- each of the four words, 256 bits on
 module _ (v : ℕ) (h : v < 2 ^ 64) where
   w3 : B 64 (bitXor (B 64 (passesOf v)) (staysOf v)) ≡ B 256 (B 64 v)
   w3 = pair v h ∙ in-two generator16 64 256 v 0

@@ -1,4 +1,4 @@
--- The check a word at a time, with a register of 64 bits that `bits p 64` takes to the true one.
+-- The register a word at a time: a word stands for the register that `bits p 64` makes of it.
 -- Assumes nothing.
 use mathlib.Core.Path.{_≡_, refl, sym, ap, _∙_}
 use mathlib.Core.List.{List, [], _∷_, _++_}

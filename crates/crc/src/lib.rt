@@ -23,8 +23,7 @@ pub fn crc5(x: u32, n: u32) -> u8
     state ^ 0x1f
 }
 
-// The CRC16, below, has no tables. "n bits on" means after n steps with no data: times X^n, modulo the generator. A word of 64 bits
-// stands for the register that it becomes 64 bits on, and the data are xored into it.
+// The CRC16, below, has no tables. "n bits on" is after n steps without data; a word stands for the register that it is 64 bits on.
 
 // The register 8 bits on: each bit of the low byte moves up by 6 and by 7, and their parity brings 0xC001.
 fn advance8(v: u64) -> u64
@@ -37,8 +36,7 @@ fn advance8(v: u64) -> u64
     v >> 8 ^ x << 6 ^ x << 7 ^ parity % 2 * 0xC001
 }
 
-// A word 64 bits on. With z for a shift to the left, the generator is 1+z+z^14+z^16, which is (1+z)(1+z^14+z^15): the quotient is made by
-// dividing by the one, then by the other, and what the quotient times the generator has above 64 bits is the register.
+// A word 64 bits on: divided by 1+z, then by 1+z^14+z^15, z a shift to the left. Their product is the generator, and the carry the register.
 fn advance64(a: u64) -> u64
     ensures { λ r. ⌜ r ≡ bits generator16 64 a 0 ⌝ }
 {
@@ -54,8 +52,7 @@ fn advance64(a: u64) -> u64
     q >> 48 ^ q >> 50 ^ q >> 63
 }
 
-// The word that stands for a, 64 bits on. X^64 is X^18+X^8+X^3 modulo the generator, so it is three shifts of a to the right, and what
-// they drop is 64 bits on once more.
+// The word that stands for a, 64 bits on: X^64 is X^18+X^8+X^3 modulo the generator, and what the shifts drop is 64 bits on once more.
 fn fold(a: u64) -> u64
     ensures { λ r. ⌜ bits generator16 64 r 0 ≡ bits generator16 128 a 0 ⌝ }
 {

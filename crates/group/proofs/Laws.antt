@@ -19,7 +19,7 @@ use Rattle.group.specs.declared.Effect.the-variants.{NoEffect, PendingDa
 use Rattle.group.specs.declared.control.Stage.{Stage}
 use Rattle.group.specs.declared.control.Stage.the-variants.{Data, Status, Ping, Wrong}
 use Rattle.group.specs.declared.step.Step.{Step}
-use Rattle.group.specs.Step.{grouped, taken, stepOf, isActive, dataEffect, waitsOf, payloadOf}
+use Rattle.group.specs.Step.{grouped, changed, taken, stepOf, isActive, dataEffect, waitsOf, payloadOf}
 use Rattle.group.specs.Control.{withSetup, withPayload, stageOf, atStage, countedOf, controlGroup, setupGroup}
 use Rattle.group.specs.Setup.{direction, withData}
 use Rattle.group.specs.Data.{withSuccess, beginGroup, repeatGroup, otherRows, otherGroup}
@@ -56,17 +56,21 @@ look-kept : (e : Endpoint) (n : ℕ) (rs : List (Row Grouped)) (none : Grouped) 
 look-kept e n [] none xs a k = k
 look-kept e n (r ∷ rs) none xs a k = either-kept (fits (r .tests) xs && r .guard) (r .answer) (look rs none xs) (a .0) (look-kept e n rs none xs (a .1) k)
 
-same : {s : GroupStatus} {f : Effect} (e : Endpoint) (n : ℕ) → Kept e n (grouped s f e)
-same e n = record { device = refl; address = refl; phase = refl; state = refl; transactions = refl; groups = refl; total = refl; first = refl; done = refl; last = refl; waits = refl; waiting = refl; waiter = refl; payload = le-add-right (e .payload) n }
+module _ {g : GroupStatus} {f : Effect} (e : Endpoint) (n : ℕ) where
+  changed-kept : (b r : Bool) (s p : ℕ) → p ≤ e .payload + n → Kept e n (grouped g f (changed e b r s p (e .waits)))
+  changed-kept b r s p h = record { device = refl; address = refl; phase = refl; state = refl; transactions = refl; groups = refl; total = refl; first = refl; done = refl; last = refl; waits = refl; waiting = refl; waiter = refl; payload = h }
 
-setup-kept : {s : GroupStatus} {f : Effect} (e : Endpoint) (n : ℕ) (r : Bool) (k : ℕ) → Kept e n (grouped s f (withSetup e r k))
-setup-kept e n r k = record { device = refl; address = refl; phase = refl; state = refl; transactions = refl; groups = refl; total = refl; first = refl; done = refl; last = refl; waits = refl; waiting = refl; waiter = refl; payload = le-add-right (e .payload) n }
+  same : Kept e n (grouped g f e)
+  same = changed-kept (e .success) (e .ready) (e .setup) (e .payload) (le-add-right (e .payload) n)
 
-success-kept : {s : GroupStatus} {f : Effect} (e : Endpoint) (n : ℕ) (b : Bool) → Kept e n (grouped s f (withSuccess e b))
-success-kept e n b = record { device = refl; address = refl; phase = refl; state = refl; transactions = refl; groups = refl; total = refl; first = refl; done = refl; last = refl; waits = refl; waiting = refl; waiter = refl; payload = le-add-right (e .payload) n }
+  setup-kept : (r : Bool) (s : ℕ) → Kept e n (grouped g f (withSetup e r s))
+  setup-kept r s = changed-kept (e .success) r s (e .payload) (le-add-right (e .payload) n)
 
-payload-kept : {s : GroupStatus} {f : Effect} (e : Endpoint) (n k : ℕ) → k ≤ n → Kept e n (grouped s f (withPayload e ((e .payload + k) % 2 ^ 64)))
-payload-kept e n k h = record { device = refl; address = refl; phase = refl; state = refl; transactions = refl; groups = refl; total = refl; first = refl; done = refl; last = refl; waits = refl; waiting = refl; waiter = refl; payload = omega (arith, mod-le (e .payload + k) (2 ^ 64)) }
+  success-kept : (b : Bool) → Kept e n (grouped g f (withSuccess e b))
+  success-kept b = changed-kept b (e .ready) (e .setup) (e .payload) (le-add-right (e .payload) n)
+
+  payload-kept : (k : ℕ) → k ≤ n → Kept e n (grouped g f (withPayload e ((e .payload + k) % 2 ^ 64)))
+  payload-kept k h = changed-kept (e .success) (e .ready) (e .setup) ((e .payload + k) % 2 ^ 64) (omega (arith, mod-le (e .payload + k) (2 ^ 64)))
 
 -- an effect counts no more than the payload
 by-tests : (k w b : Bool) (n : ℕ) (v : Bool) (i : ℕ) → countedOf (pick k (pick w (PendingData n) (pick b (IndexData n v i) NoEffect)) NoEffect) ≤ n

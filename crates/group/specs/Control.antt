@@ -9,7 +9,7 @@ use Rattle.tables.specs.declared.Endpoint.{Endpoint}
 use Rattle.transaction.specs.Table.{pick, Row, _gives_, only, look}
 use Rattle.transaction.specs.declared.Transaction.{Transaction}
 use Rattle.group.specs.Setup.{direction, requestType, bRequest, addressOf, withData}
-use Rattle.group.specs.Step.{grouped, dataEffect}
+use Rattle.group.specs.Step.{grouped, changed, dataEffect}
 use Rattle.group.specs.declared.step.Step.{Step}
 use Rattle.group.specs.declared.control.Stage.{Stage}
 use Rattle.group.specs.declared.control.Stage.the-variants.{Data, Status, Ping, Wrong}
@@ -19,10 +19,10 @@ use Rattle.group.specs.declared.Effect.{Effect}
 use Rattle.group.specs.declared.Effect.the-variants.{NoEffect, NewDevice, Request, PendingData, IndexData}
 
 abbrev pub withSetup : Endpoint → Bool → ℕ → Endpoint
-withSetup e r s = record { device = e .device; address = e .address; phase = e .phase; state = e .state; transactions = e .transactions; groups = e .groups; total = e .total; first = e .first; done = e .done; last = e .last; success = e .success; ready = r; setup = s; payload = e .payload; waits = e .waits; waiting = e .waiting; waiter = e .waiter }
+withSetup e r s = changed e (e .success) r s (e .payload) (e .waits)
 
 abbrev pub withPayload : Endpoint → ℕ → Endpoint
-withPayload e n = record { device = e .device; address = e .address; phase = e .phase; state = e .state; transactions = e .transactions; groups = e .groups; total = e .total; first = e .first; done = e .done; last = e .last; success = e .success; ready = e .ready; setup = e .setup; payload = n; waits = e .waits; waiting = e .waiting; waiter = e .waiter }
+withPayload e n = changed e (e .success) (e .ready) (e .setup) n (e .waits)
 
 -- a SETUP starts a control transfer, and its bytes are kept; a complete split goes on with it
 unfoldable pub setupGroup : Endpoint → Transaction → Step → Grouped

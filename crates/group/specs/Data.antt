@@ -6,7 +6,7 @@ use Rattle.usb.specs.Pid.{IN, OUT, PING, SOF}
 use Rattle.tables.specs.Kind.{Framing}
 use Rattle.tables.specs.declared.Endpoint.{Endpoint}
 use Rattle.transaction.specs.Table.{pick, Row, _gives_, _when_, any, only, _or_, look}
-use Rattle.group.specs.Step.{grouped, closesOf, effectOf}
+use Rattle.group.specs.Step.{grouped, changed, closesOf, effectOf}
 use Rattle.group.specs.declared.step.Step.{Step}
 use Rattle.group.specs.declared.GroupStatus.{GroupStatus}
 use Rattle.group.specs.declared.GroupStatus.the-variants.{Single, New, Continue, Retry, Done, Invalid}
@@ -14,7 +14,7 @@ use Rattle.group.specs.declared.Grouped.{Grouped}
 use Rattle.group.specs.declared.Effect.the-variants.{NoEffect}
 
 abbrev pub withSuccess : Endpoint → Bool → Endpoint
-withSuccess e b = record { device = e .device; address = e .address; phase = e .phase; state = e .state; transactions = e .transactions; groups = e .groups; total = e .total; first = e .first; done = e .done; last = e .last; success = b; ready = e .ready; setup = e .setup; payload = e .payload; waits = e .waits; waiting = e .waiting; waiter = e .waiter }
+withSuccess e b = changed e b (e .ready) (e .setup) (e .payload) (e .waits)
 
 -- a new transfer, ended at once by a short packet, or a new polling group
 abbrev pub beginStatus : Bool → Bool → GroupStatus

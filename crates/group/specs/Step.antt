@@ -50,9 +50,14 @@ abbrev pub stepOf : Endpoint → Transaction → Detail → Bool → Bool → St
 stepOf e t d success complete =
     record { kind = d .kind; sc = splitSc (t .style); next = startPid (t .style); known = payloadOf e t .known; len = payloadOf e t .len; waited = payloadOf e t .waited; id = payloadOf e t .id; short = isShort (payloadOf e t .known) (payloadOf e t .len) (d .max); success = success; complete = complete }
 
+-- the endpoint with these five fields; group_status changes no other
+abbrev pub changed : Endpoint → Bool → Bool → ℕ → ℕ → Bool → Endpoint
+changed e success ready setup payload waits =
+    record { device = e .device; address = e .address; phase = e .phase; state = e .state; transactions = e .transactions; groups = e .groups; total = e .total; first = e .first; done = e .done; last = e .last; success = success; ready = ready; setup = setup; payload = payload; waits = waits; waiting = e .waiting; waiter = e .waiter }
+
 -- pending_payload is taken, used or not
 abbrev pub taken : Endpoint → Endpoint
-taken e = record { device = e .device; address = e .address; phase = e .phase; state = e .state; transactions = e .transactions; groups = e .groups; total = e .total; first = e .first; done = e .done; last = e .last; success = e .success; ready = e .ready; setup = e .setup; payload = e .payload; waits = false; waiting = e .waiting; waiter = e .waiter }
+taken e = changed e (e .success) (e .ready) (e .setup) (e .payload) false
 
 -- a short packet closes a group, but on an isochronous endpoint
 abbrev pub closesOf : Step → Bool

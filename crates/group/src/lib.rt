@@ -1,8 +1,8 @@
 // What the end of a transaction means for the groups of its endpoint (document 000, group_status).
-pub mod control;
-pub mod data;
-pub mod setup;
-pub mod step;
+mod control;
+mod data;
+mod setup;
+mod step;
 
 use crate::step::Step;
 use tables::Detail;

@@ -6,7 +6,7 @@ use lib.Dec.{eqb}
 use Rattle.usb.specs.Pid.{DATA0, DATA1}
 use Rattle.transaction.specs.declared.Transaction.{Transaction}
 use Rattle.transaction.specs.Table.{pick, only, _or_}
-use Rattle.transaction.specs.Payload.{takesSetup, withSetup, withPayload, extractPayload}
+use Rattle.transaction.specs.Payload.{takesSetup, changed, withSetup, withPayload, extractPayload}
 
 pub record Kept (t u : Transaction) : Type 0 where
   pub style : u .style ≡ t .style
@@ -17,10 +17,13 @@ pub record Kept (t u : Transaction) : Type 0 where
   pub linked : u .linked ≡ t .linked
   pub link : u .link ≡ t .link
 
+changed-kept : (t : Transaction) (r : Bool) (s : ℕ) (f : Bool) (n : ℕ) → Kept t (changed t r s f n)
+changed-kept t r s f n = record { style = refl; id = refl; last = refl; endpoint = refl; kind = refl; linked = refl; link = refl }
+
 by-tests : (a b : Bool) (t : Transaction) (s n : ℕ) → Kept t (pick a (withSetup t s) (pick b (withPayload t n) t))
-by-tests true b t s n = record { style = refl; id = refl; last = refl; endpoint = refl; kind = refl; linked = refl; link = refl }
-by-tests false true t s n = record { style = refl; id = refl; last = refl; endpoint = refl; kind = refl; linked = refl; link = refl }
-by-tests false false t s n = record { style = refl; id = refl; last = refl; endpoint = refl; kind = refl; linked = refl; link = refl }
+by-tests true b t s n = changed-kept t true s (t .filled) (t .payload)
+by-tests false true t s n = changed-kept t (t .ready) (t .setup) true n
+by-tests false false t s n = changed-kept t (t .ready) (t .setup) (t .filled) (t .payload)
 
 pub extract-keeps : (t : Transaction) (pid len setup : ℕ) → Kept t (extractPayload t pid len setup)
 unfolding extractPayload

@@ -26,11 +26,16 @@ takesSetup (Simple first) = eqb first SETUP
 takesSetup (Split sc kind) = false
 takesSetup (Token sc kind pid) = splitSetup sc kind pid
 
+-- the transaction with these four fields; extract_payload changes no other
+abbrev pub changed : Transaction → Bool → ℕ → Bool → ℕ → Transaction
+changed t ready setup filled payload =
+    record { style = t .style; id = t .id; last = t .last; endpoint = t .endpoint; kind = t .kind; linked = t .linked; link = t .link; ready = ready; setup = setup; filled = filled; payload = payload }
+
 abbrev pub withSetup : Transaction → ℕ → Transaction
-withSetup t s = record { style = t .style; id = t .id; last = t .last; endpoint = t .endpoint; kind = t .kind; linked = t .linked; link = t .link; ready = true; setup = s; filled = t .filled; payload = t .payload }
+withSetup t s = changed t true s (t .filled) (t .payload)
 
 abbrev pub withPayload : Transaction → ℕ → Transaction
-withPayload t n = record { style = t .style; id = t .id; last = t .last; endpoint = t .endpoint; kind = t .kind; linked = t .linked; link = t .link; ready = t .ready; setup = t .setup; filled = true; payload = n }
+withPayload t n = changed t (t .ready) (t .setup) true n
 
 -- a payload is the part from byte 1 up to two before the end (01, Packets; USB 2.0, 8.4.4)
 unfoldable pub extractPayload : Transaction → ℕ → ℕ → ℕ → Transaction

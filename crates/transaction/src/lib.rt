@@ -1,7 +1,7 @@
 // Transactions: whether the next packet begins, continues or ends one (document 000, transaction_status).
 pub mod payload;
-pub mod simple;
-pub mod split;
+mod simple;
+mod split;
 
 use usb::Checked;
 use usb::pid::MALFORMED;

@@ -5,9 +5,10 @@ use native.Mathlib.Omega.{arith}
 use mathlib.Core.Path.{_≡_, refl, sym, subst}
 use mathlib.Core.Bool.{Bool, true, false}
 use mathlib.Core.List.{List, [], _∷_}
-use lib.Dec.{T, eqb, eqb→eq}
+use lib.Dec.{eqb}
 use lib.ListN.{getD}
 use borrow.Author.Tests.{eqb-true, eqb-false}
+use Rattle.usb.specs.Laws.{both-left, both-right}
 use Rattle.usb.specs.Packet.{pick, both, noFormat, tokenFormat, handshakeFormat, dataFormat, splitFormat, formatOf}
 
 -- whether a test passes at each number below n
@@ -15,20 +16,12 @@ abbrev all : (ℕ → Bool) → ℕ → Bool
 all f zero = true
 all f (suc n) = both (f n) (all f n)
 
-both-left : (a b : Bool) → T (both a b) → T a
-both-left true b t = tt
-both-left false b t = t
-
-both-right : (a b : Bool) → T (both a b) → T b
-both-right true b t = t
-both-right false b t = absurd t
-
 module _ (f : ℕ → Bool) where
-  last : (n k : ℕ) → k < suc n → T (f n) → (k < n → T (f k)) → (b : Bool) → eqb k n ≡ b → T (f k)
-  last n k h t below true e = subst (λ (m : ℕ). T (f m)) (sym (eqb-true k n e)) t
+  last : (n k : ℕ) → k < suc n → f n ≡ true → (k < n → f k ≡ true) → (b : Bool) → eqb k n ≡ b → f k ≡ true
+  last n k h t below true e = subst (λ (m : ℕ). f m ≡ true) (sym (eqb-true k n e)) t
   last n k h t below false e = below (omega (arith, eqb-false k n e))
 
-  each : (n : ℕ) → T (all f n) → (k : ℕ) → k < n → T (f k)
+  each : (n : ℕ) → all f n ≡ true → (k : ℕ) → k < n → f k ≡ true
   each zero t k h = absurd (omega arith)
   each (suc n) t k h = last n k h (both-left (f n) (all f n) t) (each n (both-right (f n) (all f n) t) k) (eqb k n) refl
 
@@ -47,4 +40,4 @@ byNibbles pid = pick (eqb (pid / 16) (15 - pid % 16)) (getD formats (pid % 16) 0
 
 pub nibbles : (pid : ℕ) → pid < 256 → byNibbles pid ≡ formatOf pid
 unfolding formatOf
-nibbles pid h = eqb→eq _ _ (each (λ k. eqb (byNibbles k) (formatOf k)) 256 tt pid h)
+nibbles pid h = eqb-true _ _ (each (λ k. eqb (byNibbles k) (formatOf k)) 256 refl pid h)

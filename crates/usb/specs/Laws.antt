@@ -28,11 +28,11 @@ valid (b ∷ p) pid e =
     let h = picked p (formatOk (formatOf b) (b ∷ p)) b pid e in
     record { first = h .1; format = subst (λ (x : ℕ). formatOk (formatOf x) (b ∷ p) ≡ true) (h .1) (h .0) }
 
-both-left : (a b : Bool) → both a b ≡ true → a ≡ true
+pub both-left : (a b : Bool) → both a b ≡ true → a ≡ true
 both-left true b e = refl
 both-left false b e = e
 
-both-right : (a b : Bool) → both a b ≡ true → b ≡ true
+pub both-right : (a b : Bool) → both a b ≡ true → b ≡ true
 both-right true b e = e
 both-right false b e = absurd (let z : _≡_ {A = ℕ} 0 1 = cc in omega arith)
 

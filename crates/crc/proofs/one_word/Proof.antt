@@ -20,8 +20,11 @@ fold-requires-3 c κs = search needs
 returns : tie.Need-returns
 unfolding four
 returns c =
+    let second = c .before .before .before in
+    let first = second .before .before in
+    let l = first .before .args .l in
     fold-into generator16 _ _ _ (c .before .fold3 .ensures)
-    ∙ rw (fold-into generator16 _ _ (c .before .before .before .before .before .before .args .l .third) (c .before .before .before .fold2 .ensures), fold-into generator16 _ _ (c .before .before .before .before .before .before .args .l .second) (c .before .before .before .before .before .fold .ensures))
+    ∙ rw (fold-into generator16 _ _ (l .third) (second .fold2 .ensures), fold-into generator16 _ _ (l .second) (first .fold .ensures))
 
 pub one-word-spec : {M : Type 1} → statement M
 one-word-spec = tie.close (tie.spec fold-requires fold-requires-2 fold-requires-3 returns)

@@ -73,7 +73,12 @@ add-result : tie.Need-add-result
 add-result c = search needs
 
 returns : tie.Need-returns
-returns c = omega (arith, after-eight (c .before .before .before .before .before .before .before .before .before .before .before .before .before .args .packet .now) (c .before .before .before .before .before .before .before .before .before .before .before .before .before .pre), c .pair4 .ensures, c .before .before .before .pair3 .ensures, c .before .before .before .before .before .before .pair2 .ensures, c .before .before .before .before .before .before .before .before .before .pair .ensures)
+returns c =
+    let third = c .before .before .before in
+    let second = third .before .before .before in
+    let first = second .before .before .before in
+    let start = first .before .before .before .before in
+    omega (arith, after-eight (start .args .packet .now) (start .pre), first .pair .ensures, second .pair2 .ensures, third .pair3 .ensures, c .pair4 .ensures)
 
 pub setup-data-spec : {M : Type 1} → statement M
 setup-data-spec =
