@@ -1,0 +1,4 @@
+pub mod World
+pub mod Room
+pub mod Bools
+pub mod RoomLaws
