@@ -1,4 +1,5 @@
 pub mod World
 pub mod Room
+pub mod Formed
 pub mod Bools
 pub mod RoomLaws

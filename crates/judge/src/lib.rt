@@ -1,4 +1,5 @@
 // The decoder's record: what it holds, when it is well formed, and whether its counts fit the lent logs.
+pub mod formed;
 pub mod room;
 
 use rules::EventState;
