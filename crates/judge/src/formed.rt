@@ -1,6 +1,7 @@
 // Whether a record is well formed (document 01, "Answer numbers"). `&` and `|` take both sides, so that no test is a branch.
 use crate::Counts;
 use crate::Decoder;
+use crate::NO_ITEM;
 use crate::room::fits;
 use rules::Slot;
 use tables::Device;
@@ -21,9 +22,6 @@ ghost use mathlib.Core.Bool.{_&&_};
 ghost use Prim.Native.Nat.{_<_, _≤_};
 ghost use Rattle.judge.specs.Formed.{every, implies, standing, wordsStored, entryFormed, endpointFormed, heldStyle, mayLack, heldFormed, holds, special, specialsStand, eventRests, lastNames, wellFormed};
 ghost use Rattle.tables.specs.Table.{entryAt};
-
-// The last item's endpoint where there is no item.
-const NO_ITEM: usize = 128;
 
 // Whether the last group is early, active or ended.
 fn stands(phase: Phase) -> bool

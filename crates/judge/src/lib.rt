@@ -34,13 +34,16 @@ pub struct Counts {
     pub requests: usize,
 }
 
+// The last item's endpoint where there is no item.
+pub const NO_ITEM: usize = 128;
+
 // Decoder of the Rust, without device_data and endpoint_data, which stand beside it.
 pub struct Decoder {
     pub counts: Counts,
     // transaction_state or suspended_transaction, as the slot says; in an empty slot it is not read.
     pub slot: Slot,
     pub transaction: Transaction,
-    // last_item_endpoint; 128 where there is none.
+    // last_item_endpoint; NO_ITEM where there is none.
     pub last: usize,
     // event_state.
     pub event: EventState,
