@@ -5,3 +5,5 @@ pub mod Bools
 pub mod RoomLaws
 pub mod FormedLaws
 pub mod StoredLaws
+pub mod Fresh
+pub mod FreshLaws

@@ -1,5 +1,6 @@
 // The decoder's record: what it holds, when it is well formed, and whether its counts fit the lent logs.
 pub mod formed;
+pub mod fresh;
 pub mod room;
 
 use rules::EventState;
