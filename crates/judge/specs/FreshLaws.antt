@@ -1,4 +1,4 @@
--- A fresh decoder is well formed in every room that it fits, and a refused one in none.
+-- A fresh decoder is well formed in every room that it fits, and stands for the world that the rules begin with; a refused one is well formed in none.
 use Prim.Native.Nat.{ℕ, zero, suc, _<_}
 use native.Mathlib.Omega.{arith}
 use mathlib.Core.Path.{_≡_, refl, sym, ap, _∙_}
@@ -17,12 +17,14 @@ use Rattle.tables.specs.TableLaws.{load-store-same, load-store-other}
 use Rattle.tables.specs.Word as word
 use Rattle.tables.specs.declared.Device.{Device}
 use Rattle.tables.specs.declared.Endpoint.{Endpoint}
+use Rattle.rules.specs.Decoder as rules
 use Rattle.rules.specs.World.{newEndpoint}
 use Rattle.judge.specs.Formed.{wellFormed}
 use Rattle.judge.specs.FormedLaws.{EntryFormed, Stored, WellFormed, well, well-formed}
 use Rattle.judge.specs.Fresh.{countsOf, freshDecoder, freshDevices, freshTable, refusedDecoder}
 use Rattle.judge.specs.RoomLaws.{Within}
 use Rattle.judge.specs.StoredLaws.{stored-same, stored-other, length-store}
+use Rattle.judge.specs.World.{worldOf, Agrees}
 use Rattle.judge.specs.declared.Counts.{Counts}
 
 new-fits : (address : ℕ) → address < 256 → Fits (newEndpoint 0 address)
@@ -101,6 +103,38 @@ module _ (table : List ℕ) (l : length table ≡ 2176) where
         last = inl refl;
         waiting = sym none-waits;
       })
+
+  -- it stands for the world that the rules begin with (fn new of decoder.rs)
+  pub fresh-world : (devices : List Device) → 0 < length devices → Agrees (worldOf freshDecoder (freshDevices devices) (freshTable table)) rules.fresh
+  unfolding fresh
+  fresh-world devices h =
+      record {
+        endpoints = λ i v. fresh-entry i v ∙ began i v;
+        count = refl;
+        devices = λ i v. device i v;
+        deviceCount = refl;
+        slot = refl;
+        transaction = refl;
+        lastItem = refl;
+        eventState = refl;
+        keepalive = refl;
+        bytes = refl;
+        packets = refl;
+        transactions = refl;
+        groups = refl;
+        stateBytes = refl;
+        items = refl;
+      }
+    where
+      began : (i : ℕ) → i < 3 → newEndpoint 0 (numberAt i) ≡ rules.fresh .endpoints i
+      began zero v = refl
+      began (suc zero) v = refl
+      began (suc (suc zero)) v = refl
+      began (suc (suc (suc i))) v = absurd (omega arith)
+
+      device : (i : ℕ) → i < 1 → getD (freshDevices devices) i blank ≡ rules.fresh .devices i
+      device zero v = getD-set-same devices 0 (fresh 0) blank h
+      device (suc i) v = absurd (omega arith)
 
 -- 01: "refused, it .. returns a record that every call answers 1"
 pub refused-ill : (devices : List Device) (table : List ℕ) (room : Counts) → wellFormed refusedDecoder devices table room ≡ false

@@ -18,7 +18,6 @@ use transaction::Transaction;
 use usb::pid::IN;
 use usb::pid::OUT;
 ghost use mathlib.Core.Path.{_≡_};
-ghost use mathlib.Core.Bool.{_&&_};
 ghost use Prim.Native.Nat.{_<_, _≤_};
 ghost use Rattle.judge.specs.Formed.{every, implies, standing, wordsStored, entryFormed, endpointFormed, heldStyle, mayLack, heldFormed, holds, special, specialsStand, eventRests, lastNames, wellFormed};
 ghost use Rattle.tables.specs.Table.{entryAt};
