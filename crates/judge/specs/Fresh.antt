@@ -1,0 +1,43 @@
+-- The record, the device and the endpoints that a fresh decoder has (fn new of decoder.rs; 01, "Making a fresh decoder"), and the record of a refused one.
+use Prim.Native.Nat.{ℕ}
+use mathlib.Core.Bool.{false}
+use mathlib.Core.List.{List}
+use lib.ListN.{set}
+use Rattle.transaction.specs.declared.Style.the-variants.{Nothing}
+use Rattle.transaction.specs.declared.Transaction.{Transaction}
+use Rattle.tables.specs.Details.{fresh}
+use Rattle.tables.specs.Kind.{Unknown}
+use Rattle.tables.specs.Table.{storeAt}
+use Rattle.tables.specs.declared.Device.{Device}
+use Rattle.rules.specs.World.{noItem, newEndpoint, newTransaction}
+use Rattle.rules.specs.declared.EventState.the-variants.{Idle}
+use Rattle.rules.specs.declared.Slot.the-variants.{Empty}
+use Rattle.judge.specs.declared.Counts.{Counts}
+use Rattle.judge.specs.declared.Decoder.{Decoder}
+
+-- so many devices and endpoints, and no other row
+abbrev pub countsOf : ℕ → ℕ → Counts
+countsOf m n = record { bytes = 0; devices = m; endpoints = n; packets = 0; events = 0; transactions = 0; groups = 0; marks = 0; states = 0; items = 0; links = 0; requests = 0 }
+
+-- what stands in an empty slot
+abbrev pub noTransaction : Transaction
+noTransaction = newTransaction Nothing 0 0 0 Unknown
+
+-- with those counts, and nothing else yet
+abbrev pub idleWith : Counts → Decoder
+idleWith n = record { counts = n; slot = Empty; transaction = noTransaction; last = noItem; event = Idle; keepalive = false; waiting = 0; finished = false }
+
+-- "writes one device and three endpoint rows"
+abbrev pub freshDecoder : Decoder
+freshDecoder = idleWith (countsOf 1 3)
+
+-- the default device at address 0, and the special endpoints on it: EVENT_EP_NUM, INVALID_EP_NUM, FRAMING_EP_NUM
+abbrev pub freshDevices : List Device → List Device
+freshDevices devices = set devices 0 (fresh 0)
+
+unfoldable pub freshTable : List ℕ → List ℕ
+freshTable table = storeAt (storeAt (storeAt table 0 (newEndpoint 0 0x10)) 1 (newEndpoint 0 0x11)) 2 (newEndpoint 0 0x12)
+
+-- "refused, it returns a record that every call answers 1": its first device does not stand
+abbrev pub refusedDecoder : Decoder
+refusedDecoder = idleWith (countsOf 0 0)

@@ -1,0 +1,145 @@
+-- A fresh decoder is well formed in every room that it fits, and stands for the world that the rules begin with; a refused one is well formed in none.
+use Prim.Native.Nat.{ℕ, zero, suc, _<_}
+use native.Mathlib.Omega.{arith}
+use mathlib.Core.Path.{_≡_, refl, sym, ap, _∙_}
+use mathlib.Core.Bool.{Bool, true, false, false≢true}
+use mathlib.Core.Logic.{inl}
+use mathlib.Core.List.{List}
+use lib.Dec.{eqb}
+use lib.ListN.{length, getD, set}
+use lib.Seq.{getD-set-same}
+use Rattle.tables.specs.Details.{fresh}
+use Rattle.tables.specs.Phases.{inPhase, waiting}
+use Rattle.tables.specs.PhasesLaws.{count-none, phase-entry}
+use Rattle.tables.specs.Search.{blank}
+use Rattle.tables.specs.Table.{words, phaseWord, entryAt, storeAt, Fits}
+use Rattle.tables.specs.TableLaws.{load-store-same, load-store-other}
+use Rattle.tables.specs.Word as word
+use Rattle.tables.specs.declared.Device.{Device}
+use Rattle.tables.specs.declared.Endpoint.{Endpoint}
+use Rattle.rules.specs.Decoder as rules
+use Rattle.rules.specs.World.{newEndpoint}
+use Rattle.judge.specs.Formed.{wellFormed}
+use Rattle.judge.specs.FormedLaws.{EntryFormed, Stored, WellFormed, well, well-formed}
+use Rattle.judge.specs.Fresh.{countsOf, freshDecoder, freshDevices, freshTable, refusedDecoder}
+use Rattle.judge.specs.RoomLaws.{Within}
+use Rattle.judge.specs.StoredLaws.{stored-same, stored-other, length-store}
+use Rattle.judge.specs.World.{worldOf, Agrees}
+use Rattle.judge.specs.declared.Counts.{Counts}
+
+new-fits : (address : ℕ) → address < 256 → Fits (newEndpoint 0 address)
+new-fits address h = record { address = h; state = omega arith; first = omega arith; last = omega arith }
+
+new-formed : (n : Counts) (address : ℕ) → 0 < n .devices → EntryFormed n (newEndpoint 0 address)
+new-formed n address h =
+    record {
+      transactions = omega arith;
+      groups = omega arith;
+      device = h;
+      waiter = λ w. absurd (false≢true w);
+      payload = omega arith;
+      waiting = λ w. absurd (false≢true w);
+      group = λ w. absurd (false≢true w);
+    }
+
+-- the number of special endpoint i
+abbrev numberAt : ℕ → ℕ
+numberAt zero = 0x10
+numberAt (suc zero) = 0x11
+numberAt (suc (suc i)) = 0x12
+
+module _ (table : List ℕ) (l : length table ≡ 2176) where
+  length-1 : length (storeAt table 0 (newEndpoint 0 0x10)) ≡ 2176
+  length-1 = length-store _ _ _ ∙ l
+
+  length-2 : length (storeAt (storeAt table 0 (newEndpoint 0 0x10)) 1 (newEndpoint 0 0x11)) ≡ 2176
+  length-2 = length-store _ _ _ ∙ length-1
+
+  pub fresh-entry : (i : ℕ) → i < 3 → entryAt (freshTable table) i ≡ newEndpoint 0 (numberAt i)
+  unfolding freshTable
+  fresh-entry zero h =
+      load-store-other _ 2 0 _ (λ e. omega arith) ∙ (load-store-other _ 1 0 _ (λ e. omega arith) ∙ load-store-same table 0 _ l (omega arith) (new-fits 0x10 (omega arith)))
+  fresh-entry (suc zero) h = load-store-other _ 2 1 _ (λ e. omega arith) ∙ load-store-same _ 1 _ length-1 (omega arith) (new-fits 0x11 (omega arith))
+  fresh-entry (suc (suc zero)) h = load-store-same _ 2 _ length-2 (omega arith) (new-fits 0x12 (omega arith))
+  fresh-entry (suc (suc (suc i))) h = absurd (omega arith)
+
+  pub fresh-stored : (i : ℕ) → i < 3 → Stored (freshTable table) i
+  unfolding freshTable
+  fresh-stored zero h =
+      stored-other _ 2 0 _ (λ e. omega arith) (stored-other _ 1 0 _ (λ e. omega arith) (stored-same table 0 _ l (omega arith) (new-fits 0x10 (omega arith))))
+  fresh-stored (suc zero) h = stored-other _ 2 1 _ (λ e. omega arith) (stored-same _ 1 _ length-1 (omega arith) (new-fits 0x11 (omega arith)))
+  fresh-stored (suc (suc zero)) h = stored-same _ 2 _ length-2 (omega arith) (new-fits 0x12 (omega arith))
+  fresh-stored (suc (suc (suc i))) h = absurd (omega arith)
+
+  none-waits : waiting (freshTable table) 3 ≡ 0
+  none-waits =
+      count-none 3 (inPhase word.Ended (freshTable table)) 0
+      (λ j u v. phase-entry (freshTable table) j word.Ended (omega arith) (omega arith) ∙ ap (λ (e : Endpoint). eqb (phaseWord (e .phase)) word.Ended) (fresh-entry j v))
+
+  first-device : (devices : List Device) → 0 < length devices → getD (freshDevices devices) 0 blank .address ≡ 0
+  unfolding fresh
+  first-device devices h = ap (λ (d : Device). d .address) (getD-set-same devices 0 (fresh 0) blank h)
+
+  pub fresh-formed : (devices : List Device) (room : Counts) → 0 < length devices → Within (countsOf 1 3) room
+      → wellFormed freshDecoder (freshDevices devices) (freshTable table) room ≡ true
+  fresh-formed devices room h w =
+      let e0 = fresh-entry 0 (omega arith) in
+      let e1 = fresh-entry 1 (omega arith) in
+      let e2 = fresh-entry 2 (omega arith) in
+      well-formed _ _ _ _
+      (record {
+        counts = w;
+        specials = record {
+          some = omega arith;
+          address = first-device devices h;
+          three = omega arith;
+          event = record { device = ap (λ (e : Endpoint). e .device) e0; address = ap (λ (e : Endpoint). e .address) e0 };
+          invalid = record { device = ap (λ (e : Endpoint). e .device) e1; address = ap (λ (e : Endpoint). e .address) e1 };
+          framing = record { device = ap (λ (e : Endpoint). e .device) e2; address = ap (λ (e : Endpoint). e .address) e2 };
+        };
+        rests = ap (λ (e : Endpoint). e .phase) e0;
+        endpoints = λ i v. let q = fresh-entry i v in record { entry = rw q (new-formed (countsOf 1 3) (numberAt i) (omega arith)); words = fresh-stored i v };
+        held = λ g. absurd (false≢true g);
+        last = inl refl;
+        waiting = sym none-waits;
+      })
+
+  -- it stands for the world that the rules begin with (fn new of decoder.rs)
+  pub fresh-world : (devices : List Device) → 0 < length devices → Agrees (worldOf freshDecoder (freshDevices devices) (freshTable table)) rules.fresh
+  unfolding fresh
+  fresh-world devices h =
+      record {
+        endpoints = λ i v. fresh-entry i v ∙ began i v;
+        count = refl;
+        devices = λ i v. device i v;
+        deviceCount = refl;
+        slot = refl;
+        transaction = refl;
+        lastItem = refl;
+        eventState = refl;
+        keepalive = refl;
+        bytes = refl;
+        packets = refl;
+        transactions = refl;
+        groups = refl;
+        stateBytes = refl;
+        items = refl;
+      }
+    where
+      began : (i : ℕ) → i < 3 → newEndpoint 0 (numberAt i) ≡ rules.fresh .endpoints i
+      began zero v = refl
+      began (suc zero) v = refl
+      began (suc (suc zero)) v = refl
+      began (suc (suc (suc i))) v = absurd (omega arith)
+
+      device : (i : ℕ) → i < 1 → getD (freshDevices devices) i blank ≡ rules.fresh .devices i
+      device zero v = getD-set-same devices 0 (fresh 0) blank h
+      device (suc i) v = absurd (omega arith)
+
+-- 01: "refused, it .. returns a record that every call answers 1"
+pub refused-ill : (devices : List Device) (table : List ℕ) (room : Counts) → wellFormed refusedDecoder devices table room ≡ false
+refused-ill devices table room = pick (wellFormed refusedDecoder devices table room) refl
+  where
+    pick : (b : Bool) → wellFormed refusedDecoder devices table room ≡ b → b ≡ false
+    pick true h = let g = well refusedDecoder devices table room h .specials .some in absurd (omega arith)
+    pick false h = refl

@@ -1,0 +1,11 @@
+pub mod World
+pub mod Room
+pub mod Formed
+pub mod Fresh
+pub mod Answers
+pub mod Bools
+pub mod RoomLaws
+pub mod FormedLaws
+pub mod StoredLaws
+pub mod FreshLaws
+pub mod AnswersLaws
