@@ -1,1 +1,2 @@
 mod Bools
+pub mod Decided
