@@ -1,2 +1,3 @@
 mod Bools
+pub mod Bounds
 pub mod Decided
