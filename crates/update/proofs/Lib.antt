@@ -1,3 +1,4 @@
 mod Bools
 pub mod Bounds
+pub mod Counted
 pub mod Decided

@@ -25,32 +25,57 @@ use Rattle.update.specs.declared.tally.Tally.{Tally}
 
 -- ---- adding up
 
+-- before the first step, m endpoints waiting
 abbrev pub none : ℕ → Tally
-none m = record { devices = 0; transactions = 0; groups = 0; states = 0; bytes = 0; items = 0; links = 0; requests = 0; waiting = m }
+none m =
+    record { raw = 0; devices = 0; endpoints = 0; packets = 0; events = 0; transactions = 0; groups = 0; bytes = 0; states = 0; items = 0; links = 0; requests = 0; waiting = m }
 
 -- one endpoint more waits for an item
 abbrev pub addWaiting : Tally → Tally
-addWaiting t = record { devices = t .devices; transactions = t .transactions; groups = t .groups; states = t .states; bytes = t .bytes; items = t .items; links = t .links; requests = t .requests; waiting = t .waiting + 1 }
+addWaiting t =
+    record { raw = t .raw; devices = t .devices; endpoints = t .endpoints; packets = t .packets; events = t .events; transactions = t .transactions; groups = t .groups; bytes = t .bytes; states = t .states; items = t .items; links = t .links; requests = t .requests; waiting = t .waiting + 1 }
 
+-- a row of one kind
 abbrev pub addDevice : Tally → Tally
-addDevice t = record { devices = t .devices + 1; transactions = t .transactions; groups = t .groups; states = t .states; bytes = t .bytes; items = t .items; links = t .links; requests = t .requests; waiting = t .waiting }
+addDevice t =
+    record { raw = t .raw; devices = t .devices + 1; endpoints = t .endpoints; packets = t .packets; events = t .events; transactions = t .transactions; groups = t .groups; bytes = t .bytes; states = t .states; items = t .items; links = t .links; requests = t .requests; waiting = t .waiting }
 
 abbrev pub addTransaction : Tally → Tally
-addTransaction t = record { devices = t .devices; transactions = t .transactions + 1; groups = t .groups; states = t .states; bytes = t .bytes; items = t .items; links = t .links; requests = t .requests; waiting = t .waiting }
+addTransaction t =
+    record { raw = t .raw; devices = t .devices; endpoints = t .endpoints; packets = t .packets; events = t .events; transactions = t .transactions + 1; groups = t .groups; bytes = t .bytes; states = t .states; items = t .items; links = t .links; requests = t .requests; waiting = t .waiting }
 
 abbrev pub addLink : Tally → Tally
-addLink t = record { devices = t .devices; transactions = t .transactions; groups = t .groups; states = t .states; bytes = t .bytes; items = t .items; links = t .links + 1; requests = t .requests; waiting = t .waiting }
+addLink t =
+    record { raw = t .raw; devices = t .devices; endpoints = t .endpoints; packets = t .packets; events = t .events; transactions = t .transactions; groups = t .groups; bytes = t .bytes; states = t .states; items = t .items; links = t .links + 1; requests = t .requests; waiting = t .waiting }
 
 abbrev pub addRequest : Tally → Tally
-addRequest t = record { devices = t .devices; transactions = t .transactions; groups = t .groups; states = t .states; bytes = t .bytes; items = t .items; links = t .links; requests = t .requests + 1; waiting = t .waiting }
+addRequest t =
+    record { raw = t .raw; devices = t .devices; endpoints = t .endpoints; packets = t .packets; events = t .events; transactions = t .transactions; groups = t .groups; bytes = t .bytes; states = t .states; items = t .items; links = t .links; requests = t .requests + 1; waiting = t .waiting }
 
 -- add_group_entry: a group row, and a state row of a byte for each of the n endpoints
 abbrev pub addEntry : ℕ → Tally → Tally
-addEntry n t = record { devices = t .devices; transactions = t .transactions; groups = t .groups + 1; states = t .states + 1; bytes = t .bytes + n; items = t .items; links = t .links; requests = t .requests; waiting = t .waiting }
+addEntry n t =
+    record { raw = t .raw; devices = t .devices; endpoints = t .endpoints; packets = t .packets; events = t .events; transactions = t .transactions; groups = t .groups + 1; bytes = t .bytes + n; states = t .states + 1; items = t .items; links = t .links; requests = t .requests; waiting = t .waiting }
 
 -- add_item: an item, and an E row for each endpoint that waits
 abbrev pub addItem : Tally → Tally
-addItem t = record { devices = t .devices; transactions = t .transactions; groups = t .groups; states = t .states; bytes = t .bytes; items = t .items + 1; links = t .links + t .waiting; requests = t .requests; waiting = 0 }
+addItem t =
+    record { raw = t .raw; devices = t .devices; endpoints = t .endpoints; packets = t .packets; events = t .events; transactions = t .transactions; groups = t .groups; bytes = t .bytes; states = t .states; items = t .items + 1; links = t .links + t .waiting; requests = t .requests; waiting = 0 }
+
+-- handle_raw_packet and handle_event: a packet row, of so many bytes
+abbrev pub addPacket : ℕ → Tally → Tally
+addPacket len t =
+    record { raw = t .raw + len; devices = t .devices; endpoints = t .endpoints; packets = t .packets + 1; events = t .events; transactions = t .transactions; groups = t .groups; bytes = t .bytes; states = t .states; items = t .items; links = t .links; requests = t .requests; waiting = t .waiting }
+
+-- handle_event
+abbrev pub addEvent : Tally → Tally
+addEvent t =
+    record { raw = t .raw; devices = t .devices; endpoints = t .endpoints; packets = t .packets; events = t .events + 1; transactions = t .transactions; groups = t .groups; bytes = t .bytes; states = t .states; items = t .items; links = t .links; requests = t .requests; waiting = t .waiting }
+
+-- add_endpoint: nothing of it waits
+abbrev pub addEndpoint : Tally → Tally
+addEndpoint t =
+    record { raw = t .raw; devices = t .devices; endpoints = t .endpoints + 1; packets = t .packets; events = t .events; transactions = t .transactions; groups = t .groups; bytes = t .bytes; states = t .states; items = t .items; links = t .links; requests = t .requests; waiting = t .waiting }
 
 -- the steps of an update in their order, with n endpoints
 unfoldable pub tallyUpdate : Update → ℕ → Tally → Tally
@@ -76,11 +101,15 @@ tallyEffect (IndexData n waited i) t = addLink t
 
 -- no number of a tally passes k
 pub record Within (k : ℕ) (t : Tally) : Type 0 where
+  pub raw : t .raw ≤ k
   pub devices : t .devices ≤ k
+  pub endpoints : t .endpoints ≤ k
+  pub packets : t .packets ≤ k
+  pub events : t .events ≤ k
   pub transactions : t .transactions ≤ k
   pub groups : t .groups ≤ k
-  pub states : t .states ≤ k
   pub bytes : t .bytes ≤ k
+  pub states : t .states ≤ k
   pub items : t .items ≤ k
   pub links : t .links ≤ k
   pub requests : t .requests ≤ k
@@ -105,10 +134,14 @@ waitingOf w = phases.count (endedIn (w .endpoints)) 0 (w .count)
 unfoldable pub inLog : ℕ → ℕ → ℕ → ℕ
 inLog j k n = pick (eqb j k) n 0
 
--- the words that a tally's rows take in log k (01, Trace and listing; rules, Rows)
-abbrev pub wordsOf : ℕ → Tally → ℕ
-wordsOf k t =
-    inLog 1 k (t .devices)
+-- the words that the rows of t take in log k (rules, Rows: the logs' numbers and widths)
+abbrev pub wordsFor : ℕ → Tally → ℕ
+wordsFor k t =
+    inLog 0 k (t .raw)
+    + inLog 1 k (t .devices)
+    + inLog 2 k (t .endpoints * 3)
+    + inLog 3 k (t .packets * 2)
+    + inLog 4 k (t .events * 2)
     + inLog 5 k (t .transactions)
     + inLog 6 k (t .groups * 3)
     + inLog 7 k (t .bytes)
@@ -117,12 +150,14 @@ wordsOf k t =
     + inLog 10 k (t .links * 4)
     + inLog 11 k (t .requests * 3)
 
--- from world w to world v the logs grew by the rows of t and no others, so many endpoints wait as t says, and the counts are right
+-- from world w to world v the logs grew by the rows of t and by no others, as many endpoints wait as t says, and the counts are right
 pub record Adds (t : Tally) (w v : World) : Type 0 where
-  pub words : (k : ℕ) → wordsIn k (v .journal) ≡ wordsIn k (w .journal) + wordsOf k t
+  pub words : (k : ℕ) → wordsIn k (v .journal) ≡ wordsIn k (w .journal) + wordsFor k t
   pub waiting : waitingOf v ≡ t .waiting
-  pub count : v .count ≡ w .count
+  pub raw : v .bytes ≡ w .bytes + t .raw
   pub devices : v .deviceCount ≡ w .deviceCount + t .devices
+  pub endpoints : v .count ≡ w .count + t .endpoints
+  pub packets : v .packets ≡ w .packets + t .packets
   pub transactions : v .transactions ≡ w .transactions + t .transactions
   pub groups : v .groups ≡ w .groups + t .groups
   pub bytes : v .stateBytes ≡ w .stateBytes + t .bytes
@@ -140,15 +175,27 @@ becomePhase BeginFailed p = Active
 becomePhase Last p = p
 becomePhase BeginEarly p = Early
 
--- when the group is to become what the update says; at its end
+-- whether a group is taken up
+abbrev pub takesUp : Then → Bool
+takesUp Keep = false
+takesUp Begin = true
+takesUp BeginFailed = true
+takesUp Last = false
+takesUp BeginEarly = true
+
+-- before the group is taken up; after that; at the end of the update
+abbrev pub phaseBefore : Update → Phase → Phase
+phaseBefore u p = p ▷ when (u .over) ended ▷ when (u .cut) ended ▷ when (u .start) closePhase
+
 abbrev pub phaseThen : Update → Phase → Phase
-phaseThen u p = p ▷ when (u .over) ended ▷ when (u .cut) ended ▷ when (u .start) closePhase
+phaseThen u p = becomePhase (u .group) (phaseBefore u p)
 
 abbrev pub phaseAfter : Update → Phase → Phase
-phaseAfter u p = phaseThen u p ▷ becomePhase (u .group) ▷ when (u .end) ended ▷ when (u .item) closePhase
+phaseAfter u p = phaseThen u p ▷ when (u .end) ended ▷ when (u .item) closePhase
 
--- an update suits a phase where it ends no group a second time and takes none up again
+-- an update suits a phase where no part of it ends an ended group again or takes one up
 pub record Suits (u : Update) (p : Phase) : Type 0 where
   pub over : (u .over && isEnded p) ≡ false
   pub cut : (u .cut && isEnded (when (u .over) ended p)) ≡ false
-  pub group : isEnded (phaseThen u p) ≡ false
+  pub group : (takesUp (u .group) && isEnded (phaseBefore u p)) ≡ false
+  pub end : (u .end && isEnded (phaseThen u p)) ≡ false

@@ -6,13 +6,19 @@ ghost use Prim.Native.Nat.{_≤_, _^_};
 ghost use Rattle.update.specs.Tally.{Within, none, addWaiting, addTransaction, addLink, addEntry, addItem, tallyUpdate, tallyEffect};
 ghost use Rattle.update.specs.Update.{when};
 
-// The rows so far, and the state bytes.
+// The rows so far, in the order of the logs.
 pub struct Tally {
+    // Packet bytes.
+    pub raw: usize,
     pub devices: usize,
+    pub endpoints: usize,
+    pub packets: usize,
+    pub events: usize,
     pub transactions: usize,
     pub groups: usize,
-    pub states: usize,
+    // State bytes.
     pub bytes: usize,
+    pub states: usize,
     pub items: usize,
     pub links: usize,
     pub requests: usize,
@@ -25,11 +31,15 @@ pub fn tally_none(waiting: usize) -> Tally
     ensures { λ r. ⌜ r ≡ none waiting ⌝ }
 {
     Tally {
+        raw: 0,
         devices: 0,
+        endpoints: 0,
+        packets: 0,
+        events: 0,
         transactions: 0,
         groups: 0,
-        states: 0,
         bytes: 0,
+        states: 0,
         items: 0,
         links: 0,
         requests: 0,
