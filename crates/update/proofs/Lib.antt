@@ -2,3 +2,4 @@ mod Bools
 pub mod Bounds
 pub mod Counted
 pub mod Decided
+pub mod Suited
