@@ -1,4 +1,4 @@
--- A tally stays small: no step more than doubles its largest number and adds 128, so none of its sums can overflow.
+-- A tally stays small: no step more than doubles its largest number and adds 4096, so none of its sums can overflow.
 use Prim.Native.Nat.{ℕ, _+_, _*_, _≤_}
 use native.Mathlib.Omega.{arith}
 use mathlib.Core.Bool.{Bool, true, false}
@@ -8,7 +8,7 @@ use Rattle.update.specs.declared.Update.{Update}
 use Rattle.update.specs.declared.tally.Tally.{Tally}
 
 abbrev pub grown : ℕ → ℕ
-grown k = k + k + 128
+grown k = k + k + 4096
 
 module _ {k : ℕ} {t : Tally} (h : Within k t) where
   pub wider : (m : ℕ) → k ≤ m → Within m t

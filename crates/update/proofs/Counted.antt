@@ -28,7 +28,7 @@ use Rattle.update.specs.declared.tally.Tally.{Tally}
 
 -- ---- words
 
-more : (j k a b c : ℕ) → c ≡ a + b → inLog j k c ≡ inLog j k a + inLog j k b
+pub more : (j k a b c : ℕ) → c ≡ a + b → inLog j k c ≡ inLog j k a + inLog j k b
 unfolding inLog
 more j k a b c h = by (eqb j k)
   where
@@ -37,7 +37,7 @@ more j k a b c h = by (eqb j k)
     by false = refl
 
 -- a row's words are in its log
-row : (k : ℕ) (r : Row) (js : List Row) → wordsIn k (r ∷ js) ≡ wordsIn k js + inLog (logOf r) k (length (wordsOf r))
+pub row : (k : ℕ) (r : Row) (js : List Row) → wordsIn k (r ∷ js) ≡ wordsIn k js + inLog (logOf r) k (length (wordsOf r))
 unfolding inLog
 row k r js = length-append (log k js) _ ∙ ap (λ (n : ℕ). wordsIn k js + n) (by (eqb (logOf r) k))
   where
@@ -49,7 +49,7 @@ length-states : (f : ℕ → Endpoint) (i n : ℕ) → length (rules.statesFrom 
 length-states f i zero = refl
 length-states f i (suc n) = ap suc (length-states f (suc i) n)
 
-count-last : (n : ℕ) (p : ℕ → Bool) (i : ℕ) → count p i (suc n) ≡ count p i n + one (p (i + n))
+pub count-last : (n : ℕ) (p : ℕ → Bool) (i : ℕ) → count p i (suc n) ≡ count p i n + one (p (i + n))
 count-last zero p i = let e : i + 0 ≡ i = omega arith in rw e (by (p i))
   where
     by : (b : Bool) → cond b 1 0 ≡ 0 + one b
@@ -63,7 +63,7 @@ count-last (suc n) p i =
     by true m k = omega arith
     by false m k = refl
 
-nothing : (j k : ℕ) → inLog j k 0 ≡ 0
+pub nothing : (j k : ℕ) → inLog j k 0 ≡ 0
 unfolding inLog
 nothing j k = by (eqb j k)
   where
@@ -92,7 +92,7 @@ close-words k i f js (suc n) =
 here : {b : Bool} (a c : Endpoint) → b ≡ true → pick b a c ≡ a
 here a c h = rw h
 
-waiting-change : (x : ℕ) (f : Endpoint → Endpoint) (w : World) → x < w .count → waitingOf (change x f w) + one (isEnded (phase x w)) ≡ waitingOf w + one (isEnded (f (w .endpoints x) .phase))
+pub waiting-change : (x : ℕ) (f : Endpoint → Endpoint) (w : World) → x < w .count → waitingOf (change x f w) + one (isEnded (phase x w)) ≡ waitingOf w + one (isEnded (f (w .endpoints x) .phase))
 waiting-change x f w h =
     let c = count-change (w .count) (endedIn (w .endpoints)) (endedIn (change x f w .endpoints)) 0 x (omega arith) (omega arith) (λ j ne. ap (λ (b : Bool). isEnded (pick b (f (w .endpoints j)) (w .endpoints j) .phase)) (ne-eqb j x ne)) in
     let e : endedIn (change x f w .endpoints) x ≡ isEnded (f (w .endpoints x) .phase) = ap (λ (a : Endpoint). isEnded (a .phase)) (here (f (w .endpoints x)) (w .endpoints x) (eq-eqb x x refl)) in

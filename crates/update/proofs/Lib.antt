@@ -3,3 +3,4 @@ pub mod Bounds
 pub mod Counted
 pub mod Decided
 pub mod Suited
+pub mod Steps

@@ -3,7 +3,7 @@ use crate::Update;
 use group::Effect;
 ghost use mathlib.Core.Path.{_≡_};
 ghost use Prim.Native.Nat.{_≤_, _^_};
-ghost use Rattle.update.specs.Tally.{Within, none, addWaiting, addTransaction, addLink, addEntry, addItem, tallyUpdate, tallyEffect};
+ghost use Rattle.update.specs.Tally.{Within, none, addWaiting, addDevice, addEndpoint, addPacket, addEvent, addTransaction, addLink, addEntry, addItem, tallyUpdate, tallyEffect};
 ghost use Rattle.update.specs.Update.{when};
 
 // The rows so far, in the order of the logs.
@@ -55,6 +55,56 @@ fn tally_end(on: bool, t: Tally) -> Tally
     if on {
         let mut t = t;
         t.waiting += 1;
+        t
+    } else {
+        t
+    }
+}
+
+// A packet row, with the packet's bytes; an event's has none.
+pub fn tally_packet(len: usize, t: Tally) -> Tally
+    requires { ⌜ len ≤ 4096 ⌝ }
+    requires { ⌜ Within (2 ^ 48) t ⌝ }
+    ensures { λ r. ⌜ r ≡ addPacket len t ⌝ }
+{
+    let mut t = t;
+    t.raw += len;
+    t.packets += 1;
+    t
+}
+
+// An event row.
+pub fn tally_event(t: Tally) -> Tally
+    requires { ⌜ Within (2 ^ 48) t ⌝ }
+    ensures { λ r. ⌜ r ≡ addEvent t ⌝ }
+{
+    let mut t = t;
+    t.events += 1;
+    t
+}
+
+// A device row.
+pub fn tally_device(on: bool, t: Tally) -> Tally
+    requires { ⌜ Within (2 ^ 48) t ⌝ }
+    ensures { λ r. ⌜ r ≡ when on addDevice t ⌝ }
+{
+    if on {
+        let mut t = t;
+        t.devices += 1;
+        t
+    } else {
+        t
+    }
+}
+
+// An endpoint row.
+pub fn tally_endpoint(on: bool, t: Tally) -> Tally
+    requires { ⌜ Within (2 ^ 48) t ⌝ }
+    ensures { λ r. ⌜ r ≡ when on addEndpoint t ⌝ }
+{
+    if on {
+        let mut t = t;
+        t.endpoints += 1;
         t
     } else {
         t
