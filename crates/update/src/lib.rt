@@ -1,5 +1,6 @@
 // What a call does to the groups of one endpoint, decided from values alone before anything is written (document 000, from group_early_start on).
 pub mod effect;
+pub mod entry;
 pub mod tally;
 
 use group::GroupStatus;
