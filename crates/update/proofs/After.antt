@@ -182,3 +182,89 @@ module _ (u : Update) (x : ℕ) (w : World) where
       first : (b : Bool) (v : World) → when b (startGroup x) v .lastItem ≡ when b (λ y. x) (v .lastItem)
       first true v = refl
       first false v = refl
+
+-- ---- another endpoint
+
+module _ (x j : ℕ) (ne : j ≡ x → ⊥) where
+  stays : (f : Endpoint → Endpoint) (w : World) → change x f w .endpoints j ≡ w .endpoints j
+  stays f w = there (f (w .endpoints j)) (w .endpoints j) (ne-eqb j x ne)
+
+  row-other : (start : Bool) (w : World) → rules.addGroupEntry x start w .endpoints j ≡ rowEntry x start (w .endpoints j)
+  row-other start w = ap (λ (b : Bool). withState (nextState b (eqb x eventEp) start (w .endpoints j .state)) (w .endpoints j)) (ne-eqb j x ne)
+
+  over-other : (b : Bool) (w : World) → when b (rules.over x) w .endpoints j ≡ w .endpoints j
+  over-other true w = stays (withPhase Ended) w
+  over-other false w = refl
+
+  cut-other : (b : Bool) (w : World) → when b (endRow x) w .endpoints j ≡ when b (rowEntry x false) (w .endpoints j)
+  cut-other true w = row-other false (rules.over x w) ∙ ap (rowEntry x false) (stays (withPhase Ended) w)
+  cut-other false w = refl
+
+  link-other : (b : Bool) (w : World) → when b (rules.link x) w .endpoints j ≡ w .endpoints j
+  link-other true w = stays moreTransactions w
+  link-other false w = refl
+
+  start-other : (b : Bool) (w : World) → when b (startGroup x) w .endpoints j ≡ when b (startOther x) (w .endpoints j)
+  start-other true w = ap closeEntry (row-other true (rules.pushGroup x (w .transaction .link) w) ∙ ap (rowEntry x true) (stays moreGroups w))
+  start-other false w = refl
+
+  become-other : (g : Then) (w : World) → become g x w .endpoints j ≡ w .endpoints j
+  become-other Keep w = refl
+  become-other Begin w = stays (rules.activated true (startPid (w .transaction .style))) w
+  become-other BeginFailed w = stays (rules.activated false (startPid (w .transaction .style))) w
+  become-other Last w = stays (withLast (startPid (w .transaction .style))) w
+  become-other BeginEarly w = stays (withPhase Early) w
+
+  ended-other : (b : Bool) (w : World) → when b (endGroup x) w .endpoints j ≡ when b (rowEntry x false) (w .endpoints j)
+  ended-other true w = row-other false (rules.over x (change x cleared w)) ∙ ap (rowEntry x false) (stays (withPhase Ended) (change x cleared w) ∙ stays cleared w)
+  ended-other false w = refl
+
+  item-other : (b : Bool) (w : World) → when b (rules.addItem x) w .endpoints j ≡ when b closeEntry (w .endpoints j)
+  item-other true w = refl
+  item-other false w = refl
+
+  pub act-other : (u : Update) (w : World) → act u x w .endpoints j ≡ otherAfter u x (w .endpoints j)
+  unfolding otherAfter
+  act-other u w =
+      item-other (u .item) (done u x w)
+      ∙ ap (when (u .item) closeEntry)
+      (ended-other (u .end) (become′ u x w)
+      ∙ ap (when (u .end) (rowEntry x false))
+      (become-other (u .group) (started u x w)
+      ∙ (start-other (u .start) (linked u x w)
+      ∙ ap (when (u .start) (startOther x))
+      (link-other (u .link) (cutted u x w) ∙ (cut-other (u .cut) (overed u x w) ∙ ap (when (u .cut) (rowEntry x false)) (over-other (u .over) w))))))
+
+-- ---- whether an ended group waits or was closed changes no decision
+
+pub update-closed : (s : GroupStatus) (p : Phase) (l same : Bool) → decideUpdate s (rules.closePhase p) l same ≡ decideUpdate s p l same
+update-closed Single None l same = refl
+update-closed Single Early l same = refl
+update-closed Single Active l same = refl
+update-closed Single Ended l same = refl
+update-closed New None l same = refl
+update-closed New Early l same = refl
+update-closed New Active l same = refl
+update-closed New Ended l same = refl
+update-closed Continue None l same = refl
+update-closed Continue Early l same = refl
+update-closed Continue Active l same = refl
+update-closed Continue Ended l same = refl
+update-closed Retry None l same = refl
+update-closed Retry Early l same = refl
+update-closed Retry Active l same = refl
+update-closed Retry Ended l same = refl
+update-closed Done None l same = refl
+update-closed Done Early l same = refl
+update-closed Done Active l same = refl
+update-closed Done Ended l same = refl
+update-closed Invalid None l same = refl
+update-closed Invalid Early l same = refl
+update-closed Invalid Active l same = refl
+update-closed Invalid Ended l same = refl
+
+pub early-start-closed : (pid : ℕ) (p : Phase) (l : Bool) → decideEarlyStart pid (rules.closePhase p) l ≡ decideEarlyStart pid p l
+early-start-closed pid None l = refl
+early-start-closed pid Early l = refl
+early-start-closed pid Active l = refl
+early-start-closed pid Ended l = refl
