@@ -1,0 +1,4 @@
+pub mod Update
+pub mod Tally
+pub mod Effect
+pub mod Entry
