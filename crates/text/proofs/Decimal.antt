@@ -1,0 +1,47 @@
+-- The decimal digits of a word: those of its quotient by 10, then the remainder.
+-- Assumes nothing.
+use Prim.Native.Nat.{ℕ, zero, suc, _+_, _*_, _/_, _%_, _^_, _<_, _≤_}
+use native.Mathlib.Omega.{arith}
+use native.Mathlib.Nat.{pow-suc}
+use mathlib.Core.Path.{_≡_, refl, sym, ap, _∙_}
+use mathlib.Core.Bool.{Bool, true, false}
+use mathlib.Core.List.{List, [], _∷_, _++_}
+use lib.Dec.{ltb}
+use borrow.Author.Tests.{lt-ltb, le-ltb, ltb-true, ltb-false}
+use Rattle.text.specs.Numbers.{pick, digit, digits, decimal}
+
+small : (k n : ℕ) → n < 10 → digits (suc k) n ≡ digit n ∷ []
+unfolding digits
+small k n h = rw (lt-ltb _ _ h)
+
+more : (k n : ℕ) → 10 ≤ n → digits (suc k) n ≡ digits k (n / 10) ++ (digit (n % 10) ∷ [])
+unfolding digits
+more k n h = rw (le-ltb _ _ h)
+
+by-ten : {P : Type 0} (n : ℕ) → (n < 10 → P) → (10 ≤ n → P) → P
+by-ten {P} n f g = by-test (ltb n 10) refl
+  where
+    by-test : (b : Bool) → ltb n 10 ≡ b → P
+    by-test true e = f (ltb-true n 10 e)
+    by-test false e = g (ltb-false n 10 e)
+
+-- a number below 10^(k + 1) has no more than k + 1 digits
+enough : (k n : ℕ) → n < 10 ^ suc k → digits (suc (suc k)) n ≡ digits (suc k) n
+enough zero n h = small 1 n h ∙ sym (small 0 n h)
+enough (suc k) n h =
+    by-ten n (λ l. small (suc (suc k)) n l ∙ sym (small (suc k) n l))
+    (λ l.
+    let g : n < 10 ^ suc k * 10 = rw (pow-suc 10 (suc k)) at h in
+    let q : n / 10 < 10 ^ suc k = omega arith in
+    more (suc (suc k)) n l ∙ ap (λ (ds : List ℕ). ds ++ (digit (n % 10) ∷ [])) (enough k (n / 10) q) ∙ sym (more (suc k) n l))
+
+module _ (n : ℕ) where
+  pub decimal-small : n < 10 → decimal n ≡ digit n ∷ []
+  unfolding decimal
+  decimal-small h = small 19 n h
+
+  pub decimal-more : n < 2 ^ 64 → 10 ≤ n → decimal n ≡ decimal (n / 10) ++ (digit (n % 10) ∷ [])
+  unfolding decimal
+  decimal-more h g =
+      let q : n / 10 < 10 ^ 19 = omega arith in
+      more 19 n g ∙ ap (λ (ds : List ℕ). ds ++ (digit (n % 10) ∷ [])) (sym (enough 18 (n / 10) q))

@@ -1,0 +1,82 @@
+-- Document 01, "Trace and listing": a line for each kind of row, from the row's number and its words.
+-- Assumes nothing.
+use Prim.Native.Nat.{ℕ}
+use mathlib.Core.List.{List, [], _∷_, _++_, map}
+use lib.Dec.{eqb}
+use lib.ListN.{getD}
+use Rattle.text.specs.Words as words
+use Rattle.text.specs.Words.{space, newline, eventEnd, invalidEnd, framingEnd, inEnd, outEnd, startEnd, endEnd}
+use Rattle.text.specs.Numbers.{pick, decimal, hexSetup, letter}
+
+-- each number after a space
+unfoldable pub fields : List ℕ → List ℕ
+fields [] = []
+fields (n ∷ ns) = (space ∷ decimal n) ++ fields ns
+
+unfoldable pub line : List ℕ → List ℕ → List ℕ → List ℕ
+line word numbers ending = word ++ (fields numbers ++ ending)
+
+-- the words of a row
+abbrev first : List ℕ → ℕ
+first w = getD w 0 0
+
+abbrev second : List ℕ → ℕ
+second w = getD w 1 0
+
+abbrev third : List ℕ → ℕ
+third w = getD w 2 0
+
+abbrev fourth : List ℕ → ℕ
+fourth w = getD w 3 0
+
+-- device: address
+abbrev pub deviceLine : ℕ → List ℕ → List ℕ
+deviceLine row w = line words.device (row ∷ first w ∷ []) newline
+
+-- endpoint: device row; the event, invalid and framing endpoints (numbers 16 to 18) by name, an ordinary one by its number and direction (1 is in)
+unfoldable pub endpointLine : ℕ → List ℕ → List ℕ
+endpointLine row w =
+    pick (eqb (second w) 16) (line words.endpoint (row ∷ first w ∷ []) eventEnd)
+    (pick (eqb (second w) 17) (line words.endpoint (row ∷ first w ∷ []) invalidEnd)
+    (pick (eqb (second w) 18) (line words.endpoint (row ∷ first w ∷ []) framingEnd)
+    (line words.endpoint (row ∷ first w ∷ second w ∷ []) (pick (eqb (third w) 1) inEnd outEnd))))
+
+-- packet: start, time
+abbrev pub packetLine : ℕ → List ℕ → List ℕ
+packetLine row w = line words.packet (row ∷ first w ∷ second w ∷ []) newline
+
+-- event: packet, code
+abbrev pub eventLine : ℕ → List ℕ → List ℕ
+eventLine row w = line words.event (row ∷ first w ∷ second w ∷ []) newline
+
+-- transaction: packet
+abbrev pub transactionLine : ℕ → List ℕ → List ℕ
+transactionLine row w = line words.transaction (row ∷ first w ∷ []) newline
+
+-- group: endpoint, the endpoint's group, 1 for its start
+unfoldable pub groupLine : ℕ → List ℕ → List ℕ
+groupLine row w = line words.group (row ∷ first w ∷ second w ∷ []) (pick (eqb (third w) 1) startEnd endEnd)
+
+-- state: a letter for each of its bytes
+unfoldable pub stateLine : ℕ → List ℕ → List ℕ
+stateLine row states = line words.state (row ∷ []) (space ∷ []) ++ (map letter states ++ newline)
+
+-- item: group row
+abbrev pub itemLine : ℕ → List ℕ → List ℕ
+itemLine row w = line words.item (row ∷ first w ∷ []) newline
+
+-- link: kind (T 0, G 1, D 2, E 3), endpoint, and one number, or two for D; it has no row number
+unfoldable pub linkLine : List ℕ → List ℕ
+linkLine w =
+    pick (eqb (first w) 0) (line words.linkT (second w ∷ third w ∷ []) newline)
+    (pick (eqb (first w) 1) (line words.linkG (second w ∷ third w ∷ []) newline)
+    (pick (eqb (first w) 2) (line words.linkD (second w ∷ third w ∷ fourth w ∷ []) newline)
+    (line words.linkE (second w ∷ third w ∷ []) newline)))
+
+-- request: endpoint, setup data, length
+unfoldable pub requestLine : ℕ → List ℕ → List ℕ
+requestLine row w = line words.request (row ∷ first w ∷ []) (space ∷ []) ++ (hexSetup (second w) ++ line [] (third w ∷ []) newline)
+
+-- `refused N at B`
+unfoldable pub refusedLine : ℕ → ℕ → List ℕ
+refusedLine answer at = line words.refused (answer ∷ []) [] ++ line words.place (at ∷ []) newline

@@ -1,0 +1,3 @@
+pub mod Trace
+pub mod Clock
+pub mod Laws
