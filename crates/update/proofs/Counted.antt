@@ -16,7 +16,7 @@ use Rattle.tables.specs.Table.{withPhase}
 use Rattle.tables.specs.declared.Endpoint.{Endpoint}
 use Rattle.tables.specs.declared.Phase.{Phase}
 use Rattle.tables.specs.declared.Phase.the-variants.{None, Early, Active, Ended}
-use Rattle.rules.specs.Rows.{Row, log, logOf, wordsOf, GroupRow, StateRow, StateBytes, ItemRow, T, G, E, Over}
+use Rattle.rules.specs.Rows.{Row, log, written, GroupRow, StateRow, StateBytes, ItemRow, T, G, E, Over}
 use Rattle.rules.specs.World.{World, _▷_, phase, lastGroup, change, moreTransactions, moreGroups, withLast, cleared}
 use Rattle.rules.specs.Groups as rules
 use Rattle.update.specs.Update.{when, endRow, endGroup, startGroup, become, act}
@@ -37,11 +37,11 @@ more j k a b c h = by (eqb j k)
     by false = refl
 
 -- a row's words are in its log
-pub row : (k : ℕ) (r : Row) (js : List Row) → wordsIn k (r ∷ js) ≡ wordsIn k js + inLog (logOf r) k (length (wordsOf r))
+pub row : (k : ℕ) (r : Row) (js : List Row) → wordsIn k (r ∷ js) ≡ wordsIn k js + inLog (written r .0) k (length (written r .1))
 unfolding inLog
-row k r js = length-append (log k js) _ ∙ ap (λ (n : ℕ). wordsIn k js + n) (by (eqb (logOf r) k))
+row k r js = length-append (log k js) _ ∙ ap (λ (n : ℕ). wordsIn k js + n) (by (eqb (written r .0) k))
   where
-    by : (z : Bool) → length (pick z (wordsOf r) []) ≡ pick z (length (wordsOf r)) 0
+    by : (z : Bool) → length (pick z (written r .1) []) ≡ pick z (length (written r .1)) 0
     by true = refl
     by false = refl
 

@@ -171,9 +171,11 @@ pub update-is : (s : GroupStatus) (x : ℕ) (w : World) → groupStep s x w ≡ 
 update-is s x w = decided x w s (phase x w) (w .transaction .linked) (eqb (w .lastItem) x) refl refl refl
 
 pub early-start-is : (pid x : ℕ) (w : World) → groupEarlyStart pid x w ≡ act (decideEarlyStart pid (phase x w) (w .transaction .linked)) x w
+unfolding groupEarlyStart
 early-start-is pid x w = early-at x w (startsEarly pid (phase x w)) (phase x w) (w .transaction .linked) refl refl
 
 pub early-append-is : (w : World) → groupEarlyAppend w ≡ act (decideEarlyAppend (w .transaction) (w .endpoints (w .transaction .endpoint))) (w .transaction .endpoint) w
+unfolding groupEarlyAppend
 early-append-is w = by (eqb (w .transaction .endpoint) 0 || undecided (w .endpoints (w .transaction .endpoint))) (w .transaction .linked) refl
   where
     by : (b l : Bool) → w .transaction .linked ≡ l → pick b w (linkOnce (w .transaction .endpoint) w) ≡ act (links (pick b false (not l)) Keep) (w .transaction .endpoint) w
