@@ -3,7 +3,7 @@ use Prim.Native.Nat.{ℕ, _+_, _*_, _≤_}
 use native.Mathlib.Omega.{arith}
 use mathlib.Core.Bool.{Bool, true, false}
 use Rattle.update.specs.Update.{when}
-use Rattle.update.specs.Tally.{Within, addWaiting, addLink, addEntry, addItem, tallyUpdate}
+use Rattle.update.specs.Tally.{Within, addWaiting, addTransaction, addLink, addEntry, addItem, tallyUpdate}
 use Rattle.update.specs.declared.Update.{Update}
 use Rattle.update.specs.declared.tally.Tally.{Tally}
 
@@ -21,6 +21,10 @@ module _ {k : ℕ} {t : Tally} (h : Within k t) where
   pub link-within : (b : Bool) → Within (grown k) (when b addLink t)
   link-within true = record { raw = omega arith; devices = omega arith; endpoints = omega arith; packets = omega arith; events = omega arith; transactions = omega arith; groups = omega arith; bytes = omega arith; states = omega arith; items = omega arith; links = omega arith; requests = omega arith; waiting = omega arith }
   link-within false = wider (grown k) (omega arith)
+
+  pub transaction-within : (b : Bool) → Within (grown k) (when b addTransaction t)
+  transaction-within true = record { raw = omega arith; devices = omega arith; endpoints = omega arith; packets = omega arith; events = omega arith; transactions = omega arith; groups = omega arith; bytes = omega arith; states = omega arith; items = omega arith; links = omega arith; requests = omega arith; waiting = omega arith }
+  transaction-within false = wider (grown k) (omega arith)
 
   pub entry-within : (b : Bool) (n : ℕ) → n ≤ 128 → Within (grown k) (when b (addEntry n) t)
   entry-within true n g = record { raw = omega arith; devices = omega arith; endpoints = omega arith; packets = omega arith; events = omega arith; transactions = omega arith; groups = omega arith; bytes = omega arith; states = omega arith; items = omega arith; links = omega arith; requests = omega arith; waiting = omega arith }

@@ -268,3 +268,17 @@ act-adds u x {t} {w₀} {w} h s a = act-at w₀ x (w .count) h u s (record { add
 -- the endpoint's phase after it
 pub act-phase : (u : Update) (x : ℕ) (w : World) → x < w .count → Suits u (phase x w) → phase x (act u x w) ≡ phaseAfter u (phase x w)
 act-phase u x w h s = act-at w x (w .count) h u s (record { adds = adds-none w; count = refl; phase = refl }) .phase
+
+-- the steps of an update by themselves, as the rows of events take them
+module _ (x : ℕ) {t : Tally} {w₀ w : World} (h : x < w .count) (a : Adds t w₀ w) where
+  found : On t w₀ x (w .count) (phase x w) w
+  found = record { adds = a; count = refl; phase = refl }
+
+  pub group-adds : (i : ℕ) → Adds (addLink t) w₀ (rules.pushGroup x i w)
+  group-adds i = group-at w₀ x (w .count) h found i .adds
+
+  pub entry-adds : (start : Bool) → Adds (addEntry (w .count) t) w₀ (rules.addGroupEntry x start w)
+  entry-adds start = entry-at w₀ x (w .count) h found start .adds
+
+  pub item-adds : Adds (addItem t) w₀ (rules.addItem x w)
+  item-adds = item-at w₀ x (w .count) h found .adds
