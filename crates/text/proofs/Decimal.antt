@@ -1,12 +1,13 @@
--- The decimal digits of a word: those of its quotient by 10, then the remainder.
+-- The decimal digits of a word: those of its quotient by 10, then the remainder; they read as the word, with no leading zero.
 -- Assumes nothing.
-use Prim.Native.Nat.{ℕ, zero, suc, _+_, _*_, _/_, _%_, _^_, _<_, _≤_}
+use Prim.Native.Nat.{ℕ, zero, suc, _+_, _-_, _*_, _/_, _%_, _^_, _<_, _≤_}
 use native.Mathlib.Omega.{arith}
 use native.Mathlib.Nat.{pow-suc}
 use mathlib.Core.Path.{_≡_, refl, sym, ap, _∙_}
 use mathlib.Core.Bool.{Bool, true, false}
 use mathlib.Core.List.{List, [], _∷_, _++_}
 use lib.Dec.{ltb}
+use lib.ListN.{length, getD, length-append, List·getD-append}
 use borrow.Author.Tests.{lt-ltb, le-ltb, ltb-true, ltb-false}
 use Rattle.text.specs.Numbers.{pick, digit, digits, decimal}
 
@@ -45,3 +46,42 @@ module _ (n : ℕ) where
   decimal-more h g =
       let q : n / 10 < 10 ^ 19 = omega arith in
       more 19 n g ∙ ap (λ (ds : List ℕ). ds ++ (digit (n % 10) ∷ [])) (sym (enough 18 (n / 10) q))
+
+-- read as decimal digits, from left to right
+abbrev value : List ℕ → ℕ → ℕ
+value [] so-far = so-far
+value (d ∷ ds) so-far = value ds (so-far * 10 + (d - 0x30))
+
+value-last : (ds : List ℕ) (d so-far : ℕ) → value (ds ++ (d ∷ [])) so-far ≡ value ds so-far * 10 + (d - 0x30)
+value-last [] d so-far = refl
+value-last (x ∷ ds) d so-far = value-last ds d (so-far * 10 + (x - 0x30))
+
+-- what `digits` gives of a number that it has enough digits for: digits that read as the number, and none of them a leading zero
+record Right (n : ℕ) (ds : List ℕ) : Type 0 where
+  reads : value ds 0 ≡ n
+  some : 0 < length ds
+  leads : 0 < n → 0x30 < getD ds 0 0
+
+right-small : (n : ℕ) → Right n (digit n ∷ [])
+right-small n = record { reads = omega arith; some = omega arith; leads = λ h. omega arith }
+
+right-more : (n : ℕ) (ds : List ℕ) → 10 ≤ n → Right (n / 10) ds → Right n (ds ++ (digit (n % 10) ∷ []))
+right-more n ds l r =
+    record {
+      reads = value-last ds (digit (n % 10)) 0 ∙ omega (arith, r .reads);
+      some = simp length-append (omega arith);
+      leads = λ h. rw (List·getD-append ds (digit (n % 10) ∷ []) 0 0 (r .some)) (r .leads (omega arith));
+    }
+
+right : (k n : ℕ) → n < 10 ^ suc k → Right n (digits (suc k) n)
+right zero n h = rw (small 0 n h) (right-small n)
+right (suc k) n h =
+    by-ten n (λ l. rw (small (suc k) n l) (right-small n))
+    (λ l.
+    let g : n < 10 ^ suc k * 10 = rw (pow-suc 10 (suc k)) at h in
+    let q : n / 10 < 10 ^ suc k = omega arith in
+    rw (more (suc k) n l) (right-more n (digits (suc k) (n / 10)) l (right k (n / 10) q)))
+
+decimal-right : (n : ℕ) → n < 2 ^ 64 → Right n (decimal n)
+unfolding decimal
+decimal-right n h = right 19 n (omega arith)

@@ -1,0 +1,105 @@
+-- How long a line can be, for callers that keep room for one. Nothing here is to be believed; all of it follows from Lines.
+-- Assumes nothing.
+use Prim.Native.Nat.{ℕ, zero, suc, _+_, _*_, _/_, _%_, _≤_}
+use native.Mathlib.Omega.{arith}
+use mathlib.Core.Path.{_≡_, refl, ap}
+use mathlib.Core.Bool.{Bool, true, false}
+use mathlib.Core.List.{List, [], _∷_, _++_, map}
+use lib.Dec.{eqb, ltb}
+use lib.ListN.{length, getD, length-append, length-map}
+use Rattle.text.specs.Words as words
+use Rattle.text.specs.Words.{space, newline, inEnd, outEnd, startEnd, endEnd}
+use Rattle.text.specs.Numbers.{pick, digit, digits, decimal, hexByte, hexBytes, hexSetup, letter}
+use Rattle.text.specs.Lines.{fields, line, deviceLine, endpointLine, packetLine, eventLine, transactionLine, groupLine, stateLine, itemLine, linkLine, requestLine, refusedLine}
+
+-- a state line: its word, a row of 20 digits, 128 letters, two spaces and the end
+abbrev pub longest : ℕ
+longest = 5 + 21 + 1 + 128 + 1
+
+chosen : (n : ℕ) (b : Bool) (x y : List ℕ) → length x ≤ n → length y ≤ n → length (pick b x y) ≤ n
+chosen n true x y f g = f
+chosen n false x y f g = g
+
+digits-length : (k n : ℕ) → length (digits k n) ≤ k
+unfolding digits
+digits-length zero n = omega arith
+digits-length (suc k) n =
+    chosen (suc k) (ltb n 10) (digit n ∷ []) (digits k (n / 10) ++ (digit (n % 10) ∷ [])) (omega arith)
+    (simp length-append (omega (arith, digits-length k (n / 10))))
+
+fields-length : (ns : List ℕ) → length (fields ns) ≤ 21 * length ns
+unfolding fields decimal
+fields-length [] = omega arith
+fields-length (n ∷ ns) = simp length-append (omega (arith, digits-length 20 n, fields-length ns))
+
+line-length : (w ns e : List ℕ) → length (line w ns e) ≤ length w + 21 * length ns + length e
+unfolding line
+line-length w ns e = simp length-append (omega (arith, fields-length ns))
+
+hex-length : (n w : ℕ) → length (hexBytes n w) ≡ 2 * n
+unfolding hexBytes
+hex-length zero w = refl
+hex-length (suc n) w = omega (arith, hex-length n (w / 256))
+
+within : (w ns e : List ℕ) → length w + 21 * length ns + length e ≤ longest → length (line w ns e) ≤ longest
+within w ns e h = omega (arith, line-length w ns e)
+
+module _ (row : ℕ) (w : List ℕ) where
+  pub device-fits : length (deviceLine row w) ≤ longest
+  device-fits = within words.device (row ∷ getD w 0 0 ∷ []) newline (omega arith)
+
+  pub endpoint-fits : length (endpointLine row w) ≤ longest
+  unfolding endpointLine
+  endpoint-fits =
+      chosen longest (eqb (getD w 1 0) 16) _ _ (within words.endpoint (row ∷ getD w 0 0 ∷ []) words.eventEnd (omega arith))
+      (chosen longest (eqb (getD w 1 0) 17) _ _ (within words.endpoint (row ∷ getD w 0 0 ∷ []) words.invalidEnd (omega arith))
+      (chosen longest (eqb (getD w 1 0) 18) _ _ (within words.endpoint (row ∷ getD w 0 0 ∷ []) words.framingEnd (omega arith))
+      (within words.endpoint (row ∷ getD w 0 0 ∷ getD w 1 0 ∷ []) (pick (eqb (getD w 2 0) 1) inEnd outEnd)
+      (omega (arith, chosen 5 (eqb (getD w 2 0) 1) inEnd outEnd (omega arith) (omega arith))))))
+
+  pub packet-fits : length (packetLine row w) ≤ longest
+  packet-fits = within words.packet (row ∷ getD w 0 0 ∷ getD w 1 0 ∷ []) newline (omega arith)
+
+  pub event-fits : length (eventLine row w) ≤ longest
+  event-fits = within words.event (row ∷ getD w 0 0 ∷ getD w 1 0 ∷ []) newline (omega arith)
+
+  pub transaction-fits : length (transactionLine row w) ≤ longest
+  transaction-fits = within words.transaction (row ∷ getD w 0 0 ∷ []) newline (omega arith)
+
+  pub group-fits : length (groupLine row w) ≤ longest
+  unfolding groupLine
+  group-fits =
+      within words.group (row ∷ getD w 0 0 ∷ getD w 1 0 ∷ []) (pick (eqb (getD w 2 0) 1) startEnd endEnd)
+      (omega (arith, chosen 7 (eqb (getD w 2 0) 1) startEnd endEnd (omega arith) (omega arith)))
+
+  pub state-fits : length w ≤ 128 → length (stateLine row w) ≤ longest
+  unfolding stateLine
+  state-fits h =
+      simp (length-append, length-map) (omega (arith, line-length words.state (row ∷ []) (space ∷ [])))
+
+  pub item-fits : length (itemLine row w) ≤ longest
+  item-fits = within words.item (row ∷ getD w 0 0 ∷ []) newline (omega arith)
+
+  pub request-fits : length (requestLine row w) ≤ longest
+  unfolding requestLine
+  request-fits =
+      simp length-append
+      (omega (
+        arith,
+        line-length words.request (row ∷ getD w 0 0 ∷ []) (space ∷ []),
+        hex-length 8 (getD w 1 0),
+        line-length [] (getD w 2 0 ∷ []) newline,
+      ))
+
+pub link-fits : (w : List ℕ) → length (linkLine w) ≤ longest
+unfolding linkLine
+link-fits w =
+    chosen longest (eqb (getD w 0 0) 0) _ _ (within words.linkT (getD w 1 0 ∷ getD w 2 0 ∷ []) newline (omega arith))
+    (chosen longest (eqb (getD w 0 0) 1) _ _ (within words.linkG (getD w 1 0 ∷ getD w 2 0 ∷ []) newline (omega arith))
+    (chosen longest (eqb (getD w 0 0) 2) _ _ (within words.linkD (getD w 1 0 ∷ getD w 2 0 ∷ getD w 3 0 ∷ []) newline (omega arith))
+    (within words.linkE (getD w 1 0 ∷ getD w 2 0 ∷ []) newline (omega arith))))
+
+pub refused-fits : (answer at : ℕ) → length (refusedLine answer at) ≤ longest
+unfolding refusedLine
+refused-fits answer at =
+    simp length-append (omega (arith, line-length words.refused (answer ∷ []) [], line-length words.place (at ∷ []) newline))
