@@ -10,6 +10,12 @@ fn main() {
     let source = Path::new("../docs/src");
     println!("cargo:rerun-if-changed=changes");
     println!("cargo:rerun-if-changed=../docs/src/src");
+    if std::env::var_os("CARGO_FEATURE_PORT").is_some() {
+        // Where `rt staticlib` leaves the port.
+        let root = std::env::current_dir().expect("the folder of the crate");
+        println!("cargo:rustc-link-search=native={}", root.join("../target/staticlib").display());
+        println!("cargo:rerun-if-changed=../target/staticlib");
+    }
     for name in ["usb", "event", "capture", "decoder"] {
         let text = made(&fs::read_to_string(changes.join(name).with_extension("txt")).expect(name), source);
         fs::write(out.join(name).with_extension("rs"), &text).expect("OUT_DIR can be written");

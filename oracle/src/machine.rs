@@ -229,3 +229,82 @@ impl Mechanism for Machine {
         }
     }
 }
+
+// ---- group_status alone, for a comparison on states that no trace need reach
+
+/// The words of a state, in the order of `pivotspark_group_status` (crates/capi).
+pub type State = [u64; 23];
+
+/// The source's `group_status` on a state: status, effect (kind, number, waited, id), then last_success, setup (there, bytes),
+/// payload and whether a payload waits. The tokens, types and lengths must be ones that the source can hold.
+pub fn group_status_words(s: &State) -> [u64; 10] {
+    use crate::capture::{Detail, DeviceData, Requests};
+    let requests = Requests::default();
+    let device = DeviceData::new(&requests);
+    let address = match s[19] {
+        5 => EndpointAddr(0x12),
+        6 => EndpointAddr(0x11),
+        7 => EndpointAddr(0x10),
+        _ => EndpointAddr(1),
+    };
+    if s[19] < 4 {
+        let max = if s[20] == 0 { None } else { Some(s[20] as usize) };
+        device.details.borrow_mut()[1] = Detail { kind: Some(usb::EndpointType::from(s[19] as u8)), max };
+    }
+    let mut e = endpoint_of(s, address);
+    let mut t = transaction_of(s);
+    let (status, effect) = e.group_status(&device, &mut t, s[21] == 1, s[22] == 1).expect("a transaction with its token");
+    let [kind, number, waited, id] = match (effect, requests.borrow().first()) {
+        (TransactionSideEffect::NoEffect, Some(row)) => [2, row.length, 0, 0],
+        (TransactionSideEffect::NoEffect, None) => [0; 4],
+        (TransactionSideEffect::NewDevice(address), _) => [1, address.0 as u64, 0, 0],
+        (TransactionSideEffect::PendingData(data), _) => [3, data.len() as u64, 0, 0],
+        (TransactionSideEffect::IndexData(length, id), _) => [4, length as u64, id.is_some() as u64, id.map_or(0, |id| id.value)],
+    };
+    let setup = e.setup.map_or(0, |fields| u64::from_le_bytes(fields.bytes()));
+    let waits = e.pending_payload.is_some() as u64;
+    [status as u64, kind, number, waited, id, e.last_success as u64, e.setup.is_some() as u64, setup, e.payload.len() as u64, waits]
+}
+
+fn setup_of(there: u64, bytes: u64) -> Option<SetupFields> {
+    let mut packet = [0; 9];
+    packet[1..].copy_from_slice(&bytes.to_le_bytes());
+    (there == 1).then(|| SetupFields::from_data_packet(&packet))
+}
+
+fn endpoint_of(s: &State, address: EndpointAddr) -> EndpointData {
+    let mut e = EndpointData::new(DeviceId::from(0), EndpointId::from(3), address);
+    let group = EndpointGroupId::from(0);
+    match s[0] {
+        1 => e.early_start = Some(group),
+        2 => {
+            let last = (s[2] == 1).then(|| PID::from(s[3] as u8));
+            e.active = Some(GroupState { id: group, first: PID::from(s[1] as u8), last });
+        }
+        3 => e.ended = Some(group),
+        _ => {}
+    }
+    e.last_success = s[4] == 1;
+    e.setup = setup_of(s[5], s[6]);
+    e.payload = vec![0; s[7] as usize];
+    e.pending_payload = (s[8] == 1).then(|| (vec![0; s[9] as usize], EndpointTransactionId::from(s[10])));
+    e
+}
+
+fn transaction_of(s: &State) -> TransactionState {
+    let pid = PID::from(s[14] as u8);
+    let style = match s[11] {
+        1 => TransactionStyle::Simple(pid),
+        _ => TransactionStyle::Split(StartComplete::from(s[12] as u8), usb::EndpointType::from(s[13] as u8), Some(pid)),
+    };
+    TransactionState {
+        style,
+        id: TransactionId::from(0),
+        last: pid,
+        endpoint_id: Some(EndpointId::from(3)),
+        endpoint_type: None,
+        ep_transaction_id: None,
+        setup: setup_of(s[15], s[16]),
+        payload: (s[17] == 1).then(|| vec![0; s[18] as usize]),
+    }
+}

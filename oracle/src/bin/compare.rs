@@ -1,0 +1,203 @@
+//! The proved port, linked as a static library, beside the Rust: `compare packets N` runs N random packets through both packet checks,
+//! `compare groups N` N random states through both `group_status`.
+
+use std::process::ExitCode;
+
+use oracle::decoder::machine::{State, group_status_words};
+use oracle::generate::Random;
+use oracle::packets::{data, handshake, sof, split, token};
+use oracle::usb::PID::{self, *};
+use oracle::usb::validate_packet;
+
+#[link(name = "capi", kind = "static")]
+#[link(name = "group_c", kind = "static")]
+unsafe extern "C" {
+    /// The PID byte of a valid packet, 0 for a malformed one (crates/capi). It reads the bytes and nothing else.
+    fn pivotspark_check(packet: *const u8, length: usize) -> u8;
+    /// `group_status` in words: reads 23, writes 10.
+    fn pivotspark_group_status(state: *const u64, out: *mut u64);
+}
+
+fn port_check(packet: &[u8]) -> u8 {
+    // The contract of pivotspark_check demands nothing of the slice.
+    unsafe { pivotspark_check(packet.as_ptr(), packet.len()) }
+}
+
+fn rust_check(packet: &[u8]) -> u8 {
+    validate_packet(packet).map_or(0, |pid| pid as u8)
+}
+
+/// A valid packet of any PID.
+fn valid(random: &mut Random) -> Vec<u8> {
+    let (address, number) = (random.next() as u8, random.next() as u8);
+    match random.pick(&[OUT, IN, SETUP, PING, SOF, SPLIT, DATA0, DATA1, DATA2, MDATA, ACK, NAK, STALL, NYET, ERR]) {
+        SOF => sof(random.next() as u16),
+        SPLIT => split(address, number & 1, random.next() as u8, random.next() as u8),
+        pid @ (DATA0 | DATA1 | DATA2 | MDATA) => {
+            let length = random.pick(&[0, 1, 7, 8, 9, 15, 16, 31, 32, 33, 63, 64, 512, 1023, 1024]);
+            data(pid, &random.bytes(length))
+        }
+        pid @ (OUT | IN | SETUP | PING) => token(pid, address, number),
+        pid => handshake(pid),
+    }
+}
+
+/// Every length that a rule speaks of, with every first byte in turn; bytes random, but the checks of data packets right half the time.
+fn of_length(random: &mut Random, length: u64, first: u8) -> Vec<u8> {
+    let mut packet = random.bytes(length);
+    if let Some(byte) = packet.first_mut() {
+        *byte = first;
+    }
+    if length >= 3 && random.chance(50) {
+        let made = data(PID::from(first), &packet[1..length as usize - 2]);
+        packet[1..].copy_from_slice(&made[1..]);
+    }
+    packet
+}
+
+struct Tally {
+    compared: u64,
+    valid: u64,
+    differences: u64,
+}
+
+impl Tally {
+    fn compare(&mut self, packet: &[u8]) {
+        let (rust, port) = (rust_check(packet), port_check(packet));
+        self.compared += 1;
+        self.valid += (rust != 0) as u64;
+        if rust != port {
+            self.differences += 1;
+            println!("differs: {packet:02X?}: the Rust {rust:02X}, the port {port:02X}");
+        }
+    }
+}
+
+fn packets(count: u64) -> bool {
+    let mut random = Random::new(8);
+    let mut tally = Tally { compared: 0, valid: 0, differences: 0 };
+    for first in 0..=255 {
+        for length in [0, 1, 2, 3, 4, 5, 11, 1026, 1027, 1028] {
+            tally.compare(&of_length(&mut random, length, first));
+        }
+    }
+    for length in (0..=1030).chain(4095..=4097) {
+        for first in [DATA0, DATA1, DATA2, MDATA, SETUP, SPLIT, ACK] {
+            tally.compare(&of_length(&mut random, length, first as u8));
+        }
+    }
+    while tally.compared < count {
+        let mut packet = valid(&mut random);
+        tally.compare(&packet);
+        let place = random.below(packet.len() as u64) as usize;
+        packet[place] ^= 1 << random.below(8);
+        tally.compare(&packet);
+        packet.truncate(place);
+        tally.compare(&packet);
+    }
+    println!("packets: {} compared, {} of them valid, {} differences", tally.compared, tally.valid, tally.differences);
+    tally.differences == 0
+}
+
+// ---- group_status
+
+fn port_groups(state: &State) -> [u64; 10] {
+    let mut out = [0; 10];
+    // The contract demands nothing but the two lengths, which the types have.
+    unsafe { pivotspark_group_status(state.as_ptr(), out.as_mut_ptr()) };
+    out
+}
+
+/// A state that the Rust can hold: a transaction with its token, lengths that a packet can have. Values that matter come often.
+fn state(random: &mut Random) -> State {
+    let tokens = [SETUP, IN, OUT, PING, SOF, Malformed, SETUP, IN, OUT, ACK, DATA0];
+    let pid = |random: &mut Random| random.pick(&tokens) as u64;
+    let length = |random: &mut Random| random.pick(&[0, 1, 7, 8, 63, 64, 65, 1024]);
+    let bit = |random: &mut Random| random.below(2);
+    let setup = |random: &mut Random| {
+        let kind = random.pick(&[0x00, 0x80, 0x20, 0x40, 0x60, 0x1F, 0x9F, 0xFF]);
+        let request = random.pick(&[5, 5, 6, 9, 0]);
+        let length = random.pick(&[0, 0, 1, 8, 256, 0xFF00, 0xFFFF]);
+        kind | request << 8 | random.below(1 << 32) << 16 | length << 48
+    };
+    // Control endpoints and active groups have the most rows.
+    let kind = random.pick(&[0, 0, 0, 0, 1, 2, 3, 4, 5, 6, 7]);
+    let phase = random.pick(&[0, 1, 2, 2, 2, 2, 3]);
+    let max = if kind < 4 { random.pick(&[0, 8, 64, 1024]) } else { 0 };
+    [
+        phase,
+        pid(random),
+        bit(random),
+        pid(random),
+        bit(random),
+        bit(random),
+        setup(random),
+        length(random),
+        bit(random),
+        length(random),
+        random.below(100),
+        random.pick(&[1, 3]),
+        bit(random),
+        random.below(4),
+        pid(random),
+        bit(random),
+        setup(random),
+        bit(random),
+        length(random),
+        kind,
+        max,
+        bit(random),
+        bit(random),
+    ]
+}
+
+/// Where the setup bytes, or the T number of a payload that did not wait, are not there, the Rust has no value to compare.
+fn comparable(mut words: [u64; 10]) -> [u64; 10] {
+    if words[3] == 0 {
+        words[4] = 0;
+    }
+    if words[6] == 0 {
+        words[7] = 0;
+    }
+    words
+}
+
+fn groups(count: u64) -> bool {
+    let mut random = Random::new(4);
+    let (mut differences, mut met) = (0, [[0u64; 5]; 6]);
+    for _ in 0..count {
+        let state = state(&mut random);
+        let (rust, port) = (comparable(group_status_words(&state)), comparable(port_groups(&state)));
+        met[rust[0] as usize][rust[1] as usize] += 1;
+        if rust != port {
+            differences += 1;
+            println!("differs: {state:?}: the Rust {rust:?}, the port {port:?}");
+        }
+    }
+    println!("status: no effect, new device, request, pending, indexed");
+    for (name, row) in ["Single", "New", "Continue", "Retry", "Done", "Invalid"].iter().zip(met) {
+        println!("{name}: {row:?}");
+    }
+    println!("groups: {count} states compared, {differences} differences");
+    differences == 0
+}
+
+fn main() -> ExitCode {
+    let words: Vec<String> = std::env::args().skip(1).collect();
+    let good = match words.iter().map(String::as_str).collect::<Vec<_>>()[..] {
+        ["packets", n] => n.parse().map(packets),
+        ["groups", n] => n.parse().map(groups),
+        _ => {
+            eprintln!("usage: compare packets N | compare groups N");
+            return ExitCode::FAILURE;
+        }
+    };
+    match good {
+        Ok(true) => ExitCode::SUCCESS,
+        Ok(false) => ExitCode::FAILURE,
+        Err(_) => {
+            eprintln!("{} is no number", words[1]);
+            ExitCode::FAILURE
+        }
+    }
+}
