@@ -135,3 +135,14 @@ pub record Room (m : Memory) : Type 0 where
   pub marks : m .tally .marks ≤ length (m .marks)
   pub items : m .tally .items ≤ length (m .items)
   pub links : m .tally .links * 4 ≤ length (m .links)
+
+-- ---- a step f over some of the logs, whatever the others hold: what stands after it is f of what stood before
+
+abbrev pub OnGroups : (Memory → Memory) → Tally → List ℕ → List ℕ → List ℕ → List ℕ → Tally → List ℕ → List ℕ → List ℕ → List ℕ → Type 0
+OnGroups f d t g s m d′ t′ g′ s′ m′ = (i l : List ℕ) → memory d′ t′ g′ s′ m′ i l ≡ f (memory d t g s m i l)
+
+abbrev pub OnItems : (Memory → Memory) → Tally → List ℕ → List ℕ → List ℕ → Tally → List ℕ → List ℕ → List ℕ → Type 0
+OnItems f d t i l d′ t′ i′ l′ = (g s m : List ℕ) → memory d′ t′ g s m i′ l′ ≡ f (memory d t g s m i l)
+
+abbrev pub OnLinks : (Memory → Memory) → Tally → List ℕ → List ℕ → Tally → List ℕ → List ℕ → Type 0
+OnLinks f d t l d′ t′ l′ = (g s m i : List ℕ) → memory d′ t′ g s m i l′ ≡ f (memory d t g s m i l)

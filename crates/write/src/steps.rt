@@ -8,8 +8,7 @@ use tables::Phase;
 use tables::entry::load;
 use tables::link;
 ghost use mathlib.Core.Path.{_≡_};
-ghost use mathlib.Core.List.{List};
-ghost use Prim.Native.Nat.{ℕ, _+_, _*_, _^_, _<_, _≤_};
+ghost use Prim.Native.Nat.{_+_, _*_, _^_, _<_, _≤_};
 ghost use lib.ListN.{length};
 ghost use Rattle.rows.specs.Sets.{one};
 ghost use Rattle.tables.specs.Phases.{waiting};
@@ -17,7 +16,7 @@ ghost use Rattle.tables.specs.Table.{entryAt, withPhase};
 ghost use Rattle.tables.specs.declared.Phase.the-variants.{Ended};
 ghost use Rattle.rules.specs.World.{cleared};
 ghost use Rattle.update.specs.Update.{when};
-ghost use Rattle.write.specs.Memory.{Room, memory, alter, groupTally, itemTally, linkTally, endRow, linkStep, startGroup, itemRow, tied};
+ghost use Rattle.write.specs.Memory.{Room, OnGroups, OnItems, OnLinks, memory, alter, groupTally, itemTally, linkTally, endRow, linkStep, startGroup, itemRow, tied};
 
 // ended = Some(..), with no row.
 pub fn over_if(on: bool, x: usize, table: &mut [u64; 2176])
@@ -55,14 +54,15 @@ pub fn end_row_if(
     requires { ⌜ when on (groupTally n) d .groups * 3 ≤ length (now groups) ⌝ }
     requires { ⌜ when on (groupTally n) d .states ≤ length (now states) ⌝ }
     requires { ⌜ when on (groupTally n) d .marks ≤ length (now marks) ⌝ }
-    ensures { λ r. ⌜ (is ls : List ℕ) → memory r (now (table .exit)) (now (groups .exit)) (now (states .exit)) (now (marks .exit)) is ls ≡ when on (endRow n x) (memory d (now (table .entry)) (now (groups .entry)) (now (states .entry)) (now (marks .entry)) is ls) ⌝ }
+    ensures { λ r. ⌜ OnGroups (when on (endRow n x)) d (now (table .entry)) (now (groups .entry)) (now (states .entry)) (now (marks .entry)) r (now (table .exit)) (now (groups .exit)) (now (states .exit)) (now (marks .exit)) ⌝ }
 {
-    if !on {
-        return d;
+    if on {
+        entries::set_phase(table, x, Phase::Ended);
+        let nth = entries::last_group(table, x);
+        group_row(d, n, x, nth, false, table, groups, states, marks)
+    } else {
+        d
     }
-    entries::set_phase(table, x, Phase::Ended);
-    let nth = entries::last_group(table, x);
-    group_row(d, n, x, nth, false, table, groups, states, marks)
 }
 
 // An item.
@@ -78,12 +78,13 @@ pub fn item_if(
     requires { ⌜ n ≤ 128 ⌝ }
     requires { ⌜ when on (itemTally (waiting (now table) n) x) d .items ≤ length (now items) ⌝ }
     requires { ⌜ when on (itemTally (waiting (now table) n) x) d .links * 4 ≤ length (now links) ⌝ }
-    ensures { λ r. ⌜ (gs ss ms : List ℕ) → memory r (now (table .exit)) gs ss ms (now (items .exit)) (now (links .exit)) ≡ when on (itemRow n x) (memory d (now (table .entry)) gs ss ms (now (items .entry)) (now (links .entry))) ⌝ }
+    ensures { λ r. ⌜ OnItems (when on (itemRow n x)) d (now (table .entry)) (now (items .entry)) (now (links .entry)) r (now (table .exit)) (now (items .exit)) (now (links .exit)) ⌝ }
 {
-    if !on {
-        return d;
+    if on {
+        item_row(d, n, x, table, items, links)
+    } else {
+        d
     }
-    item_row(d, n, x, table, items, links)
 }
 
 // ep_transaction_id = Some(i)
@@ -108,15 +109,16 @@ pub fn link_if(
     requires { ⌜ x < 128 ⌝ }
     requires { ⌜ entryAt (now table) x .transactions + one on < 2 ^ 64 ⌝ }
     requires { ⌜ when on linkTally d .links * 4 ≤ length (now links) ⌝ }
-    ensures { λ r. ⌜ (gs ss ms is : List ℕ) → memory r (now (table .exit)) gs ss ms is (now (links .exit)) ≡ when on (linkStep x id) (memory d (now (table .entry)) gs ss ms is (now (links .entry))) ⌝ }
+    ensures { λ r. ⌜ OnLinks (when on (linkStep x id)) d (now (table .entry)) (now (links .entry)) r (now (table .exit)) (now (links .exit)) ⌝ }
 {
-    if !on {
-        return d;
+    if on {
+        let e = load(table, x);
+        let d = link_row(d, link::T, x, id, 0, links);
+        entries::more_transactions(table, x);
+        tie(d, e.transactions)
+    } else {
+        d
     }
-    let e = load(table, x);
-    let d = link_row(d, link::T, x, id, 0, links);
-    entries::more_transactions(table, x);
-    tie(d, e.transactions)
 }
 
 // A G row, a start row and an item.
@@ -138,12 +140,13 @@ pub fn start_if(
     requires { ⌜ Room (when on (startGroup n x) (memory d (now table) (now groups) (now states) (now marks) (now items) (now links))) ⌝ }
     ensures { λ r. ⌜ memory r (now (table .exit)) (now (groups .exit)) (now (states .exit)) (now (marks .exit)) (now (items .exit)) (now (links .exit)) ≡ when on (startGroup n x) (memory d (now (table .entry)) (now (groups .entry)) (now (states .entry)) (now (marks .entry)) (now (items .entry)) (now (links .entry))) ⌝ }
 {
-    if !on {
-        return d;
+    if on {
+        let d = link_row(d, link::G, x, d.link, 0, links);
+        entries::more_groups(table, x);
+        let nth = entries::last_group(table, x);
+        let d = group_row(d, n, x, nth, true, table, groups, states, marks);
+        item_row(d, n, x, table, items, links)
+    } else {
+        d
     }
-    let d = link_row(d, link::G, x, d.link, 0, links);
-    entries::more_groups(table, x);
-    let nth = entries::last_group(table, x);
-    let d = group_row(d, n, x, nth, true, table, groups, states, marks);
-    item_row(d, n, x, table, items, links)
 }

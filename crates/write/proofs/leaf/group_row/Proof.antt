@@ -1,14 +1,9 @@
+-- `write::leaf::group_row` meets its contract: what each of the three writers ensures.
 use native.Mathlib.Omega.{arith}
 use mathlib.Core.Path.{_≡_, refl, _∙_}
 use borrow.Author.Needs.{needs}
 use Rattle.write.proofs.leaf.group_row.Statement.{statement}
 use Rattle.write.proofs.leaf.group_row.Tie as tie
-use Rattle.write.proofs.leaf.group_row.Reads as reads
-use Rattle.write.proofs.leaf.group_row.Lts as lts
-use Rattle.rows.proofs.put1.Reads as put1-reads
-use Rattle.rows.proofs.put3.Reads as put3-reads
-use Rattle.tables.proofs.entry.flag_word.Reads as flag-word-reads
-use Rattle.tables.proofs.states.add_endpoint_state.Reads as add-endpoint-state-reads
 
 add-end : tie.Need-add-end
 add-end c = search needs
