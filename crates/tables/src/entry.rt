@@ -30,7 +30,7 @@ fn phase_word(phase: Phase) -> u64
     }
 }
 
-fn flag_word(flag: bool) -> u64
+pub fn flag_word(flag: bool) -> u64
     ensures { λ r. ⌜ r ≡ one flag ⌝ }
 {
     if flag { 1 } else { 0 }

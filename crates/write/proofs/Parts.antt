@@ -1,0 +1,46 @@
+-- What the steps' functions lean on: memories that agree in each part are one, and the room that a step's parts have.
+use Prim.Native.Nat.{ℕ, pred, _+_, _*_, _≤_}
+use native.Mathlib.Omega.{arith}
+use mathlib.Core.Bool.{Bool, true, false}
+use mathlib.Core.List.{List, [], _∷_}
+use mathlib.Core.Path.{_≡_, refl, _∙_}
+use lib.ListN.{length}
+use lib.Seq.{sets, length-sets}
+use Rattle.rows.specs.Sets.{one}
+use Rattle.tables.specs.Link as kind
+use Rattle.tables.specs.Phases.{waiting, closing}
+use Rattle.tables.specs.States.{nextStates, stateBytes}
+use Rattle.rules.specs.World.{moreGroups}
+use Rattle.write.specs.Memory.{Memory, Room, memory, alter, startGroup, lastNumber}
+use Rattle.write.specs.declared.Tally.{Tally}
+
+pub parts : {d d′ : Tally} {t t′ g g′ s s′ m m′ i i′ l l′ : List ℕ}
+    → d ≡ d′ → t ≡ t′ → g ≡ g′ → s ≡ s′ → m ≡ m′ → i ≡ i′ → l ≡ l′ → memory d t g s m i l ≡ memory d′ t′ g′ s′ m′ i′ l′
+parts d t g s m i l = rw (d, t, g, s, m, i, l) refl
+
+-- the table that an item after a start row sees
+abbrev pub started : ℕ → ℕ → List ℕ → List ℕ
+started n x t = nextStates (alter x moreGroups t) n x true
+
+-- the room of a start's parts
+module _ (n x : ℕ) (m : Memory) (r : Room (startGroup n x m)) where
+  pub room-groups : (m .tally .groups + 1) * 3 ≤ length (m .groups)
+  room-groups = omega (arith, r .groups, length-sets (m .groups) (m .tally .groups * 3) (x ∷ lastNumber x (alter x moreGroups (m .table)) ∷ 1 ∷ []))
+
+  pub room-states : m .tally .states + 1 ≤ length (m .states)
+  room-states = omega (arith, r .states, length-sets (m .states) (m .tally .states) (m .tally .marks ∷ []))
+
+  pub room-marks : m .tally .marks + n ≤ length (m .marks)
+  room-marks = omega (arith, r .marks, length-sets (m .marks) (m .tally .marks) (stateBytes (started n x (m .table)) 0 n))
+
+  pub room-items : m .tally .items + 1 ≤ length (m .items)
+  room-items = omega (arith, r .items, length-sets (m .items) (m .tally .items) (pred (m .tally .groups + 1) ∷ []))
+
+  abbrev linked : List ℕ
+  linked = sets (m .links) (m .tally .links * 4) (kind.G ∷ x ∷ m .tally .link ∷ 0 ∷ [])
+
+  pub room-closing : (m .tally .links + 1 + waiting (started n x (m .table)) n) * 4 ≤ length linked
+  room-closing = rw (length-sets linked ((m .tally .links + 1) * 4) (closing (started n x (m .table)) (m .tally .items) 0 n)) at (r .links)
+
+  pub room-link : (m .tally .links + 1) * 4 ≤ length (m .links)
+  room-link = omega (arith, room-closing, length-sets (m .links) (m .tally .links * 4) (kind.G ∷ x ∷ m .tally .link ∷ 0 ∷ []))

@@ -1,0 +1,59 @@
+-- `write::leaf::group_row` meets its contract: what each of the three writers ensures.
+use native.Mathlib.Omega.{arith}
+use mathlib.Core.Path.{_≡_, refl, _∙_}
+use borrow.Author.Needs.{needs}
+use Rattle.write.proofs.leaf.group_row.Statement.{statement}
+use Rattle.write.proofs.leaf.group_row.Tie as tie
+
+add-end : tie.Need-add-end
+add-end c = search needs
+
+add-endpoint-state-requires : tie.Need-add-endpoint-state-requires
+add-endpoint-state-requires c κs = search needs
+
+put1-requires : tie.Need-put1-requires
+put1-requires c κs = search needs
+
+mul-put3 : tie.Need-mul-put3
+mul-put3 c = search needs
+
+flag-word-requires : tie.Need-flag-word-requires
+flag-word-requires c κs = search needs
+
+put3-requires : tie.Need-put3-requires
+put3-requires c κs = search needs
+
+add-d : tie.Need-add-d
+add-d c = search needs
+
+add-d-2 : tie.Need-add-d-2
+add-d-2 c = search needs
+
+same-length : tie.Need-same-length
+same-length c = search needs
+
+same-length-2 : tie.Need-same-length-2
+same-length-2 c = search needs
+
+same-length-3 : tie.Need-same-length-3
+same-length-3 c = search needs
+
+returns : tie.Need-returns
+returns c = (refl, (c .before .before .before .before .before .before .before .before .before .before .before .add-endpoint-state .ensures .0, (c .before .before .put3 .ensures ∙ rw (c .before .before .before .flag-word .ensures) refl, (c .before .before .before .before .before .before .before .put1 .ensures, c .before .before .before .before .before .before .before .before .before .before .before .add-endpoint-state .ensures .1))))
+
+pub group-row-spec : {M : Type 1} → statement M
+group-row-spec =
+    tie.close
+    (tie.spec
+    add-end
+    add-endpoint-state-requires
+    put1-requires
+    mul-put3
+    flag-word-requires
+    put3-requires
+    add-d
+    add-d-2
+    same-length
+    same-length-2
+    same-length-3
+    returns)

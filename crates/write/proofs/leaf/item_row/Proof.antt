@@ -1,0 +1,52 @@
+-- `write::leaf::item_row` meets its contract: what the writers ensure, the E rows being those of the table before it is cleared.
+use Rattle.tables.specs.PhasesLaws.{length-closing}
+use native.Mathlib.Omega.{arith}
+use mathlib.Core.Path.{_≡_, refl, _∙_}
+use borrow.Author.Needs.{needs}
+use Rattle.write.proofs.leaf.item_row.Statement.{statement}
+use Rattle.write.proofs.leaf.item_row.Tie as tie
+
+count-waiting-requires : tie.Need-count-waiting-requires
+count-waiting-requires c κs = search needs
+
+last-requires : tie.Need-last-requires
+last-requires c κs = search needs
+
+put1-requires : tie.Need-put1-requires
+put1-requires c κs = search needs
+
+close-waiting-requires : tie.Need-close-waiting-requires
+close-waiting-requires c κs = (c .before .before .before .before .before .before .before .before .before .before .before .pre .0, omega (arith, length-closing (c .before .before .before .before .before .before .before .before .before .before .before .args .table .now) (c .before .before .before .before .before .before .before .before .before .before .before .args .d .items) 0 (c .before .before .before .before .before .before .before .before .before .before .before .args .n), c .before .before .before .before .before .before .before .before .before .before .before .pre .1 .1))
+
+clear-waiting-requires : tie.Need-clear-waiting-requires
+clear-waiting-requires c κs = search needs
+
+add-d : tie.Need-add-d
+add-d c = search needs
+
+add-d-2 : tie.Need-add-d-2
+add-d-2 c = search needs
+
+same-length : tie.Need-same-length
+same-length c = search needs
+
+same-length-2 : tie.Need-same-length-2
+same-length-2 c = search needs
+
+returns : tie.Need-returns
+returns c = (rw (c .before .before .before .before .before .before .before .before .before .before .before .before .count-waiting .ensures) refl, (c .clear-waiting .ensures, (c .before .before .before .before .before .before .before .before .before .put1 .ensures ∙ rw (c .before .before .before .before .before .before .before .before .before .before .last .ensures) refl, c .before .before .before .before .close-waiting .ensures)))
+
+pub item-row-spec : {M : Type 1} → statement M
+item-row-spec =
+    tie.close
+    (tie.spec
+    count-waiting-requires
+    last-requires
+    put1-requires
+    close-waiting-requires
+    clear-waiting-requires
+    add-d
+    add-d-2
+    same-length
+    same-length-2
+    returns)

@@ -1,0 +1,19 @@
+// What carries the steps of the rules out on memory: the rows of groups, states, items and links, and the endpoint table.
+pub mod entries;
+pub mod leaf;
+pub mod steps;
+
+// How far a call has written: the rows of the five logs that groups go to, the last item's endpoint, and the transaction's T row.
+pub struct Tally {
+    pub groups: usize,
+    pub states: usize,
+    // The state bytes.
+    pub marks: usize,
+    pub items: usize,
+    pub links: usize,
+    // last_item_endpoint: 128 where there is none.
+    pub last: usize,
+    // ep_transaction_id: whether there is one, and the number.
+    pub linked: bool,
+    pub link: u64,
+}
