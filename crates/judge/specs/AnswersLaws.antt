@@ -9,9 +9,9 @@ use Rattle.tables.specs.declared.Found.the-variants.{At, Nothing}
 use Rattle.judge.specs.Answers.{Tests, firstOf, missing}
 
 -- a number that is not the answer was not given
-passed : (a : Bool) (n rest m : ℕ) → (n ≡ m → ⊥) → cond a n rest ≡ m → (a ≡ false) × (rest ≡ m)
-passed true n rest m ne h = absurd (ne h)
-passed false n rest m ne h = (refl, h)
+passed : (a : Bool) (n rest m : ℕ) → cond a n rest ≡ m → (n ≡ m → ⊥) → (a ≡ false) × (rest ≡ m)
+passed true n rest m h ne = absurd (ne h)
+passed false n rest m h ne = (refl, h)
 
 -- the first eight tests do not apply
 pub record Passed (q : Tests) : Type 0 where
@@ -32,14 +32,14 @@ atLast dropped = cond dropped 8 0
 through : (q : Tests) (m : ℕ) → ((n : ℕ) → 0 < n → (n ≡ 8 → ⊥) → n ≡ m → ⊥) → firstOf q ≡ m → Passed q × (atLast (q .dropped) ≡ m)
 unfolding firstOf
 through q m ne h =
-    let h1 = passed (q .ill) 1 _ m (ne 1 (omega arith) (λ e. omega arith)) h in
-    let h2 = passed (q .finished) 2 _ m (ne 2 (omega arith) (λ e. omega arith)) (h1 .1) in
-    let h3 = passed (q .long) 3 _ m (ne 3 (omega arith) (λ e. omega arith)) (h2 .1) in
-    let h4 = passed (q .kind) 4 _ m (ne 4 (omega arith) (λ e. omega arith)) (h3 .1) in
-    let h5 = passed (q .detail) 5 _ m (ne 5 (omega arith) (λ e. omega arith)) (h4 .1) in
-    let h6 = passed (q .address) 6 _ m (ne 6 (omega arith) (λ e. omega arith)) (h5 .1) in
-    let h7 = passed (q .full) 7 _ m (ne 7 (omega arith) (λ e. omega arith)) (h6 .1) in
-    let h9 = passed (q .over) 9 _ m (ne 9 (omega arith) (λ e. omega arith)) (h7 .1) in
+    let h1 = passed (q .ill) _ _ m h (ne _ (omega arith) (λ e. omega arith)) in
+    let h2 = passed (q .finished) _ _ m (h1 .1) (ne _ (omega arith) (λ e. omega arith)) in
+    let h3 = passed (q .long) _ _ m (h2 .1) (ne _ (omega arith) (λ e. omega arith)) in
+    let h4 = passed (q .kind) _ _ m (h3 .1) (ne _ (omega arith) (λ e. omega arith)) in
+    let h5 = passed (q .detail) _ _ m (h4 .1) (ne _ (omega arith) (λ e. omega arith)) in
+    let h6 = passed (q .address) _ _ m (h5 .1) (ne _ (omega arith) (λ e. omega arith)) in
+    let h7 = passed (q .full) _ _ m (h6 .1) (ne _ (omega arith) (λ e. omega arith)) in
+    let h9 = passed (q .over) _ _ m (h7 .1) (ne _ (omega arith) (λ e. omega arith)) in
     (record { ill = h1 .0; finished = h2 .0; long = h3 .0; kind = h4 .0; detail = h5 .0; address = h6 .0; full = h7 .0; over = h9 .0 }, h9 .1)
 
 -- answer 0: no test applies

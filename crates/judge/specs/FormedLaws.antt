@@ -20,8 +20,7 @@ use Rattle.tables.specs.declared.Phase.{Phase}
 use Rattle.tables.specs.declared.Phase.the-variants.{None, Early, Active, Ended}
 use Rattle.rules.specs.World.{noItem}
 use Rattle.judge.specs.Bools.{both, and, implied, imply, either-true, or-left, or-right, every-at, every-true}
-use Rattle.judge.specs.Formed.{every, standing, wordsStored, entryFormed, endpointFormed, heldStyle, mayLack, heldFormed, holds, special, specialsStand, lastNames, wellFormed}
-use Rattle.judge.specs.Room.{fitting}
+use Rattle.judge.specs.Formed.{standing, wordsStored, entryFormed, endpointFormed, heldStyle, mayLack, heldFormed, holds, special, specialsStand, lastNames, wellFormed}
 use Rattle.judge.specs.RoomLaws.{Within, within, fitting-within}
 use Rattle.judge.specs.declared.Counts.{Counts}
 use Rattle.judge.specs.declared.Decoder.{Decoder}

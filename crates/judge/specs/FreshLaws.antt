@@ -6,7 +6,7 @@ use mathlib.Core.Bool.{Bool, true, false, false≢true}
 use mathlib.Core.Logic.{inl}
 use mathlib.Core.List.{List}
 use lib.Dec.{eqb}
-use lib.ListN.{length, getD, set}
+use lib.ListN.{length, getD}
 use lib.Seq.{getD-set-same}
 use Rattle.tables.specs.Details.{fresh}
 use Rattle.tables.specs.Phases.{inPhase, waiting}
@@ -20,7 +20,7 @@ use Rattle.tables.specs.declared.Endpoint.{Endpoint}
 use Rattle.rules.specs.Decoder as rules
 use Rattle.rules.specs.World.{newEndpoint}
 use Rattle.judge.specs.Formed.{wellFormed}
-use Rattle.judge.specs.FormedLaws.{EntryFormed, Stored, WellFormed, well, well-formed}
+use Rattle.judge.specs.FormedLaws.{EntryFormed, Stored, well, well-formed}
 use Rattle.judge.specs.Fresh.{countsOf, freshDecoder, freshDevices, freshTable, refusedDecoder}
 use Rattle.judge.specs.RoomLaws.{Within}
 use Rattle.judge.specs.StoredLaws.{stored-same, stored-other, length-store}

@@ -7,38 +7,38 @@ use rules::EventState;
 use rules::Slot;
 use transaction::Transaction;
 
-// Rows of each log: how many there are or, of the lent logs, how many there is room for. Packet and state bytes count as rows.
+// Rows of each log, by the Rust's names: how many there are or, of the lent logs, how many there is room for. A packet or state byte is a row.
 pub struct Counts {
-    // packet_data: the packet bytes.
+    // packet_data.
     pub bytes: usize,
-    // devices and device_data.
+    // devices.
     pub devices: usize,
-    // endpoints and endpoint_data.
+    // endpoints.
     pub endpoints: usize,
     // packet_index and packet_times.
     pub packets: usize,
-    // The events, with their codes.
+    // event_index and event_codes.
     pub events: usize,
     // transaction_index.
     pub transactions: usize,
     // group_index.
     pub groups: usize,
-    // endpoint_states: the state bytes.
+    // endpoint_states.
     pub marks: usize,
     // endpoint_state_index.
     pub states: usize,
     // item_index.
     pub items: usize,
-    // transaction_ids, group_index, data_transactions with data_byte_counts, and end_index of all endpoints, in one log.
+    // Of every endpoint, in one log: transaction_ids (T), group_index (G), data_transactions with data_byte_counts (D), end_index (E).
     pub links: usize,
-    // The requests, where the Rust calls decode_request.
+    // A row where the Rust calls decode_request.
     pub requests: usize,
 }
 
 // The last item's endpoint where there is no item.
 pub const NO_ITEM: usize = 128;
 
-// Decoder of the Rust, without device_data and endpoint_data, which stand beside it.
+// Decoder of the Rust. Beside it stand the devices, and the endpoint table with endpoint_data and last_endpoint_state.
 pub struct Decoder {
     pub counts: Counts,
     // transaction_state or suspended_transaction, as the slot says; in an empty slot it is not read.

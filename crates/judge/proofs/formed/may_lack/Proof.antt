@@ -1,5 +1,4 @@
 -- `judge::formed::may_lack` meets its contract: by the phase.
-use mathlib.Core.Path.{_∙_}
 use borrow.Author.Needs.{needs}
 use Rattle.judge.proofs.formed.may_lack.Statement.{statement}
 use Rattle.judge.proofs.formed.may_lack.Tie as tie
