@@ -178,7 +178,7 @@ pub fn adds_group(act: Act, keepalive: bool) -> bool
 // The rows of an event, behind those of its packet.
 pub fn tally_act(act: Act, keepalive: bool, endpoints: usize, t: Tally) -> Tally
     requires { ⌜ endpoints ≤ 128 ⌝ }
-    requires { ⌜ Within (2 ^ 32) t ⌝ }
+    requires { ⌜ Within (2 ^ 48) t ⌝ }
     ensures { λ r. ⌜ r ≡ tallyAct (actOf act) keepalive endpoints t ⌝ }
 {
     let row = adds_row(act);

@@ -33,3 +33,13 @@ module _ {k : ℕ} {t : Tally} (h : Within k t) where
   pub item-within : (b : Bool) → Within (grown k) (when b addItem t)
   item-within true = record { raw = omega arith; devices = omega arith; endpoints = omega arith; packets = omega arith; events = omega arith; transactions = omega arith; groups = omega arith; bytes = omega arith; states = omega arith; items = omega arith; links = omega arith; requests = omega arith; waiting = omega arith }
   item-within false = wider (grown k) (omega arith)
+
+-- so a few updates behind each other stay far below what a step asks for
+pub update-within : {k : ℕ} {t : Tally} (u : Update) (n : ℕ) → n ≤ 128 → Within k t → Within (k * 1024 + 4190208) (tallyUpdate u n t)
+unfolding tallyUpdate
+update-within {k} {t} u n g h =
+    let a = end-within (end-within h (u .over)) (u .cut) in
+    let b = link-within (entry-within a (u .cut) n g) (u .link) in
+    let c = entry-within (link-within b (u .start)) (u .start) n g in
+    let d = end-within (item-within c (u .start)) (u .end) in
+    wider (item-within (entry-within d (u .end) n g) (u .item)) (k * 1024 + 4190208) (omega arith)

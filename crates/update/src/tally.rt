@@ -49,7 +49,7 @@ pub fn tally_none(waiting: usize) -> Tally
 
 // A group ends.
 fn tally_end(on: bool, t: Tally) -> Tally
-    requires { ⌜ Within (2 ^ 48) t ⌝ }
+    requires { ⌜ Within (2 ^ 60) t ⌝ }
     ensures { λ r. ⌜ r ≡ when on addWaiting t ⌝ }
 {
     if on {
@@ -64,7 +64,7 @@ fn tally_end(on: bool, t: Tally) -> Tally
 // A packet row, with the packet's bytes; an event's has none.
 pub fn tally_packet(len: usize, t: Tally) -> Tally
     requires { ⌜ len ≤ 4096 ⌝ }
-    requires { ⌜ Within (2 ^ 48) t ⌝ }
+    requires { ⌜ Within (2 ^ 60) t ⌝ }
     ensures { λ r. ⌜ r ≡ addPacket len t ⌝ }
 {
     let mut t = t;
@@ -75,7 +75,7 @@ pub fn tally_packet(len: usize, t: Tally) -> Tally
 
 // An event row.
 pub fn tally_event(t: Tally) -> Tally
-    requires { ⌜ Within (2 ^ 48) t ⌝ }
+    requires { ⌜ Within (2 ^ 60) t ⌝ }
     ensures { λ r. ⌜ r ≡ addEvent t ⌝ }
 {
     let mut t = t;
@@ -85,7 +85,7 @@ pub fn tally_event(t: Tally) -> Tally
 
 // A device row.
 pub fn tally_device(on: bool, t: Tally) -> Tally
-    requires { ⌜ Within (2 ^ 48) t ⌝ }
+    requires { ⌜ Within (2 ^ 60) t ⌝ }
     ensures { λ r. ⌜ r ≡ when on addDevice t ⌝ }
 {
     if on {
@@ -99,7 +99,7 @@ pub fn tally_device(on: bool, t: Tally) -> Tally
 
 // An endpoint row.
 pub fn tally_endpoint(on: bool, t: Tally) -> Tally
-    requires { ⌜ Within (2 ^ 48) t ⌝ }
+    requires { ⌜ Within (2 ^ 60) t ⌝ }
     ensures { λ r. ⌜ r ≡ when on addEndpoint t ⌝ }
 {
     if on {
@@ -113,7 +113,7 @@ pub fn tally_endpoint(on: bool, t: Tally) -> Tally
 
 // A transaction row.
 pub fn tally_transaction(on: bool, t: Tally) -> Tally
-    requires { ⌜ Within (2 ^ 48) t ⌝ }
+    requires { ⌜ Within (2 ^ 60) t ⌝ }
     ensures { λ r. ⌜ r ≡ when on addTransaction t ⌝ }
 {
     if on {
@@ -127,7 +127,7 @@ pub fn tally_transaction(on: bool, t: Tally) -> Tally
 
 // A link row.
 pub fn tally_link(on: bool, t: Tally) -> Tally
-    requires { ⌜ Within (2 ^ 48) t ⌝ }
+    requires { ⌜ Within (2 ^ 60) t ⌝ }
     ensures { λ r. ⌜ r ≡ when on addLink t ⌝ }
 {
     if on {
@@ -142,7 +142,7 @@ pub fn tally_link(on: bool, t: Tally) -> Tally
 // A group row, with its state row of a byte for each endpoint.
 pub fn tally_entry(on: bool, endpoints: usize, t: Tally) -> Tally
     requires { ⌜ endpoints ≤ 128 ⌝ }
-    requires { ⌜ Within (2 ^ 48) t ⌝ }
+    requires { ⌜ Within (2 ^ 60) t ⌝ }
     ensures { λ r. ⌜ r ≡ when on (addEntry endpoints) t ⌝ }
 {
     if on {
@@ -158,7 +158,7 @@ pub fn tally_entry(on: bool, endpoints: usize, t: Tally) -> Tally
 
 // An item, which closes all that wait: an E row each.
 pub fn tally_item(on: bool, t: Tally) -> Tally
-    requires { ⌜ Within (2 ^ 48) t ⌝ }
+    requires { ⌜ Within (2 ^ 60) t ⌝ }
     ensures { λ r. ⌜ r ≡ when on addItem t ⌝ }
 {
     if on {
@@ -175,7 +175,7 @@ pub fn tally_item(on: bool, t: Tally) -> Tally
 // The rows of an update.
 pub fn tally_update(u: Update, endpoints: usize, t: Tally) -> Tally
     requires { ⌜ endpoints ≤ 128 ⌝ }
-    requires { ⌜ Within (2 ^ 32) t ⌝ }
+    requires { ⌜ Within (2 ^ 48) t ⌝ }
     ensures { λ r. ⌜ r ≡ tallyUpdate u endpoints t ⌝ }
 {
     let t = tally_end(u.over, t);
@@ -192,7 +192,7 @@ pub fn tally_update(u: Update, endpoints: usize, t: Tally) -> Tally
 
 // The rows of what group_status has as its effect.
 pub fn tally_effect(effect: Effect, t: Tally) -> Tally
-    requires { ⌜ Within (2 ^ 48) t ⌝ }
+    requires { ⌜ Within (2 ^ 60) t ⌝ }
     ensures { λ r. ⌜ r ≡ tallyEffect effect t ⌝ }
 {
     let mut t = t;

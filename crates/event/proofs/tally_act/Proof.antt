@@ -7,32 +7,32 @@ use Rattle.event.specs.Event.{tallyAct}
 use Rattle.event.proofs.tally_act.Statement.{statement}
 use Rattle.event.proofs.tally_act.Tie as tie
 
-within1 : (c : tie.After-tally-transaction) → Within (grown (2 ^ 32)) (c .tally-transaction .result)
+within1 : (c : tie.After-tally-transaction) → Within (grown (2 ^ 48)) (c .tally-transaction .result)
 within1 c = rw (c .tally-transaction .ensures) (transaction-within (c .before .before .before .pre .1) (c .before .before .adds-row .result))
 
-within2 : (c : tie.After-tally-link) → Within (grown (grown (2 ^ 32))) (c .tally-link .result)
+within2 : (c : tie.After-tally-link) → Within (grown (grown (2 ^ 48))) (c .tally-link .result)
 within2 c = rw (c .tally-link .ensures) (link-within (within1 (c .before)) (c .before .before .before .adds-row .result))
 
-within3 : (c : tie.After-tally-link2) → Within (grown (grown (grown (2 ^ 32)))) (c .tally-link2 .result)
+within3 : (c : tie.After-tally-link2) → Within (grown (grown (grown (2 ^ 48)))) (c .tally-link2 .result)
 within3 c = rw (c .tally-link2 .ensures) (link-within (within2 (c .before)) (c .before .before .before .adds-group .result))
 
-within4 : (c : tie.After-tally-entry) → Within (grown (grown (grown (grown (2 ^ 32))))) (c .tally-entry .result)
+within4 : (c : tie.After-tally-entry) → Within (grown (grown (grown (grown (2 ^ 48))))) (c .tally-entry .result)
 within4 c = rw (c .tally-entry .ensures) (entry-within (within3 (c .before)) (c .before .before .before .before .adds-group .result) (c .before .before .before .before .before .before .args .endpoints) (c .before .before .before .before .before .before .pre .0))
 
 tally-transaction-requires : tie.Need-tally-transaction-requires
-tally-transaction-requires c κs = wider (c .before .before .pre .1) (2 ^ 48) (omega arith)
+tally-transaction-requires c κs = wider (c .before .before .pre .1) (2 ^ 60) (omega arith)
 
 tally-link-requires : tie.Need-tally-link-requires
-tally-link-requires c κs = wider (within1 c) (2 ^ 48) (omega arith)
+tally-link-requires c κs = wider (within1 c) (2 ^ 60) (omega arith)
 
 tally-link-requires-2 : tie.Need-tally-link-requires-2
-tally-link-requires-2 c κs = wider (within2 c) (2 ^ 48) (omega arith)
+tally-link-requires-2 c κs = wider (within2 c) (2 ^ 60) (omega arith)
 
 tally-entry-requires : tie.Need-tally-entry-requires
-tally-entry-requires c κs = (c .before .before .before .before .before .pre .0, wider (within3 c) (2 ^ 48) (omega arith))
+tally-entry-requires c κs = (c .before .before .before .before .before .pre .0, wider (within3 c) (2 ^ 60) (omega arith))
 
 tally-item-requires : tie.Need-tally-item-requires
-tally-item-requires c κs = wider (within4 c) (2 ^ 48) (omega arith)
+tally-item-requires c κs = wider (within4 c) (2 ^ 60) (omega arith)
 
 returns : tie.Need-returns
 unfolding tallyAct
