@@ -2,21 +2,21 @@
 -- Assumes nothing.
 use Prim.Native.Nat.{ℕ, zero, suc, _+_, _*_, _/_, _%_, _≤_}
 use native.Mathlib.Omega.{arith}
-use mathlib.Core.Path.{_≡_, refl, ap}
-use mathlib.Core.Bool.{Bool, true, false}
-use mathlib.Core.List.{List, [], _∷_, _++_, map}
+use mathlib.Core.Path.{_≡_, refl}
+use mathlib.Core.Bool.{Bool, true, false, cond}
+use mathlib.Core.List.{List, [], _∷_, _++_}
 use lib.Dec.{eqb, ltb}
 use lib.ListN.{length, getD, length-append, length-map}
 use Rattle.text.specs.Words as words
 use Rattle.text.specs.Words.{space, newline, inEnd, outEnd, startEnd, endEnd}
-use Rattle.text.specs.Numbers.{pick, digit, digits, decimal, hexByte, hexBytes, hexSetup, letter}
+use Rattle.text.specs.Numbers.{digit, digits, decimal, hexBytes}
 use Rattle.text.specs.Lines.{fields, line, deviceLine, endpointLine, packetLine, eventLine, transactionLine, groupLine, stateLine, itemLine, linkLine, requestLine, refusedLine}
 
 -- a state line: its word, a row of 20 digits, 128 letters, two spaces and the end
 abbrev pub longest : ℕ
 longest = 5 + 21 + 1 + 128 + 1
 
-chosen : (n : ℕ) (b : Bool) (x y : List ℕ) → length x ≤ n → length y ≤ n → length (pick b x y) ≤ n
+chosen : (n : ℕ) (b : Bool) (x y : List ℕ) → length x ≤ n → length y ≤ n → length (cond b x y) ≤ n
 chosen n true x y f g = f
 chosen n false x y f g = g
 
@@ -54,7 +54,7 @@ module _ (row : ℕ) (w : List ℕ) where
       chosen longest (eqb (getD w 1 0) 16) _ _ (within words.endpoint (row ∷ getD w 0 0 ∷ []) words.eventEnd (omega arith))
       (chosen longest (eqb (getD w 1 0) 17) _ _ (within words.endpoint (row ∷ getD w 0 0 ∷ []) words.invalidEnd (omega arith))
       (chosen longest (eqb (getD w 1 0) 18) _ _ (within words.endpoint (row ∷ getD w 0 0 ∷ []) words.framingEnd (omega arith))
-      (within words.endpoint (row ∷ getD w 0 0 ∷ getD w 1 0 ∷ []) (pick (eqb (getD w 2 0) 1) inEnd outEnd)
+      (within words.endpoint (row ∷ getD w 0 0 ∷ getD w 1 0 ∷ []) (cond (eqb (getD w 2 0) 1) inEnd outEnd)
       (omega (arith, chosen 5 (eqb (getD w 2 0) 1) inEnd outEnd (omega arith) (omega arith))))))
 
   pub packet-fits : length (packetLine row w) ≤ longest
@@ -69,7 +69,7 @@ module _ (row : ℕ) (w : List ℕ) where
   pub group-fits : length (groupLine row w) ≤ longest
   unfolding groupLine
   group-fits =
-      within words.group (row ∷ getD w 0 0 ∷ getD w 1 0 ∷ []) (pick (eqb (getD w 2 0) 1) startEnd endEnd)
+      within words.group (row ∷ getD w 0 0 ∷ getD w 1 0 ∷ []) (cond (eqb (getD w 2 0) 1) startEnd endEnd)
       (omega (arith, chosen 7 (eqb (getD w 2 0) 1) startEnd endEnd (omega arith) (omega arith)))
 
   pub state-fits : length w ≤ 128 → length (stateLine row w) ≤ longest

@@ -1,12 +1,13 @@
 -- Document 01, "Trace and listing": a line for each kind of row, from the row's number and its words.
 -- Assumes nothing.
 use Prim.Native.Nat.{ℕ}
+use mathlib.Core.Bool.{cond}
 use mathlib.Core.List.{List, [], _∷_, _++_, map}
 use lib.Dec.{eqb}
 use lib.ListN.{getD}
 use Rattle.text.specs.Words as words
 use Rattle.text.specs.Words.{space, newline, eventEnd, invalidEnd, framingEnd, inEnd, outEnd, startEnd, endEnd}
-use Rattle.text.specs.Numbers.{pick, decimal, hexSetup, letter}
+use Rattle.text.specs.Numbers.{decimal, hexSetup, letter}
 
 -- each number after a space
 unfoldable pub fields : List ℕ → List ℕ
@@ -36,10 +37,10 @@ deviceLine row w = line words.device (row ∷ first w ∷ []) newline
 -- endpoint: device row; the event, invalid and framing endpoints (numbers 16 to 18) by name, an ordinary one by its number and direction (1 is in)
 unfoldable pub endpointLine : ℕ → List ℕ → List ℕ
 endpointLine row w =
-    pick (eqb (second w) 16) (line words.endpoint (row ∷ first w ∷ []) eventEnd)
-    (pick (eqb (second w) 17) (line words.endpoint (row ∷ first w ∷ []) invalidEnd)
-    (pick (eqb (second w) 18) (line words.endpoint (row ∷ first w ∷ []) framingEnd)
-    (line words.endpoint (row ∷ first w ∷ second w ∷ []) (pick (eqb (third w) 1) inEnd outEnd))))
+    cond (eqb (second w) 16) (line words.endpoint (row ∷ first w ∷ []) eventEnd)
+    (cond (eqb (second w) 17) (line words.endpoint (row ∷ first w ∷ []) invalidEnd)
+    (cond (eqb (second w) 18) (line words.endpoint (row ∷ first w ∷ []) framingEnd)
+    (line words.endpoint (row ∷ first w ∷ second w ∷ []) (cond (eqb (third w) 1) inEnd outEnd))))
 
 -- packet: start, time
 abbrev pub packetLine : ℕ → List ℕ → List ℕ
@@ -55,7 +56,7 @@ transactionLine row w = line words.transaction (row ∷ first w ∷ []) newline
 
 -- group: endpoint, the endpoint's group, 1 for its start
 unfoldable pub groupLine : ℕ → List ℕ → List ℕ
-groupLine row w = line words.group (row ∷ first w ∷ second w ∷ []) (pick (eqb (third w) 1) startEnd endEnd)
+groupLine row w = line words.group (row ∷ first w ∷ second w ∷ []) (cond (eqb (third w) 1) startEnd endEnd)
 
 -- state: a letter for each of its bytes
 unfoldable pub stateLine : ℕ → List ℕ → List ℕ
@@ -68,9 +69,9 @@ itemLine row w = line words.item (row ∷ first w ∷ []) newline
 -- link: kind (T 0, G 1, D 2, E 3), endpoint, and one number, or two for D; it has no row number
 unfoldable pub linkLine : List ℕ → List ℕ
 linkLine w =
-    pick (eqb (first w) 0) (line words.linkT (second w ∷ third w ∷ []) newline)
-    (pick (eqb (first w) 1) (line words.linkG (second w ∷ third w ∷ []) newline)
-    (pick (eqb (first w) 2) (line words.linkD (second w ∷ third w ∷ fourth w ∷ []) newline)
+    cond (eqb (first w) 0) (line words.linkT (second w ∷ third w ∷ []) newline)
+    (cond (eqb (first w) 1) (line words.linkG (second w ∷ third w ∷ []) newline)
+    (cond (eqb (first w) 2) (line words.linkD (second w ∷ third w ∷ fourth w ∷ []) newline)
     (line words.linkE (second w ∷ third w ∷ []) newline)))
 
 -- request: endpoint, setup data, length

@@ -1,14 +1,10 @@
 -- How document 01's listing writes numbers: decimal, the hex digits of setup data, the letters of states.
 -- Assumes nothing.
 use Prim.Native.Nat.{ℕ, zero, suc, _+_, _/_, _%_}
-use mathlib.Core.Bool.{Bool, true, false}
+use mathlib.Core.Bool.{cond}
 use mathlib.Core.List.{List, [], _∷_, _++_}
 use lib.Dec.{ltb}
 use lib.ListN.{getD}
-
-abbrev pub pick : {A : Type 0} → Bool → A → A → A
-pick true a b = a
-pick false a b = b
 
 -- `0` to `9`
 abbrev pub digit : ℕ → ℕ
@@ -17,7 +13,7 @@ digit d = 0x30 + d
 -- by repeated division: the last digit is the remainder by 10, before it stand the digits of the quotient; at most `most` digits
 unfoldable pub digits : ℕ → ℕ → List ℕ
 digits zero n = []
-digits (suc most) n = pick (ltb n 10) (digit n ∷ []) (digits most (n / 10) ++ (digit (n % 10) ∷ []))
+digits (suc most) n = cond (ltb n 10) (digit n ∷ []) (digits most (n / 10) ++ (digit (n % 10) ∷ []))
 
 -- without leading zeros; a word is below 2^64, which has 20 digits
 unfoldable pub decimal : ℕ → List ℕ
@@ -25,7 +21,7 @@ decimal n = digits 20 n
 
 -- `0` to `9`, then `a` to `f`
 abbrev pub hexDigit : ℕ → ℕ
-hexDigit d = pick (ltb d 10) (0x30 + d) (0x57 + d)
+hexDigit d = cond (ltb d 10) (0x30 + d) (0x57 + d)
 
 -- a byte's two digits, the higher first
 abbrev pub hexByte : ℕ → List ℕ

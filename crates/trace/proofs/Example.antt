@@ -6,10 +6,8 @@ use mathlib.Core.Bool.{true}
 use mathlib.Core.List.{List, [], _∷_, map}
 use Rattle.trace.specs.Trace.{headerOf, headerAnswer, headerPlace, littleEndian, packetAt, eventAt, detailAt, nextAt, answerOf}
 use Rattle.trace.specs.Clock.{stopped, tickOf}
-use Rattle.trace.specs.declared.Header.{Header}
 use Rattle.trace.specs.declared.Header.the-variants.{Fine, Mark, Version}
-use Rattle.trace.specs.declared.Next.{Next}
-use Rattle.trace.specs.declared.Next.the-variants.{Packet, Event, Detail, Unknown, Cut, End}
+use Rattle.trace.specs.declared.Next.the-variants.{Packet, Event, Detail, End}
 use Rattle.trace.specs.declared.clock.Clock.{Clock}
 
 abbrev pub example : List ℕ

@@ -1,6 +1,6 @@
 -- The row and its endpoint, the setup data, the length.
 -- Assumes nothing.
-use mathlib.Core.List.{[], _∷_, _++_, map}
+use mathlib.Core.List.{[], _∷_, _++_}
 use Rattle.text.specs.Words as words
 use Rattle.text.specs.Lines as lines
 use Rattle.text.specs.Numbers.{hexSetup}

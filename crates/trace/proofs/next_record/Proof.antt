@@ -1,8 +1,7 @@
 -- Each tag is a case of `nextAt`; any other is unknown, whatever follows it.
 -- Assumes nothing.
 use borrow.Author.Tests.{ne-eqb}
-use borrow.Author.Tests.{le-ltb, lt-ltb, le-leb, lt-leb}
-use native.Mathlib.Omega.{arith}
+use borrow.Author.Tests.{le-ltb, lt-ltb}
 use borrow.Author.Needs.{needs}
 use Rattle.trace.proofs.next_record.Statement.{statement}
 use Rattle.trace.proofs.next_record.Tie as tie

@@ -3,7 +3,7 @@
 use Rattle.trace.specs.Trace.{packetAt, littleEndian}
 use lib.ListN.{length}
 use Prim.Native.Nat.{_+_, _≤_, _<_}
-use borrow.Author.Tests.{le-ltb, lt-ltb, le-leb, lt-leb}
+use borrow.Author.Tests.{le-leb, lt-leb}
 use native.Mathlib.Omega.{arith}
 use borrow.Author.Needs.{needs}
 use Rattle.trace.proofs.packet_at.Statement.{statement}
