@@ -1,6 +1,6 @@
 -- What it means that memory holds a world of the rules (rules, World): the counts are its numbers, the table's entries its endpoints, and each
 -- log has, behind the rows that stood there before, the words of its rows in the journal.
-use Prim.Native.Nat.{ℕ, _+_, _*_, _<_}
+use Prim.Native.Nat.{ℕ, _+_, _*_, _<_, _≤_}
 use mathlib.Core.List.{List}
 use mathlib.Core.Path.{_≡_}
 use lib.ListN.{length}
@@ -34,3 +34,11 @@ pub record Holds (n id pid : ℕ) (m₀ : Memory) (w : World) (m : Memory) : Typ
   pub states : Appended 8 (m₀ .states) (m₀ .tally .states) (w .journal) (m .states) (m .tally .states)
   pub items : Appended 9 (m₀ .items) (m₀ .tally .items) (w .journal) (m .items) (m .tally .items)
   pub links : Appended 10 (m₀ .links) (m₀ .tally .links * 4) (w .journal) (m .links) (m .tally .links * 4)
+
+-- the rows of a journal fit behind those that memory has
+pub record Space (m₀ : Memory) (js : List Row) : Type 0 where
+  pub groups : m₀ .tally .groups * 3 + length (log 6 js) ≤ length (m₀ .groups)
+  pub marks : m₀ .tally .marks + length (log 7 js) ≤ length (m₀ .marks)
+  pub states : m₀ .tally .states + length (log 8 js) ≤ length (m₀ .states)
+  pub items : m₀ .tally .items + length (log 9 js) ≤ length (m₀ .items)
+  pub links : m₀ .tally .links * 4 + length (log 10 js) ≤ length (m₀ .links)

@@ -20,12 +20,13 @@ use Rattle.tables.specs.TableLaws.{load-store-same, load-store-other, fits-entr
 use Rattle.tables.specs.declared.Endpoint.{Endpoint}
 use Rattle.tables.specs.declared.Phase.{Phase}
 use Rattle.tables.specs.declared.Phase.the-variants.{None, Early, Active, Ended}
+use Rattle.transaction.specs.Payload.{startPid}
 use Rattle.transaction.specs.Table.{pick}
 use Rattle.rules.specs.Rows.{Row, GroupRow, StateRow, StateBytes, ItemRow, T, G, E, Over, written, log}
 use Rattle.rules.specs.World.{World, push, change, lastGroup, withTransaction, withLink, moreTransactions, moreGroups, cleared}
 use Rattle.rules.specs.Groups.{addGroupEntry, addItem, link, pushGroup, over, closePhase, closeRow, closeRows, statesFrom}
-use Rattle.write.specs.Memory.{Memory, groupRow, itemRow, linkRow, altered, alter, withTally, tied, entryRow, endRow, linkStep, startGroup}
-use Rattle.write.specs.Holds.{Appended, Holds}
+use Rattle.write.specs.Memory.{Memory, Room, groupRow, itemRow, linkRow, altered, alter, withTally, tied, entryRow, endRow, linkStep, startGroup}
+use Rattle.write.specs.Holds.{Appended, Holds, Space}
 
 -- ---- one log
 
@@ -42,6 +43,53 @@ module _ {k from to : ℕ} {first words : List ℕ} {js : List Row} (a : Appende
   -- rows of other logs
   pub keep : (js′ : List Row) → log k js′ ≡ log k js → Appended k first from js′ words to
   keep js′ e = record { written = a .written ∙ ap (sets first from) (sym e); filled = a .filled ∙ ap (λ (l : List ℕ). from + length l) (sym e) }
+
+  -- a log keeps its length, so what fits behind the old rows fits
+  pub appended-length : length words ≡ length first
+  appended-length = ap length (a .written) ∙ length-sets first from (log k js)
+
+  pub appended-fits : from + length (log k js) ≤ length first → to ≤ length words
+  appended-fits h = omega (arith, a .filled, appended-length)
+
+-- nothing is appended yet
+none : (k : ℕ) (words : List ℕ) (to : ℕ) (js : List Row) → js ≡ [] → Appended k words to js words to
+none k words to js e = rw e (record { written = refl; filled = omega arith })
+
+-- where a call begins
+pub holds-start : (n id pid : ℕ) (w : World) (m : Memory) → w .journal ≡ [] → length (m .table) ≡ 2176 → w .count ≡ n
+    → ((j : ℕ) → j < n → entryAt (m .table) j ≡ w .endpoints j) → w .transaction .id ≡ id → startPid (w .transaction .style) ≡ pid
+    → m .tally .linked ≡ w .transaction .linked → m .tally .link ≡ w .transaction .link → m .tally .last ≡ w .lastItem
+    → m .tally .groups ≡ w .groups → m .tally .marks ≡ w .stateBytes → m .tally .items ≡ w .items → Holds n id pid m w m
+holds-start n id pid w m e sized count endpoints row began linked link lastItem groups marks items =
+    record {
+      sized = sized;
+      count = count;
+      endpoints = endpoints;
+      row = row;
+      began = began;
+      linked = linked;
+      link = link;
+      lastItem = lastItem;
+      groupCount = groups;
+      markCount = marks;
+      itemCount = items;
+      groups = none 6 (m .groups) (m .tally .groups * 3) (w .journal) e;
+      marks = none 7 (m .marks) (m .tally .marks) (w .journal) e;
+      states = none 8 (m .states) (m .tally .states) (w .journal) e;
+      items = none 9 (m .items) (m .tally .items) (w .journal) e;
+      links = none 10 (m .links) (m .tally .links * 4) (w .journal) e
+    }
+
+-- room is what the journal's rows need
+pub holds-room : {n id pid : ℕ} {m₀ m : Memory} {w : World} → Holds n id pid m₀ w m → Space m₀ (w .journal) → Room m
+holds-room h r =
+    record {
+      groups = appended-fits (h .groups) (r .groups);
+      states = appended-fits (h .states) (r .states);
+      marks = appended-fits (h .marks) (r .marks);
+      items = appended-fits (h .items) (r .items);
+      links = appended-fits (h .links) (r .links)
+    }
 
 -- ---- an entry changed
 

@@ -146,3 +146,6 @@ OnItems f d t i l d′ t′ i′ l′ = (g s m : List ℕ) → memory d′ t′ 
 
 abbrev pub OnLinks : (Memory → Memory) → Tally → List ℕ → List ℕ → Tally → List ℕ → List ℕ → Type 0
 OnLinks f d t l d′ t′ l′ = (g s m i : List ℕ) → memory d′ t′ g s m i l′ ≡ f (memory d t g s m i l)
+
+abbrev pub OnTable : (Memory → Memory) → List ℕ → List ℕ → Type 0
+OnTable f t t′ = (d : Tally) (g s m i l : List ℕ) → memory d t′ g s m i l ≡ f (memory d t g s m i l)
