@@ -1,4 +1,4 @@
-// What group_status has as its effect, on the endpoint's entry (group_update, from 1000 on).
+// What group_status has as its effect, on the endpoint's entry (group_update, from line 1006 of decoder.rs on).
 use group::Effect;
 use tables::Endpoint;
 ghost use mathlib.Core.Bool.{false};

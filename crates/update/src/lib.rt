@@ -175,7 +175,7 @@ pub fn decide_early_start(pid: u8, phase: Phase, linked: bool) -> Update
     }
 }
 
-// Whether the active group may start and end depending on what becomes of the transaction (945).
+// Whether the active group may start and end depending on what becomes of the transaction (948).
 fn is_undecided(e: Endpoint) -> bool
     ensures { λ r. ⌜ r ≡ undecided e ⌝ }
 {
