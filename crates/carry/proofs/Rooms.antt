@@ -53,7 +53,7 @@ module _ {m : Memory} where
         states = r .states;
         marks = r .marks;
         items = r .items;
-        links = omega (arith, r .links, length-sets (m .links) (m .tally .links * 4) (k ∷ x ∷ a ∷ b ∷ []))
+        links = omega (arith, r .links, length-sets (m .links) (m .tally .links * 4) (k ∷ x ∷ a ∷ b ∷ []));
       }
 
   room-group-row : (n x nth : ℕ) (start : Bool) → Room (groupRow n x nth start m) → Room m
@@ -63,7 +63,7 @@ module _ {m : Memory} where
         states = omega (arith, r .states, length-sets (m .states) (m .tally .states) (m .tally .marks ∷ []));
         marks = omega (arith, r .marks, length-sets (m .marks) (m .tally .marks) (stateBytes (nextStates (m .table) n x start) 0 n));
         items = r .items;
-        links = r .links
+        links = r .links;
       }
 
   room-item-row : (n x : ℕ) → Room (itemRow n x m) → Room m
@@ -73,7 +73,7 @@ module _ {m : Memory} where
         states = r .states;
         marks = r .marks;
         items = omega (arith, r .items, length-sets (m .items) (m .tally .items) (pred (m .tally .groups) ∷ []));
-        links = omega (arith, r .links, length-sets (m .links) (m .tally .links * 4) (closing (m .table) (m .tally .items) 0 n))
+        links = omega (arith, r .links, length-sets (m .links) (m .tally .links * 4) (closing (m .table) (m .tally .items) 0 n));
       }
 
 module _ {m : Memory} where
@@ -98,10 +98,13 @@ when-room false g step r = r
 
 end-row-asks : (b : Bool) (n x : ℕ) (m : Memory) → Room (when b (endRow n x) m)
     → (when b (groupTally n) (m .tally) .groups * 3 ≤ length (m .groups)) × ((when b (groupTally n) (m .tally) .states ≤ length (m .states)) × (when b (groupTally n) (m .tally) .marks ≤ length (m .marks)))
-end-row-asks true n x m r =
-    (omega (arith, r .groups, length-sets (m .groups) (m .tally .groups * 3) (x ∷ lastNumber x (alter x (withPhase Ended) (m .table)) ∷ 0 ∷ [])),
-    (omega (arith, r .states, length-sets (m .states) (m .tally .states) (m .tally .marks ∷ [])),
-    omega (arith, r .marks, length-sets (m .marks) (m .tally .marks) (stateBytes (nextStates (alter x (withPhase Ended) (m .table)) n x false) 0 n))))
+end-row-asks true n x m r = (
+  omega (arith, r .groups, length-sets (m .groups) (m .tally .groups * 3) (x ∷ lastNumber x (alter x (withPhase Ended) (m .table)) ∷ 0 ∷ [])),
+  (
+    omega (arith, r .states, length-sets (m .states) (m .tally .states) (m .tally .marks ∷ [])),
+    omega (arith, r .marks, length-sets (m .marks) (m .tally .marks) (stateBytes (nextStates (alter x (withPhase Ended) (m .table)) n x false) 0 n)),
+  ),
+)
 end-row-asks false n x m r = (r .groups, (r .states, r .marks))
 
 link-asks : (b : Bool) (x id : ℕ) (m : Memory) → Room (when b (linkStep x id) m) → when b linkTally (m .tally) .links * 4 ≤ length (m .links)
@@ -110,9 +113,10 @@ link-asks false x id m r = r .links
 
 item-asks : (b : Bool) (n x : ℕ) (m : Memory) → Room (when b (itemRow n x) m)
     → (when b (itemTally (waiting (m .table) n) x) (m .tally) .items ≤ length (m .items)) × (when b (itemTally (waiting (m .table) n) x) (m .tally) .links * 4 ≤ length (m .links))
-item-asks true n x m r =
-    (omega (arith, r .items, length-sets (m .items) (m .tally .items) (pred (m .tally .groups) ∷ [])),
-    omega (arith, r .links, length-sets (m .links) (m .tally .links * 4) (closing (m .table) (m .tally .items) 0 n)))
+item-asks true n x m r = (
+  omega (arith, r .items, length-sets (m .items) (m .tally .items) (pred (m .tally .groups) ∷ [])),
+  omega (arith, r .links, length-sets (m .links) (m .tally .links * 4) (closing (m .table) (m .tally .items) 0 n)),
+)
 item-asks false n x m r = (r .items, r .links)
 
 -- ---- a count of endpoint x that a step keeps
@@ -127,14 +131,14 @@ module _ (p : Endpoint → ℕ) (x v : ℕ) (hx : x < 128) where
   kept-altered f same fits {m} k =
       record {
         sized = length-sets (m .table) (x * word.width) (words (f (entryAt (m .table) x))) ∙ k .sized;
-        value = ap p (load-store-same (m .table) x (f (entryAt (m .table) x)) (k .sized) hx (fits _ (fits-entry (m .table) x))) ∙ same _ ∙ k .value
+        value = ap p (load-store-same (m .table) x (f (entryAt (m .table) x)) (k .sized) hx (fits _ (fits-entry (m .table) x))) ∙ same _ ∙ k .value;
       }
 
   kept-row : (n nth : ℕ) (start : Bool) → x < n → n ≤ 128 → ((s : ℕ) (e : Endpoint) → p (withState s e) ≡ p e) → {m : Memory} → Kept p x v m → Kept p x v (groupRow n x nth start m)
   kept-row n nth start h few same {m} k =
       record {
         sized = length-next (m .table) n x start ∙ k .sized;
-        value = ap p (entry-next (m .table) n x start x (omega (arith, k .sized)) h) ∙ same _ _ ∙ k .value
+        value = ap p (entry-next (m .table) n x start x (omega (arith, k .sized)) h) ∙ same _ _ ∙ k .value;
       }
 
 when-kept : (b : Bool) (g : Memory → Memory) {p : Endpoint → ℕ} {x v : ℕ} → ((m : Memory) → Kept p x v m → Kept p x v (g m)) → {m : Memory} → Kept p x v m → Kept p x v (when b g m)
@@ -189,7 +193,7 @@ module _ (u : Update) (n x id : ℕ) (m : Memory) (few : n ≤ 128) (hx : x < n)
       → entryAt (m₃ .table) x .groups + one (u .start) < 2 ^ 64
   groups-fit h m₃ e =
       let k = subst (λ (a : Memory). Kept (λ (e : Endpoint). e .groups) x (entryAt (m .table) x .groups) a) (sym e)
-            (when-kept (u .link) (linkStep x id) (λ m′ k. linking k) (ends (λ (e : Endpoint). e .groups) (λ e. refl) (λ s e. refl))) in
+      (when-kept (u .link) (linkStep x id) (λ m′ k. linking k) (ends (λ (e : Endpoint). e .groups) (λ e. refl) (λ s e. refl))) in
       omega (arith, k .value, one-le (u .start))
     where
       linking : {m′ : Memory} → Kept (λ (e : Endpoint). e .groups) x (entryAt (m .table) x .groups) m′ → Kept (λ (e : Endpoint). e .groups) x (entryAt (m .table) x .groups) (linkStep x id m′)

@@ -77,7 +77,7 @@ holds-start n id pid w m e sized count endpoints row began linked link lastItem 
       marks = none 7 (m .marks) (m .tally .marks) (w .journal) e;
       states = none 8 (m .states) (m .tally .states) (w .journal) e;
       items = none 9 (m .items) (m .tally .items) (w .journal) e;
-      links = none 10 (m .links) (m .tally .links * 4) (w .journal) e
+      links = none 10 (m .links) (m .tally .links * 4) (w .journal) e;
     }
 
 -- room is what the journal's rows need
@@ -88,7 +88,7 @@ holds-room h r =
       states = appended-fits (h .states) (r .states);
       marks = appended-fits (h .marks) (r .marks);
       items = appended-fits (h .items) (r .items);
-      links = appended-fits (h .links) (r .links)
+      links = appended-fits (h .links) (r .links);
     }
 
 -- ---- an entry changed
