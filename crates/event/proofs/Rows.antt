@@ -69,4 +69,5 @@ module _ (id : ℕ) {t : Tally} {w₀ w : World} (settle : isCurrent (w .slot) �
 
   -- event_update: the state that it leaves is no row
   pub event-update-adds : (kind : ℕ) → Adds (tallyAct (rules.turnOf (w .eventState) kind .act) (w .keepalive) (w .count) t) w₀ (rules.eventUpdate id kind w)
+  unfolding rules.eventUpdate
   event-update-adds kind = let b = act-adds (rules.turnOf (w .eventState) kind .act) in record { words = b .words; waiting = b .waiting; raw = b .raw; devices = b .devices; endpoints = b .endpoints; packets = b .packets; transactions = b .transactions; groups = b .groups; bytes = b .bytes; items = b .items }
