@@ -21,6 +21,10 @@ count test i (suc n) = cond (test i) (suc (count test (suc i) n)) (count test (s
 abbrev pub waiting : List ℕ → ℕ → ℕ
 waiting t n = count (inPhase word.Ended t) 0 n
 
+-- handle_event of decoder.rs: how many of them have an active group
+abbrev pub active : List ℕ → ℕ → ℕ
+active t n = count (inPhase word.Active t) 0 n
+
 -- 01, trace and listing: an E link has the endpoint and the item; the fourth word is 0
 abbrev pub closed : ℕ → ℕ → List ℕ → List ℕ
 closed endpoint item rest = link.E ∷ endpoint ∷ item ∷ 0 ∷ rest

@@ -7,17 +7,17 @@ ghost use lib.ListN.{length};
 ghost use lib.Seq.{sets};
 ghost use Rattle.tables.specs.Each.{each};
 ghost use Rattle.tables.specs.Word as word;
-ghost use Rattle.tables.specs.Phases.{waiting, closing, becomes, cleared, ended};
+ghost use Rattle.tables.specs.Phases.{inPhase, count, waiting, active, closing, becomes, cleared, ended};
 
-// How many of the first n endpoints wait for an item.
-pub fn count_waiting(table: &[u64; 2176], n: usize) -> usize
+// How many of the first n endpoints have the phase of this number.
+fn count_phase(table: &[u64; 2176], n: usize, phase: u64) -> usize
     requires { ⌜ n ≤ 128 ⌝ }
-    ensures { λ r. ⌜ r ≡ waiting (now (table .entry)) n ⌝ }
+    ensures { λ r. ⌜ r ≡ count (inPhase phase (now (table .entry))) 0 n ⌝ }
 {
     let mut count: usize = 0;
     let mut i: usize = 0;
     while i < n {
-        if table[i * word::WIDTH + word::PHASE] == word::ENDED {
+        if table[i * word::WIDTH + word::PHASE] == phase {
             count += 1;
             i += 1;
         } else {
@@ -25,6 +25,22 @@ pub fn count_waiting(table: &[u64; 2176], n: usize) -> usize
         }
     }
     count
+}
+
+// How many of the first n endpoints wait for an item.
+pub fn count_waiting(table: &[u64; 2176], n: usize) -> usize
+    requires { ⌜ n ≤ 128 ⌝ }
+    ensures { λ r. ⌜ r ≡ waiting (now (table .entry)) n ⌝ }
+{
+    count_phase(table, n, word::ENDED)
+}
+
+// How many of the first n endpoints have an active group.
+pub fn count_active(table: &[u64; 2176], n: usize) -> usize
+    requires { ⌜ n ≤ 128 ⌝ }
+    ensures { λ r. ⌜ r ≡ active (now (table .entry)) n ⌝ }
+{
+    count_phase(table, n, word::ACTIVE)
 }
 
 // An E link for each endpoint that waits, from link `at` on.
