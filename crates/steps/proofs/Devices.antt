@@ -1,0 +1,367 @@
+-- The devices that the steps of a packet leave: one row perhaps changed by the step that begins, one perhaps added by the end.
+use mathlib.Core.Path.{_≡_, refl, sym, ap, _∙_}
+use mathlib.Core.Bool.{Bool, true, false, _&&_, _||_, not, false≢true}
+use mathlib.Core.List.{List}
+use Prim.Native.Nat.{ℕ, _+_}
+use native.Mathlib.Omega.{arith}
+use borrow.Author.Tests.{eqb-true}
+use lib.Dec.{eqb}
+use lib.ListN.{length}
+use Rattle.rows.specs.Sets.{one}
+use Rattle.usb.specs.Pid.{SPLIT, MALFORMED}
+use Rattle.usb.specs.Fields.{tokenOf, setupDataOf}
+use Rattle.transaction.specs.Payload.{startPid, extractPayload}
+use Rattle.transaction.specs.Status.{transactionStatus}
+use Rattle.transaction.specs.Table.{pick}
+use Rattle.transaction.specs.declared.Judged.{Judged}
+use Rattle.transaction.specs.declared.Status.{Status}
+use Rattle.transaction.specs.declared.Status.the-variants.{New, Continue, Retry, Done, Fail, Ambiguous, Invalid}
+use Rattle.transaction.specs.declared.Style.{Style}
+use Rattle.transaction.specs.declared.Style.the-variants.{Nothing, Simple, Split, Token}
+use Rattle.transaction.specs.declared.Transaction.{Transaction}
+use Rattle.tables.specs.Details.{detailsOf, withType, fresh}
+use Rattle.tables.specs.Kind.{Unknown}
+use Rattle.tables.specs.declared.Device.{Device}
+use Rattle.tables.specs.declared.Endpoint.{Endpoint}
+use Rattle.tables.specs.declared.Found.{Found}
+use Rattle.tables.specs.declared.Found.the-variants.{At, Nothing as Missing}
+use Rattle.group.specs.declared.Effect.{Effect}
+use Rattle.group.specs.declared.Effect.the-variants.{NoEffect, NewDevice, Request, PendingData, IndexData}
+use Rattle.rules.specs.World.{World, _▷_, invalidEp, withTransaction, change, changeDevice}
+use Rattle.rules.specs.Endpoints.{addDevice, pushEndpoint, typed, deviceFor, addressFor, found}
+use Rattle.rules.specs.Groups.{becomes, effectStep}
+use Rattle.rules.specs.Transactions.{stateAt, pushTransaction}
+use Rattle.update.specs.Update.{when, act}
+use Rattle.update.specs.declared.Update.{Update}
+use Rattle.steps.specs.Step.{opened, begun, ended, endOf}
+use Rattle.steps.specs.Packet.{resumes, slotThen, oldEndpoint, transactionThen, entryThen, going, standing, newOn, placeAt, placeOf, updateFor, startOn, startSplit, startPlain, starting, withTokenOn, goingOn, appendingAt, appending, middleOf, isNew, entryEnded, planBy, planOf, played}
+use Rattle.steps.specs.Sound.{world1, world2, world3, world4}
+use Rattle.steps.specs.declared.Begin.{Begin}
+use Rattle.steps.specs.declared.End.{End}
+use Rattle.steps.specs.declared.Middle.{Middle}
+use Rattle.steps.specs.declared.Place.{Place}
+use Rattle.steps.specs.declared.Plan.{Plan}
+use Rattle.steps.proofs.Frame.{act-rest, Rest}
+use Rattle.steps.proofs.Quiet.{no-effect}
+
+-- ---- a step that begins
+
+-- whether it changes a device's row
+abbrev pub changes : Begin → Bool
+changes s = s .device || s .types
+
+-- device j, where the row at `place` becomes `known`
+abbrev pub placed : Bool → ℕ → Device → ℕ → Device → Device
+placed b place known j d = pick (b && eqb j place) known d
+
+-- what is known of the step's device after it: `known`, of the devices f of which there are n
+abbrev pub rowAfter : Begin → ℕ → (ℕ → Device) → Device
+rowAfter s n f = when (s .types) (λ d. withType d (s .number) (s .kind)) (pick (s .device) (fresh (s .owner)) (f (s .place)))
+
+pub record Knows (s : Begin) (known : Device) (n : ℕ) (f : ℕ → Device) : Type 0 where
+  -- a new device comes behind the others
+  pub place : s .device ≡ true → s .place ≡ n
+  pub row : changes s ≡ true → known ≡ rowAfter s n f
+
+-- the parts of `opened`, one after the other
+module _ (j : ℕ) (v : World) where
+  row-at : (b : Bool) (id : ℕ) → when b (pushTransaction id) v .devices j ≡ v .devices j
+  row-at true id = refl
+  row-at false id = refl
+
+  row-count : (b : Bool) (id : ℕ) → when b (pushTransaction id) v .deviceCount ≡ v .deviceCount
+  row-count true id = refl
+  row-count false id = refl
+
+  device-at : (b : Bool) (a : ℕ) → when b (addDevice a) v .devices j ≡ pick (b && eqb j (v .deviceCount)) (fresh a) (v .devices j)
+  device-at true a = refl
+  device-at false a = refl
+
+  endpoint-at : (b : Bool) (d a : ℕ) → when b (pushEndpoint d a) v .devices j ≡ v .devices j
+  endpoint-at true d a = refl
+  endpoint-at false d a = refl
+
+  types-at : (b : Bool) (d : ℕ) (f : Device → Device) → when b (changeDevice d f) v .devices j ≡ pick (b && eqb j d) (f (v .devices j)) (v .devices j)
+  types-at true d f = refl
+  types-at false d f = refl
+
+-- put together
+together : (device types : Bool) (j place n : ℕ) (f : Device → Device) (new : Device) (g : ℕ → Device) → (device ≡ true → place ≡ n)
+    → pick (types && eqb j place) (f (pick (device && eqb j n) new (g j))) (pick (device && eqb j n) new (g j)) ≡ placed (device || types) place (when types f (pick device new (g place))) j (g j)
+together true true j place n f new g h = let e = h refl in rw e (by (eqb j n))
+  where
+    by : (b : Bool) → pick b (f (pick b new (g j))) (pick b new (g j)) ≡ pick b (f new) (g j)
+    by true = refl
+    by false = refl
+together true false j place n f new g h = let e = h refl in rw e refl
+together false true j place n f new g h = by (eqb j place) refl
+  where
+    by : (b : Bool) → eqb j place ≡ b → pick b (f (g j)) (g j) ≡ pick b (f (g place)) (g j)
+    by true e = let q = eqb-true j place e in rw q refl
+    by false e = refl
+together false false j place n f new g h = refl
+
+module _ (id : ℕ) (s : Begin) (w : World) where
+  opened-at : (j : ℕ) → (s .device ≡ true → s .place ≡ w .deviceCount) → opened id s w .devices j ≡ placed (changes s) (s .place) (rowAfter s (w .deviceCount) (w .devices)) j (w .devices j)
+  unfolding opened
+  opened-at j h =
+      let v1 = when (s .row) (pushTransaction id) w in
+      let v2 = when (s .device) (addDevice (s .owner)) v1 in
+      let v3 = when (s .endpoint) (pushEndpoint (s .place) (s .number)) v2 in
+      let d2 : v2 .devices j ≡ pick (s .device && eqb j (w .deviceCount)) (fresh (s .owner)) (w .devices j) =
+      device-at j v1 (s .device) (s .owner)
+      ∙ (ap (λ (n : ℕ). pick (s .device && eqb j n) (fresh (s .owner)) (v1 .devices j)) (row-count j w (s .row) id)
+      ∙ ap (λ (d : Device). pick (s .device && eqb j (w .deviceCount)) (fresh (s .owner)) d) (row-at j w (s .row) id)) in
+      let d3 = endpoint-at j v2 (s .endpoint) (s .place) (s .number) ∙ d2 in
+      types-at j v3 (s .types) (s .place) (typed (s .number) (s .kind))
+      ∙ (ap (λ (d : Device). pick (s .types && eqb j (s .place)) (withType d (s .number) (s .kind)) d) d3
+      ∙ together (s .device) (s .types) j (s .place) (w .deviceCount) (λ d. withType d (s .number) (s .kind)) (fresh (s .owner)) (w .devices) h)
+
+  pub begun-devices : (known : Device) → Knows s known (w .deviceCount) (w .devices) → (j : ℕ) → begun id s w .devices j ≡ placed (changes s) (s .place) known j (w .devices j)
+  unfolding begun
+  begun-devices known k j =
+      ap (λ (r : Rest). r .devices j) (act-rest (s .update) (s .transaction .endpoint) (withTransaction (s .transaction) (opened id s w)))
+      ∙ (opened-at j (k .place) ∙ by (changes s) refl)
+    where
+      by : (b : Bool) → changes s ≡ b → placed b (s .place) (rowAfter s (w .deviceCount) (w .devices)) j (w .devices j) ≡ placed b (s .place) known j (w .devices j)
+      by true e = ap (λ (d : Device). placed true (s .place) d j (w .devices j)) (sym (k .row e))
+      by false e = refl
+
+-- ---- an effect
+
+abbrev pub addsDevice : Effect → Bool
+addsDevice NoEffect = false
+addsDevice (NewDevice a) = true
+addsDevice (Request n) = false
+addsDevice (PendingData n) = false
+addsDevice (IndexData n waited i) = false
+
+abbrev pub addedDevice : Effect → Device
+addedDevice NoEffect = fresh 0
+addedDevice (NewDevice a) = fresh a
+addedDevice (Request n) = fresh 0
+addedDevice (PendingData n) = fresh 0
+addedDevice (IndexData n waited i) = fresh 0
+
+effect-devices : (f : Effect) (x : ℕ) (w : World) (j : ℕ) → effectStep f x w .devices j ≡ placed (addsDevice f) (w .deviceCount) (addedDevice f) j (w .devices j)
+effect-devices NoEffect x w j = refl
+effect-devices (NewDevice a) x w j = refl
+effect-devices (Request n) x w j = refl
+effect-devices (PendingData n) x w j = refl
+effect-devices (IndexData n waited i) x w j = refl
+
+pub ended-devices : (x : ℕ) (s : End) (w : World) (j : ℕ) → ended x s w .devices j ≡ placed (addsDevice (s .effect)) (w .deviceCount) (addedDevice (s .effect)) j (w .devices j)
+unfolding ended
+ended-devices x s w j =
+    let v = act (s .update) x (change x (becomes (s .entry)) w) in
+    let r = act-rest (s .update) x (change x (becomes (s .entry)) w) in
+    effect-devices (s .effect) x v j
+    ∙ (ap (λ (n : ℕ). placed (addsDevice (s .effect)) n (addedDevice (s .effect)) j (v .devices j)) (ap (λ (a : Rest). a .deviceCount) r)
+    ∙ ap (λ (d : Device). placed (addsDevice (s .effect)) (w .deviceCount) (addedDevice (s .effect)) j d) (ap (λ (a : Rest). a .devices j) r))
+
+-- ---- how many devices there are
+
+begun-count : (id : ℕ) (s : Begin) (w : World) → begun id s w .deviceCount ≡ w .deviceCount + one (s .device)
+unfolding begun opened
+begun-count id s w =
+    ap (λ (r : Rest). r .deviceCount) (act-rest (s .update) (s .transaction .endpoint) (withTransaction (s .transaction) (opened id s w))) ∙ by (s .row) (s .device) (s .endpoint) (s .types)
+  where
+    by : (a b c d : Bool)
+        → (w ▷ when a (pushTransaction id) ▷ when b (addDevice (s .owner)) ▷ when c (pushEndpoint (s .place) (s .number)) ▷ when d (changeDevice (s .place) (typed (s .number) (s .kind)))) .deviceCount ≡ w .deviceCount + one b
+    by true true true true = omega arith
+    by true true true false = omega arith
+    by true true false true = omega arith
+    by true true false false = omega arith
+    by true false true true = omega arith
+    by true false true false = omega arith
+    by true false false true = omega arith
+    by true false false false = omega arith
+    by false true true true = omega arith
+    by false true true false = omega arith
+    by false true false true = omega arith
+    by false true false false = omega arith
+    by false false true true = omega arith
+    by false false true false = omega arith
+    by false false false true = omega arith
+    by false false false false = omega arith
+
+effect-count : (f : Effect) (x : ℕ) (w : World) → effectStep f x w .deviceCount ≡ w .deviceCount + one (addsDevice f)
+effect-count NoEffect x w = omega arith
+effect-count (NewDevice a) x w = omega arith
+effect-count (Request n) x w = omega arith
+effect-count (PendingData n) x w = omega arith
+effect-count (IndexData n waited i) x w = omega arith
+
+ended-count : (x : ℕ) (s : End) (w : World) → ended x s w .deviceCount ≡ w .deviceCount + one (addsDevice (s .effect))
+unfolding ended
+ended-count x s w =
+    effect-count (s .effect) x (act (s .update) x (change x (becomes (s .entry)) w))
+    ∙ ap (λ (r : Rest). r .deviceCount + one (addsDevice (s .effect))) (act-rest (s .update) x (change x (becomes (s .entry)) w))
+
+-- ---- the step of a packet that begins
+
+-- the same devices, said by another function
+knows-same : (s : Begin) (known : Device) (n m : ℕ) (f g : ℕ → Device) → n ≡ m → ((j : ℕ) → f j ≡ g j) → Knows s known n f → Knows s known m g
+knows-same s known n m f g e h k =
+    record {
+      place = λ d. k .place d ∙ e;
+      row = λ c. k .row c ∙ ap (λ (d : Device). when (s .types) (λ d. withType d (s .number) (s .kind)) (pick (s .device) (fresh (s .owner)) d)) (h (s .place));
+    }
+
+going-knows : (row : Bool) (t : Transaction) (u : Update) (known : Device) (n : ℕ) (f : ℕ → Device) → Knows (going row t u) known n f
+going-knows row t u known n f = record { place = λ h. absurd (false≢true h); row = λ h. absurd (false≢true h) }
+
+-- of a place: whether its device is new, and what is known of it
+record Known (owner : ℕ) (p : Place) (w : World) : Type 0 where
+  place : p .device ≡ true → p .place ≡ w .deviceCount
+  row : p .known ≡ pick (p .device) (fresh owner) (w .devices (p .place))
+
+module _ (w : World) where
+  standing-known : (owner x0 : ℕ) (e0 : Endpoint) (i : ℕ) → Known owner (standing x0 e0 i w) w
+  standing-known owner x0 e0 i = record { place = λ h. absurd (false≢true h); row = refl }
+
+  new-known : (d : Found) (owner address : ℕ) → Known owner (newOn d owner address w) w
+  new-known (At d) owner address = record { place = λ h. absurd (false≢true h); row = refl }
+  new-known Missing owner address = record { place = λ h. refl; row = refl }
+
+  place-known : (x0 : ℕ) (e0 : Endpoint) (pid : ℕ) (packet : List ℕ) → Known (tokenOf packet .address) (placeOf x0 e0 pid packet w) w
+  unfolding placeOf
+  place-known x0 e0 pid packet = by (found pid packet w)
+    where
+      by : (f : Found) → Known (tokenOf packet .address) (placeAt f x0 e0 pid packet w) w
+      by (At i) = standing-known (tokenOf packet .address) x0 e0 i
+      by Missing = new-known (deviceFor (tokenOf packet .address) w) (tokenOf packet .address) (addressFor pid (tokenOf packet .number))
+
+  abbrev MiddleKnows : Middle → Type 0
+  MiddleKnows m = Knows (m .begin) (m .known) (w .deviceCount) (w .devices)
+
+  start-knows : (s : Status) (p : Place) (kind owner pid n : ℕ) → Known owner p w → MiddleKnows (startOn s p kind owner pid n)
+  start-knows s p kind owner pid n k = record { place = k .place; row = λ h. k .row }
+
+  starting-knows : (s : Status) (x0 : ℕ) (e0 : Endpoint) (pid : ℕ) (packet : List ℕ) (n : ℕ) → MiddleKnows (starting s x0 e0 pid packet n w)
+  unfolding starting
+  starting-knows s x0 e0 pid packet n = by (eqb pid MALFORMED) (eqb pid SPLIT)
+    where
+      by : (a b : Bool) → MiddleKnows (pick a (startOn s (standing x0 e0 invalidEp w) Unknown 0 pid n) (pick b (startSplit packet pid n (standing x0 e0 invalidEp w)) (startPlain s (placeOf x0 e0 pid packet w) pid packet n)))
+      by true b = start-knows s (standing x0 e0 invalidEp w) Unknown 0 pid n (standing-known 0 x0 e0 invalidEp)
+      by false true = going-knows _ _ _ _ _ _
+      by false false = start-knows s (placeOf x0 e0 pid packet w) _ (tokenOf packet .address) pid n (place-known x0 e0 pid packet)
+
+  appending-knows : (s : Status) (x0 : ℕ) (e0 : Endpoint) (pid : ℕ) (packet : List ℕ) (b : Transaction) → MiddleKnows (appending s x0 e0 pid packet b w)
+  unfolding appending
+  appending-knows s x0 e0 pid packet b = by (b .style)
+    where
+      by : (y : Style) → MiddleKnows (appendingAt y s x0 e0 pid packet b w)
+      by Nothing = going-knows _ _ _ _ _ _
+      by (Simple first) = going-knows _ _ _ _ _ _
+      by (Split sc kind) =
+          let p = placeOf x0 e0 pid packet w in
+          let k = place-known x0 e0 pid packet in
+          record { place = k .place; row = λ h. ap (λ (d : Device). withType d (p .number) kind) (k .row) }
+      by (Token sc kind token) = going-knows _ _ _ _ _ _
+
+  middle-knows : (s : Status) (x0 : ℕ) (e0 : Endpoint) (pid : ℕ) (packet : List ℕ) (n : ℕ) (b : Transaction) → MiddleKnows (middleOf s x0 e0 pid packet n b w)
+  middle-knows New x0 e0 pid packet n b = starting-knows New x0 e0 pid packet n
+  middle-knows Continue x0 e0 pid packet n b = appending-knows Continue x0 e0 pid packet b
+  middle-knows Retry x0 e0 pid packet n b = appending-knows Retry x0 e0 pid packet b
+  middle-knows Done x0 e0 pid packet n b = appending-knows Done x0 e0 pid packet b
+  middle-knows Fail x0 e0 pid packet n b = appending-knows Fail x0 e0 pid packet b
+  middle-knows Ambiguous x0 e0 pid packet n b = appending-knows Ambiguous x0 e0 pid packet b
+  middle-knows Invalid x0 e0 pid packet n b = starting-knows Invalid x0 e0 pid packet n
+
+  by-knows : (j : Judged) (x0 : ℕ) (e : Endpoint) (t : Transaction) (packet : List ℕ) → Knows (planBy j x0 e t packet w .begin) (planBy j x0 e t packet w .known) (w .deviceCount) (w .devices)
+  unfolding planBy
+  by-knows j x0 e t packet =
+      let b = extractPayload t (j .pid) (length packet) (setupDataOf packet) in
+      let end = endOf x0 e b (detailsOf (w .devices (w .endpoints x0 .device)) (w .endpoints x0 .address)) (w .lastItem) false false in
+      middle-knows (j .status) x0 (entryEnded (isNew (j .status) && not (eqb x0 0)) end (startPid (b .style)) e) (j .pid) packet (w .transactions + one (resumes (w .slot))) b
+
+  pub plan-knows : (packet : List ℕ) → Knows (planOf packet w .begin) (planOf packet w .known) (w .deviceCount) (w .devices)
+  unfolding planOf
+  plan-knows packet =
+      let x0 = oldEndpoint (w .slot) (w .transaction) in
+      let e = w .endpoints x0 in
+      let t = transactionThen (w .slot) (w .transactions) e (w .transaction) in
+      by-knows (transactionStatus (stateAt (slotThen (w .slot)) t) packet) x0 (entryThen (w .slot) e) t packet
+
+  -- a resume changes none
+  resume-knows : (packet : List ℕ) → Knows (planOf packet w .resume) (fresh 0) (w .deviceCount) (w .devices)
+  unfolding planOf planBy
+  resume-knows packet = going-knows _ _ _ _ _ _
+
+  resume-changes : (packet : List ℕ) → changes (planOf packet w .resume) ≡ false
+  unfolding planOf planBy
+  resume-changes packet = refl
+
+  pub resume-device : (packet : List ℕ) → planOf packet w .resume .device ≡ false
+  unfolding planOf planBy
+  resume-device packet = refl
+
+  -- the old transaction ends without success
+  pub plan-quiet : (packet : List ℕ) → planOf packet w .end .effect ≡ NoEffect
+  unfolding planOf planBy endOf
+  plan-quiet packet = no-effect _ _ _ false
+
+-- ---- all of it
+
+module _ (packet : List ℕ) (time : ℕ) (w : World) where
+  abbrev plan : Plan
+  plan = planOf packet w
+
+  -- up to the step that begins
+  before-devices : (j : ℕ) → world3 plan packet time w .devices j ≡ w .devices j
+  before-devices j = ends (plan .ends) ∙ resume (plan .resumes)
+    where
+      resume : (b : Bool) → when b (begun (w .packets) (plan .resume)) (world1 packet time w) .devices j ≡ w .devices j
+      resume true = begun-devices (w .packets) (plan .resume) (world1 packet time w) (fresh 0) (resume-knows w packet) j ∙ ap (λ (b : Bool). placed b (plan .resume .place) (fresh 0) j (w .devices j)) (resume-changes w packet)
+      resume false = refl
+
+      ends : (b : Bool) → when b (λ v. ended (plan .old) (plan .end) (withTransaction (plan .brought) v)) (world2 plan packet time w) .devices j ≡ world2 plan packet time w .devices j
+      ends true = ended-devices (plan .old) (plan .end) (withTransaction (plan .brought) (world2 plan packet time w)) j ∙ ap (λ (f : Effect). placed (addsDevice f) (world2 plan packet time w .deviceCount) (addedDevice f) j (world2 plan packet time w .devices j)) (plan-quiet w packet)
+      ends false = refl
+
+  -- how many there are
+  before-count : world3 plan packet time w .deviceCount ≡ w .deviceCount
+  before-count = ends (plan .ends) ∙ resume (plan .resumes)
+    where
+      resume : (b : Bool) → when b (begun (w .packets) (plan .resume)) (world1 packet time w) .deviceCount ≡ w .deviceCount
+      resume true = begun-count (w .packets) (plan .resume) (world1 packet time w) ∙ ap (λ (b : Bool). w .deviceCount + one b) (resume-device w packet) ∙ omega arith
+      resume false = refl
+
+      ends : (b : Bool) → when b (λ v. ended (plan .old) (plan .end) (withTransaction (plan .brought) v)) (world2 plan packet time w) .deviceCount ≡ world2 plan packet time w .deviceCount
+      ends true =
+          ended-count (plan .old) (plan .end) (withTransaction (plan .brought) (world2 plan packet time w))
+          ∙ (ap (λ (f : Effect). world2 plan packet time w .deviceCount + one (addsDevice f)) (plan-quiet w packet) ∙ omega arith)
+      ends false = refl
+
+  -- device j after the packet
+  abbrev pub deviceBegun : ℕ → Device
+  deviceBegun j = placed (changes (plan .begin)) (plan .begin .place) (plan .known) j (w .devices j)
+
+  begun-at : (j : ℕ) → world4 plan packet time w .devices j ≡ deviceBegun j
+  begun-at j =
+      begun-devices (w .packets) (plan .begin) (world3 plan packet time w) (plan .known)
+      (knows-same (plan .begin) (plan .known) (w .deviceCount) (world3 plan packet time w .deviceCount) (w .devices) (world3 plan packet time w .devices) (sym before-count) (λ i. sym (before-devices i)) (plan-knows w packet)) j
+      ∙ ap (λ (d : Device). placed (changes (plan .begin)) (plan .begin .place) (plan .known) j d) (before-devices j)
+
+  begun-many : world4 plan packet time w .deviceCount ≡ w .deviceCount + one (plan .begin .device)
+  begun-many = begun-count (w .packets) (plan .begin) (world3 plan packet time w) ∙ ap (λ (n : ℕ). n + one (plan .begin .device)) before-count
+
+  pub played-devices : (j : ℕ) → played plan packet time w .devices j ≡ placed (plan .closes && addsDevice (plan .close .effect)) (w .deviceCount + one (plan .begin .device)) (addedDevice (plan .close .effect)) j (deviceBegun j)
+  unfolding played
+  played-devices j = by (plan .closes)
+    where
+      by : (b : Bool) → when b (ended (plan .begin .transaction .endpoint) (plan .close)) (world4 plan packet time w) .devices j ≡ placed (b && addsDevice (plan .close .effect)) (w .deviceCount + one (plan .begin .device)) (addedDevice (plan .close .effect)) j (deviceBegun j)
+      by true =
+          ended-devices (plan .begin .transaction .endpoint) (plan .close) (world4 plan packet time w) j
+          ∙ (ap (λ (n : ℕ). placed (addsDevice (plan .close .effect)) n (addedDevice (plan .close .effect)) j (world4 plan packet time w .devices j)) begun-many
+          ∙ ap (λ (d : Device). placed (addsDevice (plan .close .effect)) (w .deviceCount + one (plan .begin .device)) (addedDevice (plan .close .effect)) j d) (begun-at j))
+      by false = begun-at j
+
+  pub played-device-count : played plan packet time w .deviceCount ≡ w .deviceCount + one (plan .begin .device) + one (plan .closes && addsDevice (plan .close .effect))
+  unfolding played
+  played-device-count = by (plan .closes)
+    where
+      by : (b : Bool) → when b (ended (plan .begin .transaction .endpoint) (plan .close)) (world4 plan packet time w) .deviceCount ≡ w .deviceCount + one (plan .begin .device) + one (b && addsDevice (plan .close .effect))
+      by true = ended-count (plan .begin .transaction .endpoint) (plan .close) (world4 plan packet time w) ∙ ap (λ (n : ℕ). n + one (addsDevice (plan .close .effect))) begun-many
+      by false = begun-many ∙ omega arith

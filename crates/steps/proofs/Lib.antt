@@ -1,0 +1,14 @@
+pub mod Frame
+pub mod Quiet
+pub mod Played
+pub mod Devices
+pub mod Ends
+pub mod Alike
+pub mod Starts
+pub mod Settles
+pub mod Appends
+pub mod Olds
+pub mod Packet
+pub mod Small
+pub mod Bounded
+pub mod Sound

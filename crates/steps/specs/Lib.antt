@@ -1,0 +1,4 @@
+pub mod Step
+pub mod Packet
+pub mod Ending
+pub mod Sound
