@@ -172,6 +172,14 @@ module _ (u : Update) (n x id : ℕ) (m : Memory) (few : n ≤ 128) (hx : x < n)
   unfolding opened
   third-asks m₃ e = subst (λ (a : Memory). Room (when (u .start) (startGroup n x) a)) (sym e) r
 
+pub room-opened : (u : Update) (n x id : ℕ) (m : Memory) → Room (opened u n x id m) → Room m
+unfolding opened
+room-opened u n x id m r =
+    when-room (u .over) (altered x (withPhase Ended)) (λ a b. room-altered x (withPhase Ended) b)
+    (when-room (u .cut) (endRow n x) (λ a b. room-end-row n x b)
+    (when-room (u .link) (linkStep x id) (λ a b. room-link-step x id b)
+    (when-room (u .start) (startGroup n x) (λ a b. room-start-group n x b) r)))
+
 module _ (u : Update) (n x id : ℕ) (m : Memory) (few : n ≤ 128) (hx : x < n) (sized : length (m .table) ≡ 2176) where
   ends : (p : Endpoint → ℕ) → ((e : Endpoint) → p (withPhase Ended e) ≡ p e) → ((s : ℕ) (e : Endpoint) → p (withState s e) ≡ p e)
       → Kept p x (p (entryAt (m .table) x)) (when (u .cut) (endRow n x) (when (u .over) (altered x (withPhase Ended)) m))

@@ -1,2 +1,3 @@
 pub mod Carried
 pub mod CarriedLaws
+pub mod TabledLaws

@@ -19,7 +19,7 @@ use Rattle.update.proofs.Steps.{transaction-adds}
 use Rattle.event.specs.Event.{tallyAct, isCurrent}
 
 -- no transaction is current, so event_add_subgroup ends none
-settled : (w : World) → isCurrent (w .slot) ≡ false → transactionEnd false false w ≡ w
+pub settled : (w : World) → isCurrent (w .slot) ≡ false → transactionEnd false false w ≡ w
 settled w h = by (w .slot) h
   where
     by : (s : Slot) → isCurrent s ≡ false → transactionEndAt s false false w ≡ w
@@ -33,10 +33,10 @@ event-link-adds {t} {w₀} {w} h a =
     record { words = (λ k. omega (arith, row k (T 0 (pred (w .transactions))) (w .journal), more 10 k (t .links * 4) 4 ((t .links + 1) * 4) (omega arith), a .words k)); waiting = omega (arith, c, a .waiting); raw = a .raw; devices = a .devices; endpoints = a .endpoints; packets = a .packets; transactions = a .transactions; groups = a .groups; bytes = a .bytes; items = a .items }
 
 -- event_subgroup_start and event_add_group, once the transaction has ended
-abbrev subgroup : ℕ → World → World
+abbrev pub subgroup : ℕ → World → World
 subgroup id w = w ▷ pushTransaction id ▷ rules.eventLink
 
-abbrev group : ℕ → Bool → World → World
+abbrev pub group : ℕ → Bool → World → World
 group id start w = subgroup id w ▷ (λ v. pushGroup eventEp (pred (v .endpoints eventEp .transactions)) v) ▷ addGroupEntry eventEp start ▷ addItem eventEp
 
 module _ (id : ℕ) {t : Tally} {w₀ w : World} (settle : isCurrent (w .slot) ≡ false) (h : 0 < w .count) (a : Adds t w₀ w) where

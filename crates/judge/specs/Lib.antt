@@ -7,5 +7,6 @@ pub mod Bools
 pub mod RoomLaws
 pub mod FormedLaws
 pub mod StoredLaws
+pub mod TabledLaws
 pub mod FreshLaws
 pub mod AnswersLaws

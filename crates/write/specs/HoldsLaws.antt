@@ -265,7 +265,7 @@ close-links t f i (suc n) js h =
         rw z (ap (λ (b : Bool). cond b (closed n i []) []) (phase-entry t n 3 (omega arith) (omega arith) ∙ ap (λ (e : Endpoint). eqb (phaseWord (e .phase)) 3) (h n (omega arith))))
 
 -- no other log has them
-close-else : (k : ℕ) → eqb 10 k ≡ false → (f : ℕ → Endpoint) (i n : ℕ) (js : List Row) → log k (closeRows n i f js) ≡ log k js
+pub close-else : (k : ℕ) → eqb 10 k ≡ false → (f : ℕ → Endpoint) (i n : ℕ) (js : List Row) → log k (closeRows n i f js) ≡ log k js
 close-else k e f i zero js = refl
 close-else k e f i (suc n) js = one-else (f n .phase) ∙ close-else k e f i n js
   where
