@@ -1,0 +1,42 @@
+-- Making a fresh decoder, over plain values: the room that the answer 0 tells, and the contract from its pieces.
+use Prim.Native.Nat.{ℕ, _≤_}
+use native.Mathlib.Omega.{arith}
+use mathlib.Core.Path.{_≡_, ap}
+use mathlib.Core.List.{List}
+use lib.ListN.{length, set}
+use lib.Seq.{sets}
+use Rattle.tables.specs.Details as details
+use Rattle.tables.specs.declared.Device.{Device}
+use Rattle.rules.specs.Decoder.{fresh}
+use Rattle.rules.specs.Rows.{log}
+use Rattle.judge.specs.Fresh.{countsOf, freshDecoder, freshTable, refusedDecoder}
+use Rattle.judge.specs.RoomLaws.{within}
+use Rattle.judge.specs.declared.Decoder.{Decoder}
+use Rattle.outcome.specs.State.{Logs, logs, state, roomBy, roomOf}
+use Rattle.calls.specs.Fresh.{freshAnswer, made, unmade, Makes}
+use Rattle.calls.specs.FreshLaws.{fitted}
+
+-- answer 0: there is room for one device and three endpoint rows
+pub roomy : (l : Logs) → freshAnswer (roomOf l) ≡ 0 → (1 ≤ length (l .devices)) × (9 ≤ length (l .endpoints))
+unfolding roomBy
+roomy l h =
+    let w = within (countsOf 1 3) (roomOf l) (fitted (roomOf l) h .1) in
+    let d = w .devices in
+    let e = w .endpoints in
+    (omega arith, omega arith)
+
+module _ (v : List Device) (t : List ℕ) (l : Logs) (a : ℕ) (e : a ≡ freshAnswer (roomOf l)) where
+  pub refuses : {d : Decoder} → (a ≡ 0 → ⊥) → d ≡ refusedDecoder → Makes v t l a (state d v t l)
+  unfolding unmade
+  refuses n h = record { answer = e; accepted = λ z. absurd (n z); refused = λ z. ap (λ (x : Decoder). state x v t l) h }
+
+  pub makes : {d : Decoder} {x : Device} {t′ m n : List ℕ} → a ≡ 0 → d ≡ freshDecoder → x ≡ details.fresh 0 → t′ ≡ freshTable t
+      → m ≡ sets (l .devices) 0 (log 1 (fresh .journal)) → n ≡ sets (l .endpoints) 0 (log 2 (fresh .journal))
+      → Makes v t l a (state d (set v 0 x) t′ (logs (l .bytes) m n (l .packets) (l .events) (l .transactions) (l .groups) (l .marks) (l .states) (l .items) (l .links) (l .requests)))
+  unfolding made
+  makes z h g k p q =
+      record {
+        answer = e;
+        accepted = λ y. λ i. state (h i) (set v 0 (g i)) (k i) (logs (l .bytes) (p i) (q i) (l .packets) (l .events) (l .transactions) (l .groups) (l .marks) (l .states) (l .items) (l .links) (l .requests));
+        refused = λ y. absurd (y z);
+      }

@@ -1,0 +1,35 @@
+-- Making a fresh decoder (fn new of decoder.rs); words in quotation marks are those of 01, "Answer numbers".
+use Prim.Native.Nat.{ℕ}
+use mathlib.Core.Bool.{cond}
+use mathlib.Core.List.{List}
+use mathlib.Core.Path.{_≡_}
+use lib.Seq.{sets}
+use Rattle.tables.specs.declared.Device.{Device}
+use Rattle.rules.specs.Decoder.{fresh}
+use Rattle.rules.specs.Rows.{log}
+use Rattle.judge.specs.Fresh.{countsOf, freshDecoder, freshDevices, freshTable, refusedDecoder}
+use Rattle.judge.specs.Room.{fitting, long}
+use Rattle.judge.specs.declared.Counts.{Counts}
+use Rattle.outcome.specs.State.{Logs, logs, State, state, roomOf}
+
+-- "answers 0 and writes one device and three endpoint rows, or 1 (a log too long) or 7"
+unfoldable pub freshAnswer : Counts → ℕ
+freshAnswer room = cond (long room) 1 (cond (fitting (countsOf 1 3) room) 0 7)
+
+-- those rows: what the rules' `fresh` has in its journal, from the start of each log
+abbrev pub madeLogs : Logs → Logs
+madeLogs l =
+    logs (l .bytes) (sets (l .devices) 0 (log 1 (fresh .journal))) (sets (l .endpoints) 0 (log 2 (fresh .journal))) (l .packets) (l .events) (l .transactions) (l .groups) (l .marks) (l .states) (l .items) (l .links) (l .requests)
+
+unfoldable pub made : List Device → List ℕ → Logs → State
+made v t l = state freshDecoder (freshDevices v) (freshTable t) (madeLogs l)
+
+-- "refused, it writes nothing and returns a record that every call answers 1"
+unfoldable pub unmade : List Device → List ℕ → Logs → State
+unmade v t l = state refusedDecoder v t l
+
+-- on these devices, this table and these logs a fresh decoder is made with answer a, and leaves s′
+pub record Makes (v : List Device) (t : List ℕ) (l : Logs) (a : ℕ) (s′ : State) : Type 0 where
+  pub answer : a ≡ freshAnswer (roomOf l)
+  pub accepted : a ≡ 0 → s′ ≡ made v t l
+  pub refused : (a ≡ 0 → ⊥) → s′ ≡ unmade v t l

@@ -1,0 +1,4 @@
+pub mod Fresh
+pub mod Detail
+pub mod FreshLaws
+pub mod DetailLaws
