@@ -1,0 +1,79 @@
+-- `plan_by` meets its contract: its values one after the other (Planned), and the counts of the entries stay small.
+use Rattle.judge.specs.World.{worldOf}
+use Rattle.plan.proofs.Planned.{planned}
+use Rattle.plan.specs.Ready.{Small}
+use Prim.Native.Nat.{_^_}
+use Rattle.plan.proofs.Bounds.{end-small, ended-small, middle-small, wider}
+use native.Mathlib.Omega.{arith}
+use mathlib.Core.Bool.{_&&_, not}
+use lib.Dec.{eqb}
+use Rattle.plan.proofs.plan_by.Statement.{statement}
+use Rattle.plan.proofs.plan_by.Tie as tie
+
+-- the entry that the old transaction's end leaves has few rows
+old-small : (c : tie.After-end-at) → Small (2 ^ 61) (c .end-at .result .entry)
+old-small c = rw (c .end-at .ensures) (end-small (c .before .before .before .before .pre .1 .1) _ _ _ _ _ _)
+
+-- and so has the entry of the packet's own endpoint
+own-small : (c : tie.After-middle-of) → Small (2 ^ 62) (c .middle-of .result .entry)
+own-small c =
+    let ended = c .before .before .before in
+    let fresh = ended .before .before in
+    let end = fresh .before in
+    let s = end .before .before .before .before in
+    let a = s .args in
+    let h : Small (2 ^ 62) (ended .entry-ended .result) =
+    rw (ended .entry-ended .ensures)
+    (wider (ended-small (fresh .is-new .result && not (eqb (a .x0) 0)) (end .end-at .result) (ended .before .start-pid .result) (old-small end) (s .pre .1 .1)) (2 ^ 62) (omega arith))
+    in
+    rw (c .middle-of .ensures)
+    (middle-small (a .d) (a .devices) (a .table .now) (s .pre .0) (2 ^ 62) (omega arith) (a .x0) (s .pre .1 .0) (ended .entry-ended .result) h (a .j .status) (a .j .pid) (a .packet .now) (c .before .next-row .result) (end .before .extract-payload .result))
+
+entry-ended-requires : tie.Need-entry-ended-requires
+entry-ended-requires c κs = wider (old-small (c .before .before)) (2 ^ 62) (omega arith)
+
+close-of-requires : tie.Need-close-of-requires
+close-of-requires c κs = own-small (c .before .before .before .before .before .before .before .before .before)
+
+returns : tie.Need-returns
+returns c =
+    let s = c .before .before .before .before .before .before .before .before .before .before .before .before .before .before .before .before .before .before .before .before .before .args in
+    planned (s .j) (s .x0) (s .e) (s .t) (s .packet .now) (worldOf (s .d) (s .devices) (s .table .now))
+    (c .before .before .before .before .before .before .before .before .before .before .before .before .before .before .before .before .before .before .before .setup-of .ensures)
+    (c .before .before .before .before .before .before .before .before .before .before .before .before .before .before .before .before .before .before .extract-payload .ensures)
+    (c .before .before .before .before .before .before .before .before .before .before .before .before .before .before .before .before .before .end-at .ensures)
+    (c .before .before .before .before .before .before .before .before .before .before .before .before .before .before .before .before .is-new .ensures)
+    (c .before .before .before .before .before .before .before .before .before .before .before .before .before .before .before .start-pid .ensures)
+    (c .before .before .before .before .before .before .before .before .before .before .before .before .before .before .entry-ended .ensures)
+    (c .before .before .before .before .before .before .before .before .before .before .before .before .before .last-ended .ensures)
+    (c .before .before .before .before .before .before .before .before .before .before .before .before .next-row .ensures)
+    (c .before .before .before .before .before .before .before .before .before .before .before .middle-of .ensures)
+    (c .before .before .before .before .before .before .before .is-suspended .ensures)
+    (c .before .before .before .before .before .before .resume-of .ensures)
+    (c .before .before .before .before .before .is-last .ensures)
+    (c .before .before .before .is-success .ensures)
+    (c .before .before .completes-by .ensures)
+    (c .before .close-of .ensures)
+    (c .slot-after .ensures)
+
+pub plan-by-spec : {M : Type 1} → statement M
+plan-by-spec =
+    tie.close
+    (tie.spec
+    (λ c κs. tt)
+    (λ c κs. tt)
+    (λ c κs. (c .before .before .before .pre .0, c .before .before .before .pre .1 .0))
+    (λ c κs. tt)
+    (λ c κs. tt)
+    entry-ended-requires
+    (λ c κs. tt)
+    (λ c κs. c .before .before .before .before .before .before .before .before .pre .0 .transactions)
+    (λ c κs. (c .before .before .before .before .before .before .before .before .before .pre .0, c .before .before .before .before .before .before .before .before .before .pre .1 .0))
+    (λ c κs. tt)
+    (λ c κs. tt)
+    (λ c κs. tt)
+    (λ c κs. tt)
+    (λ c κs. tt)
+    close-of-requires
+    (λ c κs. tt)
+    returns)

@@ -1,0 +1,30 @@
+-- `plan_ending` meets its contract: the endpoint of the current transaction is there.
+use Prim.Native.Nat.{_<_}
+use Rattle.steps.specs.Ending.{endingOf}
+use Rattle.plan.proofs.Bounds.{current-there}
+use native.Mathlib.Omega.{arith}
+use Rattle.plan.proofs.plan_ending.Statement.{statement}
+use Rattle.plan.proofs.plan_ending.Tie as tie
+
+-- the endpoint of the current transaction is there
+there : (c : tie.After-current-endpoint) → c .current-endpoint .result < c .before .before .args .d .counts .endpoints
+there c = let s = c .before .before in rw (c .current-endpoint .ensures) (current-there (s .args .d .transaction) (s .pre .three) (s .args .d .slot) (s .pre .held))
+
+load-requires : tie.Need-load-requires
+load-requires c κs = omega (arith, there c, c .before .before .pre .endpoints)
+
+end-at-requires : tie.Need-end-at-requires
+end-at-requires c κs = (c .before .before .before .pre, there (c .before))
+
+returns : tie.Need-returns
+unfolding endingOf
+returns c = simp (c .end-at .ensures, c .before .load .ensures, c .before .before .current-endpoint .ensures)
+
+pub plan-ending-spec : {M : Type 1} → statement M
+plan-ending-spec =
+    tie.close
+    (tie.spec
+    (λ c κs. tt)
+    load-requires
+    end-at-requires
+    returns)

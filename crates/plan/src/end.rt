@@ -1,0 +1,128 @@
+// The end of a transaction (group_update), and what it leaves of the endpoint's entry.
+use group::group_status;
+use judge::Decoder;
+use steps::End;
+use steps::Middle;
+use tables::Detail;
+use tables::Device;
+use tables::Endpoint;
+use tables::details::endpoint_details;
+use tables::entry::load;
+use transaction::Transaction;
+use transaction::payload::start_pid;
+use update::Update;
+use update::decide_update;
+use update::entry::entry_update;
+use update::entry::transaction_update;
+ghost use mathlib.Core.Path.{_≡_};
+ghost use mathlib.Core.Bool.{false};
+ghost use Prim.Native.Nat.{_<_, _^_};
+ghost use Rattle.rules.specs.Endpoints.{detailOf};
+ghost use Rattle.update.specs.Entry.{itemAfter};
+ghost use Rattle.judge.specs.World.{worldOf};
+ghost use Rattle.steps.specs.Step.{endOf};
+ghost use Rattle.steps.specs.Packet.{closeOf, entryEnded, lastEnded};
+ghost use Rattle.plan.specs.Ready.{Ready, Small};
+
+// Of a transaction t on the endpoint x with the entry e; last is the last item's endpoint.
+fn end_of(
+    x: usize,
+    e: Endpoint,
+    t: Transaction,
+    detail: Detail,
+    last: usize,
+    success: bool,
+    complete: bool,
+) -> End
+    ensures { λ r. ⌜ r ≡ endOf x e t detail last success complete ⌝ }
+{
+    let g = group_status(e, t, detail, success, complete);
+    let status = g.status;
+    let effect = g.effect;
+    let entry = g.endpoint;
+    let phase = entry.phase;
+    let update = decide_update(status, phase, t.linked, last == x);
+    End {
+        entry,
+        update,
+        effect,
+    }
+}
+
+// The end of the old transaction, neither with success nor complete.
+pub fn end_at(
+    x: usize,
+    e: Endpoint,
+    t: Transaction,
+    d: Decoder,
+    devices: [Device; 64],
+    table: &[u64; 2176],
+) -> End
+    requires { ⌜ Ready d (now table) ⌝ }
+    requires { ⌜ x < d .counts .endpoints ⌝ }
+    ensures { λ r. ⌜ r ≡ endOf x e t (detailOf x (worldOf d devices (now (table .entry)))) (d .last) false false ⌝ }
+{
+    let stored = load(table, x);
+    let place = stored.device as usize;
+    let known = devices[place];
+    let detail = endpoint_details(known, stored.address);
+    end_of(x, e, t, detail, d.last, false, false)
+}
+
+// The last item's endpoint after an update of endpoint x.
+fn item_after(u: Update, x: usize, last: usize) -> usize
+    ensures { λ r. ⌜ r ≡ itemAfter u x last ⌝ }
+{
+    if u.item {
+        return x;
+    }
+    if u.start {
+        return x;
+    }
+    last
+}
+
+// The entry of the old endpoint once the old transaction, with the token pid, has ended.
+pub fn entry_ended(ends: bool, end: End, pid: u8, e: Endpoint) -> Endpoint
+    requires { ⌜ Small (2 ^ 62) (end .entry) ⌝ }
+    ensures { λ r. ⌜ r ≡ entryEnded ends end pid e ⌝ }
+{
+    if ends {
+        let update = end.update;
+        let entry = end.entry;
+        entry_update(update, pid, entry)
+    } else {
+        e
+    }
+}
+
+// The last item's endpoint then.
+pub fn last_ended(ends: bool, end: End, x: usize, last: usize) -> usize
+    ensures { λ r. ⌜ r ≡ lastEnded ends end x last ⌝ }
+{
+    if ends {
+        let update = end.update;
+        item_after(update, x, last)
+    } else {
+        last
+    }
+}
+
+// The end of the packet's own transaction.
+pub fn close_of(m: Middle, last: usize, success: bool, complete: bool) -> End
+    requires { ⌜ Small (2 ^ 62) (m .entry) ⌝ }
+    ensures { λ r. ⌜ r ≡ closeOf m last success complete ⌝ }
+{
+    let begin = m.begin;
+    let known = m.known;
+    let entry = m.entry;
+    let u = begin.update;
+    let t = begin.transaction;
+    let style = t.style;
+    let x = t.endpoint;
+    let e = entry_update(u, start_pid(style), entry);
+    let t = transaction_update(u, t, entry.transactions);
+    let detail = endpoint_details(known, m.number);
+    let last = item_after(u, x, last);
+    end_of(x, e, t, detail, last, success, complete)
+}
