@@ -1,0 +1,5 @@
+pub mod Rows
+pub mod TabledLaws
+pub mod EndedLaws
+pub mod RowsLaws
+pub mod ActedLaws
