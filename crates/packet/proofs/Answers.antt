@@ -1,0 +1,308 @@
+-- The answer of a packet, and the outcome with each: accepted, refused, and dropped (answer 8).
+use mathlib.Core.Path.{_≡_, refl, sym, ap, subst, _∙_}
+use mathlib.Core.Bool.{Bool, true, false, not, cond, false≢true}
+use mathlib.Core.List.{List, [], _∷_, append-nil}
+use Prim.Native.Nat.{ℕ, zero, suc, _+_, _*_, _/_, _^_, _<_, _≤_}
+use native.Mathlib.Omega.{arith}
+use borrow.Author.Tests.{le-ltb, eqb-true, eqb-false}
+use lib.Dec.{eqb, ltb}
+use lib.ListN.{length, getD, set}
+use lib.Seq.{sets}
+use Rattle.transaction.specs.Payload.{startPid}
+use Rattle.tables.specs.Search.{blank}
+use Rattle.tables.specs.Table.{wordAt, entryAt}
+use Rattle.tables.specs.Word as word
+use Rattle.tables.specs.declared.Device.{Device}
+use Rattle.rules.specs.Rows.{log}
+use Rattle.rules.specs.World.{World, withSlot}
+use Rattle.rules.specs.Transactions.{isDropped}
+use Rattle.rules.specs.Decoder.{handleRawPacket}
+use Rattle.rules.specs.declared.EventState.the-variants.{Idle}
+use Rattle.rules.specs.declared.Slot.the-variants.{Empty}
+use Rattle.update.specs.Tally.{Adds, waitingOf}
+use Rattle.update.specs.declared.tally.Tally.{Tally}
+use Rattle.update.proofs.Counted.{adds-none}
+use Rattle.update.proofs.Steps.{packet-adds}
+use Rattle.judge.specs.Answers.{Tests, firstOf, packetTests}
+use Rattle.judge.specs.FormedLaws.{WellFormed}
+use Rattle.judge.specs.Room.{fitting}
+use Rattle.judge.specs.declared.Counts.{Counts}
+use Rattle.judge.specs.declared.Decoder.{Decoder}
+use Rattle.steps.specs.Packet.{planOf, played}
+use Rattle.steps.specs.declared.Plan.{Plan}
+use Rattle.steps.proofs.Packet.{packet-is, dropped-is, withPacket}
+use Rattle.outcome.specs.Outcome.{Answers, Left, DevicesOf, TableOf, Appends, countsAfter, decoderOf, isIll, isFull, isOver, accepts, worldAt}
+use Rattle.outcome.specs.OutcomeLaws.{sound, refused, accepted}
+use Rattle.outcome.specs.State.{Logs, State, logs, state, roomBy, roomOf, Known}
+use Rattle.reckon.specs.Passes.{planPasses}
+use Rattle.reckon.specs.Suited.{Totalled}
+use Rattle.reckon.specs.Tallies.{addCounts}
+use Rattle.reckon.proofs.Counted.{same-adds}
+use Rattle.reckon.proofs.Counts.{counts-after, world-has, state-full}
+use Rattle.reckon.proofs.Formed.{waiting-is, packet-full-is, packet-over-is}
+use Rattle.reckon.proofs.Totals.{totalled-over}
+use Rattle.perform.specs.Asked.{PlanAsks}
+use Rattle.perform.specs.Desk.{Desk, desk, performed}
+use Rattle.perform.specs.declared.Hand.{Hand}
+use Rattle.packet.specs.After.{sumBy, sumOf, sumPlan, sumDropped, tallyOf, tallyDropped, handOf, droppedDecoder, decoderBy, noChange, changeOf, changed, Placed}
+use Rattle.packet.specs.After as after
+use Rattle.packet.specs.Call.{testsOf, PacketCall}
+use Rattle.packet.specs.Dropped.{fitsDropped, Drops}
+use Rattle.packet.specs.declared.change.Change.{Change}
+use Rattle.packet.specs.declared.inner.Inner.{Inner}
+use Rattle.packet.specs.declared.sum.Sum.{Sum}
+use Rattle.packet.proofs.Left.{Begins, entryDesk, bytes-fit, packets-fit, asks, change-placed, left}
+
+-- ---- the answer, once the first tests are passed
+
+answer-by : (full over dropped : Bool) (len : ℕ) → len ≤ 4096 → firstOf (packetTests false false len full over dropped) ≡ cond full 7 (cond over 9 (cond dropped 8 0))
+unfolding firstOf
+answer-by full over dropped len h = let e = le-ltb 4096 len h in rw e
+
+-- what the public call tests
+pub record Passes (packet : List ℕ) (s : State) : Type 0 where
+  pub ill : isIll s ≡ false
+  pub finished : s .decoder .finished ≡ false
+  pub short : length packet ≤ 4096
+
+module _ (packet : List ℕ) (time : ℕ) (s : State) (h : Passes packet s) where
+  answer-is : firstOf (testsOf packet time s)
+      ≡ cond (isFull s (handleRawPacket packet time (worldAt s))) 7 (cond (isOver (handleRawPacket packet time (worldAt s))) 9 (cond (isDropped (s .decoder .slot) (s .decoder .transaction)) 8 0))
+  answer-is =
+      ap (λ (i : Bool). firstOf (packetTests i (s .decoder .finished) (length packet) (isFull s (handleRawPacket packet time (worldAt s))) (isOver (handleRawPacket packet time (worldAt s))) (isDropped (s .decoder .slot) (s .decoder .transaction)))) (h .ill)
+      ∙ (ap (λ (f : Bool). firstOf (packetTests false f (length packet) (isFull s (handleRawPacket packet time (worldAt s))) (isOver (handleRawPacket packet time (worldAt s))) (isDropped (s .decoder .slot) (s .decoder .transaction)))) (h .finished)
+      ∙ answer-by _ _ _ (length packet) (h .short))
+
+  well : WellFormed (s .decoder) (s .devices) (s .table) (roomOf (s .logs))
+  well = sound s (h .ill) .0
+
+-- a table's totals are words
+totalled : (s : State) → Known (s .table) → Totalled (worldAt s)
+unfolding entryAt
+totalled s k i h = let e = k .words (i * word.width + word.total) in omega (arith, e)
+
+-- a row stored as it was
+set-back : (v : List Device) (i : ℕ) → set v i (getD v i blank) ≡ v
+set-back [] i = refl
+set-back (x ∷ xs) zero = refl
+set-back (x ∷ xs) (suc i) = ap (λ (l : List Device). x ∷ l) (set-back xs i)
+
+changed-none : (v : List Device) → changed (noChange v) v ≡ v
+unfolding changed
+changed-none v = ap (λ (l : List Device). set l 0 (getD v 0 blank)) (set-back v 0) ∙ set-back v 0
+
+-- ---- a packet that is not dropped
+
+module _ (packet : List ℕ) (time : ℕ) (s : State) (h : Passes packet s) (known : Known (s .table)) (live : isDropped (s .decoder .slot) (s .decoder .transaction) ≡ false) where
+  abbrev p : Plan
+  p = planOf packet (worldAt s)
+
+  full-is : isFull s (handleRawPacket packet time (worldAt s)) ≡ not (fitting (addCounts (s .decoder .counts) (tallyOf (s .decoder) p (length packet))) (roomOf (s .logs)))
+  full-is = ap (isFull s) (packet-is packet time (worldAt s) live) ∙ packet-full-is packet time s (roomOf (s .logs)) (well packet time s h)
+
+  over-is : isOver (handleRawPacket packet time (worldAt s)) ≡ planPasses p
+  over-is = ap isOver (packet-is packet time (worldAt s) live) ∙ packet-over-is packet time s (roomOf (s .logs)) (well packet time s h) (totalled s known)
+
+  -- the sum's answer is the call's
+  sum-answer : sumPlan (s .decoder) p (length packet) (roomOf (s .logs)) .answer ≡ firstOf (testsOf packet time s)
+  unfolding sumPlan
+  sum-answer = by (fitting (addCounts (s .decoder .counts) (tallyOf (s .decoder) p (length packet))) (roomOf (s .logs))) (planPasses p) full-is over-is ∙ sym (answer-is packet time s h)
+    where
+      by : (a o : Bool) {full over : Bool} → full ≡ not a → over ≡ o → sumBy a o (s .decoder) (tallyOf (s .decoder) p (length packet)) .answer ≡ cond full 7 (cond over 9 (cond (isDropped (s .decoder .slot) (s .decoder .transaction)) 8 0))
+      by true true e f = rw (e, f)
+      by true false e f = rw (e, f, live)
+      by false o e f = rw e
+
+  -- a refused call leaves all as it was
+  pub refused-call : (a : ℕ) → a ≡ sumPlan (s .decoder) p (length packet) (roomOf (s .logs)) .answer → accepts a ≡ false
+      → PacketCall packet time s a (state (s .decoder) (changed (noChange (s .devices)) (s .devices)) (s .table) (s .logs))
+  refused-call a e r = subst (λ (v : List Device). PacketCall packet time s a (state (s .decoder) v (s .table) (s .logs))) (sym (changed-none (s .devices))) (refused a (e ∙ sum-answer) r)
+
+  pub accepted-call : (b : Begins packet s) (k : Desk) → k ≡ performed p (worldAt s .packets) (entryDesk s) → (y z : List ℕ) → y ≡ sets (s .logs .bytes) (s .decoder .counts .bytes) packet → z ≡ sets (s .logs .packets) (s .decoder .counts .packets * 2) (s .decoder .counts .bytes ∷ time ∷ [])
+      → PacketCall packet time s 0 (state (decoderBy (s .decoder) p (sumPlan (s .decoder) p (length packet) (roomOf (s .logs))) (k .hand)) (changed (changeOf p (s .devices) (s .decoder .counts .devices)) (s .devices)) (k .table) (logs y (k .devices) (k .endpoints) z (s .logs .events) (k .transactions) (k .groups) (k .marks) (k .states) (k .items) (k .links) (k .requests)))
+  accepted-call b k e y z f g = accepted 0 (sym (b .sum) ∙ sum-answer) refl (left packet time s b k e y z f g)
+
+-- ---- the same, of what the code has: each part with its equation
+
+none-placed : (v : List Device) {c : Change} → c ≡ noChange v → Placed c
+none-placed v e = subst Placed (sym e) (record { place = omega arith; at = omega arith })
+
+-- the desk at the call's entry, with this hand
+abbrev pub deskBy : Hand → State → Desk
+deskBy h s =
+    desk h (s .table) (s .logs .devices) (s .logs .endpoints) (s .logs .transactions) (s .logs .groups) (s .logs .marks) (s .logs .states) (s .logs .items) (s .logs .links) (s .logs .requests)
+
+pub record Decided (packet : List ℕ) (s : State) (p : Plan) (n : Counts) (z : Sum) : Type 0 where
+  pub passes : Passes packet s
+  pub known : Known (s .table)
+  pub live : isDropped (s .decoder .slot) (s .decoder .transaction) ≡ false
+  pub many : length (s .devices) ≡ 64
+  pub token : startPid (s .decoder .transaction .style) < 256
+  pub first : getD packet 0 0 < 256
+  pub plan : p ≡ planOf packet (worldAt s)
+  pub room : n ≡ roomOf (s .logs)
+  pub sum : z ≡ sumPlan (s .decoder) p (length packet) n
+
+module _ (packet : List ℕ) (time : ℕ) (s : State) {plan : Plan} {room : Counts} {sum : Sum} (q : Decided packet s plan room sum) where
+  sum-at : sum ≡ sumPlan (s .decoder) (planOf packet (worldAt s)) (length packet) (roomOf (s .logs))
+  sum-at = q .sum ∙ λ i. sumPlan (s .decoder) (q .plan i) (length packet) (q .room i)
+
+  -- an answer that is not 0 is 7 or 9
+  not-accepted : (sum .answer ≡ 0 → ⊥) → accepts (sum .answer) ≡ false
+  unfolding sumPlan
+  not-accepted ne = ap (λ (z : Sum). accepts (z .answer)) sum-at ∙ by (fitting _ _) (planPasses _) (λ e. ne (ap (λ (z : Sum). z .answer) sum-at ∙ e))
+    where
+      by : (a o : Bool) → (sumBy a o (s .decoder) (tallyOf (s .decoder) (planOf packet (worldAt s)) (length packet)) .answer ≡ 0 → ⊥) → accepts (sumBy a o (s .decoder) (tallyOf (s .decoder) (planOf packet (worldAt s)) (length packet)) .answer) ≡ false
+      by true true h = refl
+      by true false h = absurd (h refl)
+      by false o h = refl
+
+  pub refused-by : (sum .answer ≡ 0 → ⊥) → {c : Change} → c ≡ noChange (s .devices) → Placed c × PacketCall packet time s (sum .answer) (state (s .decoder) (changed c (s .devices)) (s .table) (s .logs))
+  refused-by ne {c} e = (
+    none-placed (s .devices) e,
+    subst (λ (x : Change). PacketCall packet time s (sum .answer) (state (s .decoder) (changed x (s .devices)) (s .table) (s .logs))) (sym e)
+        (refused-call packet time s (q .passes) (q .known) (q .live) (sum .answer) (ap (λ (z : Sum). z .answer) sum-at) (not-accepted ne)),
+  )
+
+  module _ (ok : sum .answer ≡ 0) where
+    begins : Begins packet s
+    begins =
+        record { ill = q .passes .ill; live = q .live; known = q .known; many = q .many; token = q .token; first = q .first; sum = sym (ap (λ (z : Sum). z .answer) sum-at) ∙ ok }
+
+    pub rows-fit : (s .decoder .counts .bytes + length packet ≤ length (s .logs .bytes)) × ((s .decoder .counts .packets + 1) * 2 ≤ length (s .logs .packets))
+    rows-fit = (bytes-fit packet time s begins, packets-fit packet time s begins)
+
+    pub few-devices : s .decoder .counts .devices ≤ 64
+    few-devices = well packet time s (q .passes) .counts .fewDevices
+
+    pub asks-by : {h : Hand} → h ≡ handOf (s .decoder) → PlanAsks plan (s .decoder .counts .packets) (deskBy h s)
+    asks-by {h} e =
+        subst (λ (x : Plan). PlanAsks x (s .decoder .counts .packets) (deskBy h s)) (sym (q .plan))
+        (subst (λ (x : Hand). PlanAsks (planOf packet (worldAt s)) (s .decoder .counts .packets) (deskBy x s)) (sym e) (asks packet time s begins))
+
+    pub placed-by : {c : Change} → c ≡ changeOf plan (s .devices) (s .decoder .counts .devices) → Placed c
+    placed-by e = subst Placed (sym (e ∙ λ i. changeOf (q .plan i) (s .devices) (s .decoder .counts .devices))) (change-placed packet time s begins)
+
+    pub accepted-by : {h : Hand} {k : Desk} {x : Decoder} {c : Change} {y z : List ℕ} → h ≡ handOf (s .decoder) → k ≡ performed plan (s .decoder .counts .packets) (deskBy h s)
+        → y ≡ sets (s .logs .bytes) (s .decoder .counts .bytes) packet → z ≡ sets (s .logs .packets) (s .decoder .counts .packets * 2) (s .decoder .counts .bytes ∷ time ∷ [])
+        → x ≡ decoderBy (s .decoder) plan sum (k .hand) → c ≡ changeOf plan (s .devices) (s .decoder .counts .devices)
+        → PacketCall packet time s 0 (state x (changed c (s .devices)) (k .table) (logs y (k .devices) (k .endpoints) z (s .logs .events) (k .transactions) (k .groups) (k .marks) (k .states) (k .items) (k .links) (k .requests)))
+    accepted-by {h} {k} {x} {c} {y} {z} e1 e2 f g e3 e4 =
+        let k1 : k ≡ performed (planOf packet (worldAt s)) (s .decoder .counts .packets) (entryDesk s) = e2 ∙ λ i. performed (q .plan i) (s .decoder .counts .packets) (deskBy (e1 i) s) in
+        let x1 : x ≡ decoderBy (s .decoder) (planOf packet (worldAt s)) (sumPlan (s .decoder) (planOf packet (worldAt s)) (length packet) (roomOf (s .logs))) (k .hand) = e3 ∙ λ i. decoderBy (s .decoder) (q .plan i) (sum-at i) (k .hand) in
+        let c1 : c ≡ changeOf (planOf packet (worldAt s)) (s .devices) (s .decoder .counts .devices) = e4 ∙ λ i. changeOf (q .plan i) (s .devices) (s .decoder .counts .devices) in
+        subst (λ (a : Decoder). PacketCall packet time s 0 (state a (changed c (s .devices)) (k .table) (logs y (k .devices) (k .endpoints) z (s .logs .events) (k .transactions) (k .groups) (k .marks) (k .states) (k .items) (k .links) (k .requests)))) (sym x1)
+        (subst (λ (a : Change). PacketCall packet time s 0 (state (decoderBy (s .decoder) (planOf packet (worldAt s)) (sumPlan (s .decoder) (planOf packet (worldAt s)) (length packet) (roomOf (s .logs))) (k .hand)) (changed a (s .devices)) (k .table) (logs y (k .devices) (k .endpoints) z (s .logs .events) (k .transactions) (k .groups) (k .marks) (k .states) (k .items) (k .links) (k .requests)))) (sym c1)
+        (accepted-call packet time s (q .passes) (q .known) (q .live) begins k k1 y z f g))
+
+-- ---- a packet that drops the suspended transaction
+
+module _ (packet : List ℕ) (time : ℕ) (s : State) (h : Passes packet s) (known : Known (s .table)) (dropped : isDropped (s .decoder .slot) (s .decoder .transaction) ≡ true) where
+  abbrev d : Decoder
+  d = s .decoder
+
+  abbrev world : World
+  world = withSlot Empty (withPacket packet time (worldAt s))
+
+  world-is : handleRawPacket packet time (worldAt s) ≡ world
+  world-is = dropped-is packet time (worldAt s) dropped
+
+  abbrev t : Tally
+  t = tallyDropped d (length packet)
+
+  adds : Adds t (worldAt s) world
+  adds =
+      subst (λ (m : ℕ). Adds (after.tallyOfDropped m (length packet)) (worldAt s) world) (waiting-is (well packet time s h))
+      (same-adds Empty (d .transaction) Idle (d .keepalive) (worldAt s .devices) (packet-adds (same-adds (d .slot) (d .transaction) Idle (d .keepalive) (worldAt s .devices) (adds-none (worldAt s))) packet time))
+
+  over-none : isOver world ≡ false
+  over-none = totalled-over world (totalled s known)
+
+  sum-by : (fits : Bool) → fitting (addCounts (d .counts) t) (roomOf (s .logs)) ≡ fits
+      → firstOf (testsOf packet time s) ≡ cond fits 8 7
+  sum-by fits e =
+      answer-is packet time s h
+      ∙ (ap (λ (v : World). cond (isFull s v) 7 (cond (isOver v) 9 (cond (isDropped (d .slot) (d .transaction)) 8 0))) world-is
+      ∙ (ap (λ (f : Bool). cond f 7 (cond (isOver world) 9 (cond (isDropped (d .slot) (d .transaction)) 8 0))) (state-full s adds ∙ ap not e)
+      ∙ (ap (λ (o : Bool). cond (not fits) 7 (cond o 9 (cond (isDropped (d .slot) (d .transaction)) 8 0))) over-none
+      ∙ (ap (λ (o : Bool). cond (not fits) 7 (cond o 8 0)) dropped ∙ turn fits))))
+    where
+      turn : (f : Bool) → _≡_ {A = ℕ} (cond (not f) 7 8) (cond f 8 7)
+      turn true = refl
+      turn false = refl
+
+  left-dropped : fitting (addCounts (d .counts) t) (roomOf (s .logs)) ≡ true → (y z : List ℕ) → y ≡ sets (s .logs .bytes) (d .counts .bytes) packet → z ≡ sets (s .logs .packets) (d .counts .packets * 2) (d .counts .bytes ∷ time ∷ [])
+      → Left world (d .finished) s (state (droppedDecoder d (after.accepted d t)) (s .devices) (s .table) (logs y (s .logs .devices) (s .logs .endpoints) z (s .logs .events) (s .logs .transactions) (s .logs .groups) (s .logs .marks) (s .logs .states) (s .logs .items) (s .logs .links) (s .logs .requests)))
+  unfolding decoderOf
+  left-dropped e y z f g =
+      let n : addCounts (d .counts) t ≡ countsAfter (d .counts) world = sym (counts-after (world-has d (s .devices) (s .table)) adds) in
+      let m : t .waiting ≡ waitingOf world = sym (adds .waiting) in
+      record {
+        decoder = λ i. record { counts = n i; slot = Empty; transaction = d .transaction; last = d .last; event = Idle; keepalive = d .keepalive; waiting = m i; finished = d .finished };
+        devices = record { size = refl; there = λ i u. refl; beyond = λ i u. refl };
+        table = record { size = refl; entries = λ i u. refl; words = λ i u. well packet time s h .endpoints i u .words; beyond = λ i u. refl };
+        logs = record {
+          bytes = f ∙ ap (sets (s .logs .bytes) (d .counts .bytes)) (sym (append-nil packet));
+          devices = refl;
+          endpoints = refl;
+          packets = g;
+          events = refl;
+          transactions = refl;
+          groups = refl;
+          marks = refl;
+          states = refl;
+          items = refl;
+          links = refl;
+          requests = refl;
+        };
+      }
+
+  sum-is : (b : Bool) → fitting (addCounts (d .counts) t) (roomOf (s .logs)) ≡ b → sumDropped d (length packet) (roomOf (s .logs)) ≡ sumBy b false d t
+  unfolding sumDropped
+  sum-is b e = ap (λ (c : Bool). sumBy c false d t) e
+
+  -- the state with these three parts changed
+  abbrev stateBy : Decoder → List ℕ → List ℕ → State
+  stateBy x y z = state x (s .devices) (s .table) (logs y (s .logs .devices) (s .logs .endpoints) z (s .logs .events) (s .logs .transactions) (s .logs .groups) (s .logs .marks) (s .logs .states) (s .logs .items) (s .logs .links) (s .logs .requests))
+
+  pub dropped-call : (r : Inner) (y z : List ℕ) → Drops d (noChange (s .devices)) packet time (roomOf (s .logs)) (s .logs .bytes) (s .logs .packets) r y z
+      → PacketCall packet time s (r .answer) (state (r .decoder) (changed (r .change) (s .devices)) (s .table) (logs y (s .logs .devices) (s .logs .endpoints) z (s .logs .events) (s .logs .transactions) (s .logs .groups) (s .logs .marks) (s .logs .states) (s .logs .items) (s .logs .links) (s .logs .requests)))
+  dropped-call r y z q =
+      subst (λ (v : List Device). PacketCall packet time s (r .answer) (state (r .decoder) v (s .table) (logs y (s .logs .devices) (s .logs .endpoints) z (s .logs .events) (s .logs .transactions) (s .logs .groups) (s .logs .marks) (s .logs .states) (s .logs .items) (s .logs .links) (s .logs .requests))))
+      (sym (ap (λ (c : Change). changed c (s .devices)) (q .change) ∙ changed-none (s .devices)))
+      (by (fitting (addCounts (d .counts) t) (roomOf (s .logs))) refl)
+    where
+      by : (b : Bool) → fitting (addCounts (d .counts) t) (roomOf (s .logs)) ≡ b → PacketCall packet time s (r .answer) (state (r .decoder) (s .devices) (s .table) (logs y (s .logs .devices) (s .logs .endpoints) z (s .logs .events) (s .logs .transactions) (s .logs .groups) (s .logs .marks) (s .logs .states) (s .logs .items) (s .logs .links) (s .logs .requests)))
+      by true e =
+          let q1 = sum-is true e in
+          let a : r .answer ≡ 8 = q .answer ∙ ap (λ (z : Sum). cond (eqb (z .answer) 0) 8 (z .answer)) q1 in
+          let c : r .decoder ≡ droppedDecoder d (after.accepted d t) = q .decoder ∙ ap (λ (z : Sum). cond (eqb (z .answer) 0) (droppedDecoder d z) d) q1 in
+          let u = q .bytes ∙ ap (λ (z : Sum). cond (eqb (z .answer) 0) (sets (s .logs .bytes) (d .counts .bytes) packet) (s .logs .bytes)) q1 in
+          let v = q .packets ∙ ap (λ (z : Sum). cond (eqb (z .answer) 0) (sets (s .logs .packets) (d .counts .packets * 2) (d .counts .bytes ∷ time ∷ [])) (s .logs .packets)) q1 in
+          accepted (r .answer) (a ∙ sym (sum-by true e)) (ap accepts a)
+          (subst (λ (x : Decoder). Left (handleRawPacket packet time (worldAt s)) (d .finished) s (stateBy x y z)) (sym c)
+          (subst (λ (x : World). Left x (d .finished) s (stateBy (droppedDecoder d (after.accepted d t)) y z)) (sym world-is) (left-dropped e y z u v)))
+      by false e =
+          let q1 = sum-is false e in
+          let a : r .answer ≡ 7 = q .answer ∙ ap (λ (z : Sum). cond (eqb (z .answer) 0) 8 (z .answer)) q1 in
+          let c : r .decoder ≡ d = q .decoder ∙ ap (λ (z : Sum). cond (eqb (z .answer) 0) (droppedDecoder d z) d) q1 in
+          let u = q .bytes ∙ ap (λ (z : Sum). cond (eqb (z .answer) 0) (sets (s .logs .bytes) (d .counts .bytes) packet) (s .logs .bytes)) q1 in
+          let v = q .packets ∙ ap (λ (z : Sum). cond (eqb (z .answer) 0) (sets (s .logs .packets) (d .counts .packets * 2) (d .counts .bytes ∷ time ∷ [])) (s .logs .packets)) q1 in
+          subst (λ (x : State). PacketCall packet time s (r .answer) x) (λ i. stateBy (sym c i) (sym u i) (sym v i)) (refused (r .answer) (a ∙ sym (sum-by false e)) (ap accepts a))
+
+  pub dropped-by : {none : Change} {room : Counts} (r : Inner) (y z : List ℕ) → none ≡ noChange (s .devices) → room ≡ roomOf (s .logs) → Drops d none packet time room (s .logs .bytes) (s .logs .packets) r y z
+      → Placed (r .change) × PacketCall packet time s (r .answer) (state (r .decoder) (changed (r .change) (s .devices)) (s .table) (logs y (s .logs .devices) (s .logs .endpoints) z (s .logs .events) (s .logs .transactions) (s .logs .groups) (s .logs .marks) (s .logs .states) (s .logs .items) (s .logs .links) (s .logs .requests)))
+  dropped-by {none} {room} r y z e f q = (
+    none-placed (s .devices) (q .change ∙ e),
+    dropped-call r y z
+        (subst (λ (c : Change). Drops d c packet time (roomOf (s .logs)) (s .logs .bytes) (s .logs .packets) r y z) e
+        (subst (λ (n : Counts). Drops d none packet time n (s .logs .bytes) (s .logs .packets) r y z) f q)),
+  )
+
+-- the room of the two logs that a packet's own rows go to
+pub room-rows : (s : State) {room : Counts} → room ≡ roomOf (s .logs) → (room .bytes ≤ length (s .logs .bytes)) × (room .packets * 2 ≤ length (s .logs .packets))
+unfolding roomBy
+room-rows s {room} e =
+    let a : room .bytes ≡ length (s .logs .bytes) = ap (λ (n : Counts). n .bytes) e in
+    let b : room .packets ≡ length (s .logs .packets) / 2 = ap (λ (n : Counts). n .packets) e in
+    (omega (arith, a), omega (arith, b))

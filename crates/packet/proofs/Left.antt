@@ -1,0 +1,350 @@
+-- A packet that is not dropped: what it asks before it writes, and that it leaves what the rules leave.
+use mathlib.Core.Path.{_≡_, refl, sym, ap, subst, _∙_}
+use mathlib.Core.Bool.{Bool, true, false, _&&_, _||_, not, cond, false≢true, true≢false}
+use mathlib.Core.List.{List, [], _∷_, append-nil}
+use Prim.Native.Nat.{ℕ, _+_, _*_, _^_, _<_, _≤_}
+use native.Mathlib.Omega.{arith}
+use lib.Dec.{eqb, ltb}
+use lib.ListN.{length, getD, set, length-set}
+use lib.Seq.{sets, getD-set-other}
+use Rattle.rows.specs.Sets.{one}
+use Rattle.transaction.specs.Payload.{startPid, extractPayload}
+use Rattle.transaction.specs.Status.{transactionStatus}
+use Rattle.usb.specs.Fields.{setupDataOf}
+use Rattle.transaction.specs.declared.Transaction.{Transaction}
+use Rattle.transaction.proofs.Laws.{extract-keeps}
+use Rattle.tables.specs.Search.{blank}
+use Rattle.tables.specs.Table.{wordAt, entryAt, Fits}
+use Rattle.tables.specs.TableLaws.{fits-entry}
+use Rattle.tables.specs.declared.Device.{Device}
+use Rattle.tables.specs.declared.Endpoint.{Endpoint}
+use Rattle.rules.specs.Rows.{Row, log}
+use Rattle.rules.specs.World.{World, _▷_, withId, withLink}
+use Rattle.rules.specs.Transactions.{isDropped, stateAt}
+use Rattle.rules.specs.Decoder.{handleRawPacket}
+use Rattle.rules.specs.declared.Slot.{Slot}
+use Rattle.rules.specs.declared.Slot.the-variants.{Empty, Current, Suspended}
+use Rattle.update.specs.Tally.{wordsIn, inLog, wordsFor, waitingOf, Adds}
+use Rattle.update.specs.declared.tally.Tally.{Tally}
+use Rattle.update.specs.Update.{when, decideResume}
+use Rattle.judge.specs.FormedLaws.{WellFormed}
+use Rattle.judge.specs.Room.{fitting}
+use Rattle.judge.specs.RoomLaws.{Within, within, Short}
+use Rattle.judge.specs.declared.Counts.{Counts}
+use Rattle.judge.specs.declared.Decoder.{Decoder}
+use Rattle.steps.specs.Packet.{resumes, slotThen, going, oldEndpoint, transactionThen, planBy, planOf, played}
+use Rattle.steps.specs.Step.{opened, begun}
+use Rattle.steps.specs.Sound.{world1, world2, PlanFits}
+use Rattle.steps.specs.declared.Plan.{Plan}
+use Rattle.steps.proofs.Packet.{packet-is}
+use Rattle.steps.proofs.Played.{played-log, played-event, played-keepalive, played-slot, tiedTo, Tied, played-tied}
+use Rattle.steps.proofs.Devices.{changes, addsDevice, placed, deviceBegun, played-devices, played-device-count, plan-knows, resume-device}
+use Rattle.steps.proofs.Sound.{Sane, fits-packet, played-count}
+use Rattle.outcome.specs.Outcome.{countsAfter, decoderOf, DevicesOf, TableOf, Appends, Left, isIll, worldAt}
+use Rattle.outcome.specs.OutcomeLaws.{sound}
+use Rattle.outcome.specs.State.{Logs, State, logs, state, roomBy, roomOf, Known}
+use Rattle.reckon.specs.Passes.{planPasses}
+use Rattle.reckon.specs.Tallies.{tallyPlan, addCounts}
+use Rattle.reckon.proofs.Counted.{played-adds}
+use Rattle.reckon.proofs.Counts.{counts-after, world-has}
+use Rattle.reckon.proofs.Formed.{three, old-stands, waiting-is}
+use Rattle.reckon.proofs.Planned.{plan-suits}
+use Rattle.write.specs.Holds.{Space}
+use Rattle.perform.specs.Asked.{RoomAll, PlanAsks}
+use Rattle.perform.specs.Desk.{Desk, desk, performed}
+use Rattle.perform.specs.Held.{HoldsAll, Matches, SpaceAll, Brought}
+use Rattle.perform.specs.PlanLaws.{all-start, room-all, played-holds, ready}
+use Rattle.perform.specs.declared.Hand.{Hand}
+use Rattle.packet.specs.After.{sumBy, sumOf, sumPlan, tallyOf, accepted, handOf, tied, decoderBy, changeOf, changed, Placed}
+use Rattle.packet.specs.declared.change.Change.{Change}
+use Rattle.packet.specs.declared.sum.Sum.{Sum}
+use Rattle.packet.proofs.Changes.{changed-at, changed-length, changed-beyond, change-told, change-in}
+use Rattle.packet.proofs.Places.{plan-place}
+
+-- the desk at the call's entry
+abbrev pub entryDesk : State → Desk
+entryDesk s =
+    desk (handOf (s .decoder)) (s .table) (s .logs .devices) (s .logs .endpoints) (s .logs .transactions) (s .logs .groups) (s .logs .marks) (s .logs .states) (s .logs .items) (s .logs .links) (s .logs .requests)
+
+-- what the code knows when it is to write: the tests that were passed, and what is known of the arguments
+pub record Begins (packet : List ℕ) (s : State) : Type 0 where
+  pub ill : isIll s ≡ false
+  pub live : isDropped (s .decoder .slot) (s .decoder .transaction) ≡ false
+  pub known : Known (s .table)
+  pub many : length (s .devices) ≡ 64
+  pub token : startPid (s .decoder .transaction .style) < 256
+  pub first : getD packet 0 0 < 256
+  pub sum : sumPlan (s .decoder) (planOf packet (worldAt s)) (length packet) (roomOf (s .logs)) .answer ≡ 0
+
+-- a sum with the answer 0: there is room, and no total passes
+sum-room : (over : Bool) (d : Decoder) (t : Tally) (room : Counts) → sumOf over d t room .answer ≡ 0 → (fitting (addCounts (d .counts) t) room ≡ true) × ((over ≡ false) × (sumOf over d t room ≡ accepted d t))
+sum-room over d t room h = by (fitting (addCounts (d .counts) t) room) over h
+  where
+    by : (b o : Bool) → sumBy b o d t .answer ≡ 0 → (b ≡ true) × ((o ≡ false) × (sumBy b o d t ≡ accepted d t))
+    by true true h = absurd (omega arith)
+    by true false h = (refl, (refl, refl))
+    by false o h = absurd (omega arith)
+
+-- of two that are not both true, the second is false where the first is true
+other-false : (a c : Bool) → (a && c) ≡ false → a ≡ true → c ≡ false
+other-false true c h q = h
+other-false false c h q = absurd (false≢true q)
+
+module _ (packet : List ℕ) (time : ℕ) (s : State) (b : Begins packet s) where
+  abbrev d : Decoder
+  d = s .decoder
+
+  abbrev w : World
+  w = worldAt s
+
+  abbrev p : Plan
+  p = planOf packet w
+
+  abbrev room : Counts
+  room = roomOf (s .logs)
+
+  abbrev t : Tally
+  t = tallyOf d p (length packet)
+
+  -- the world that the steps leave
+  abbrev pub after : World
+  after = played p packet time w
+
+  well : WellFormed d (s .devices) (s .table) room
+  well = sound s (b .ill) .0
+
+  brief : Short room
+  brief = sound s (b .ill) .1
+
+  -- ---- room
+
+  summed : (fitting (addCounts (d .counts) t) room ≡ true) × ((planPasses p ≡ false) × (sumOf (planPasses p) d t room ≡ accepted d t))
+  unfolding sumPlan
+  summed = sum-room (planPasses p) d t room (b .sum)
+
+  roomy : Within (addCounts (d .counts) t) room
+  roomy = within (addCounts (d .counts) t) room (summed .0)
+
+  adds : Adds t w after
+  adds =
+      subst (λ (m : ℕ). Adds (tallyPlan p (length packet) (w .count) m) w after) (waiting-is well)
+      (played-adds p packet time w (plan-suits packet time w (three well) (old-stands well)))
+
+  words : (k : ℕ) → length (log k (after .journal)) ≡ wordsFor k t
+  words k = adds .words k ∙ omega arith
+
+  space : SpaceAll (entryDesk s) (after .journal)
+  unfolding inLog addCounts roomBy
+  space =
+      record {
+        memory = record {
+          groups = omega (arith, words 6, roomy .groups);
+          marks = omega (arith, words 7, roomy .marks);
+          states = omega (arith, words 8, roomy .states);
+          items = omega (arith, words 9, roomy .items);
+          links = omega (arith, words 10, roomy .links);
+        };
+        devices = omega (arith, words 1, roomy .devices);
+        endpoints = omega (arith, words 2, roomy .endpoints);
+        transactions = omega (arith, words 5, roomy .transactions);
+        requests = omega (arith, words 11, roomy .requests);
+      }
+
+  -- ---- the packet's own rows
+
+  bytes-are : log 0 (after .journal) ≡ packet
+  bytes-are = played-log 0 refl refl refl refl refl refl refl refl refl p packet time w ∙ append-nil packet
+
+  packets-are : log 3 (after .journal) ≡ d .counts .bytes ∷ time ∷ []
+  packets-are = played-log 3 refl refl refl refl refl refl refl refl refl p packet time w
+
+  events-are : log 4 (after .journal) ≡ []
+  events-are = played-log 4 refl refl refl refl refl refl refl refl refl p packet time w
+
+  pub bytes-fit : d .counts .bytes + length packet ≤ length (s .logs .bytes)
+  unfolding inLog addCounts roomBy
+  bytes-fit = let e = ap length bytes-are in omega (arith, words 0, roomy .bytes, e)
+
+  pub packets-fit : (d .counts .packets + 1) * 2 ≤ length (s .logs .packets)
+  unfolding inLog addCounts roomBy
+  packets-fit = let e = ap length packets-are in omega (arith, words 3, roomy .packets, e)
+
+  -- ---- what carrying it out asks
+
+  sane : Sane packet w
+  unfolding addCounts
+  sane =
+      record {
+        special = let h = three well in omega (arith, h);
+        room = let c = played-count packet time w in let e = adds .endpoints in let f = roomy .fewEndpoints in omega (arith, c, e, f);
+        devices = well .counts .fewDevices;
+        transactions = λ j h. let e = well .endpoints j h .entry .transactions in let l = well .counts .links in let r = brief .links in omega (arith, e, l, r);
+        groups = λ j h. let e = well .endpoints j h .entry .groups in let l = well .counts .links in let r = brief .links in omega (arith, e, l, r);
+        fits = λ j h. fits-entry (s .table) j;
+        old = old-stands well;
+        token = b .token;
+        first = b .first;
+      }
+
+  fits : PlanFits p packet time w
+  unfolding planPasses
+  fits = fits-packet packet time w sane (λ q. other-false (p .closes) _ (summed .1 .0) q)
+
+  -- the old transaction, once it is resumed
+  then-is : world2 p packet time w .transaction ≡ transactionThen (w .slot) (w .transactions) (w .endpoints (oldEndpoint (w .slot) (w .transaction))) (w .transaction)
+  unfolding planOf planBy begun opened
+  then-is = by (w .slot)
+    where
+      by : (l : Slot) → when (resumes l) (begun (w .packets) (going true (withId (w .transactions) (w .transaction)) decideResume)) (world1 packet time w) .transaction
+          ≡ transactionThen l (w .transactions) (w .endpoints (oldEndpoint l (w .transaction))) (w .transaction)
+      by Empty = refl
+      by Current = refl
+      by Suspended = refl
+
+  brought : p .ends ≡ true → Brought (p .brought) (world2 p packet time w .transaction)
+  unfolding planOf planBy
+  brought q =
+      let x0 = oldEndpoint (w .slot) (w .transaction) in
+      let u = transactionThen (w .slot) (w .transactions) (w .endpoints x0) (w .transaction) in
+      let k = extract-keeps u (transactionStatus (stateAt (slotThen (w .slot)) u) packet .pid) (length packet) (setupDataOf packet) in
+      record {
+        id = k .id ∙ ap (λ (a : Transaction). a .id) (sym then-is);
+        style = k .style ∙ ap (λ (a : Transaction). a .style) (sym then-is);
+        linked = k .linked ∙ ap (λ (a : Transaction). a .linked) (sym then-is);
+        link = k .link ∙ ap (λ (a : Transaction). a .link) (sym then-is);
+      }
+
+  matches : Matches w (entryDesk s)
+  matches =
+      record {
+        sized = b .known .size;
+        entries = λ j h. refl;
+        stored = λ j h. well .endpoints j h .words;
+        linked = refl;
+        link = refl;
+        lastItem = refl;
+        groups = refl;
+        marks = refl;
+        items = refl;
+        transactions = refl;
+        devices = refl;
+        endpoints = refl;
+      }
+
+  held : HoldsAll (entryDesk s) after (performed p (w .packets) (entryDesk s))
+  held = played-holds p packet time w fits brought (all-start packet time w (entryDesk s) refl matches)
+
+  pub asks : PlanAsks p (w .packets) (entryDesk s)
+  asks = ready p packet time w fits brought (all-start packet time w (entryDesk s) refl matches) (room-all held space)
+
+  -- ---- what it leaves
+
+  abbrev sum : Sum
+  sum = sumPlan d p (length packet) room
+
+  sum-is : sum ≡ accepted d t
+  unfolding sumPlan
+  sum-is = summed .1 .1
+
+  module _ (k : Desk) (e : k ≡ performed p (w .packets) (entryDesk s)) where
+    now-held : HoldsAll (entryDesk s) after k
+    now-held = subst (HoldsAll (entryDesk s) after) (sym e) held
+
+    transaction-is : tied (p .begin .transaction) (k .hand .tally) ≡ after .transaction
+    transaction-is =
+        let a = played-tied p packet time w in
+        let m = now-held .memory in
+        (λ i. tiedTo (p .begin .transaction) (m .linked i) (m .link i)) ∙ sym a
+
+    decoder-is : decoderBy d p sum (k .hand) ≡ decoderOf (d .counts) (d .finished) after
+    unfolding decoderOf
+    decoder-is =
+        let n : sum .counts ≡ countsAfter (d .counts) after = ap (λ (z : Sum). z .counts) sum-is ∙ sym (counts-after (world-has d (s .devices) (s .table)) adds) in
+        let m : sum .waiting ≡ waitingOf after = ap (λ (z : Sum). z .waiting) sum-is ∙ sym (adds .waiting) in
+        let g = played-slot p packet time w in
+        let v = played-event p packet time w in
+        let a = played-keepalive p packet time w in
+        let l = now-held .memory .lastItem in
+        λ i. record { counts = n i; slot = sym g i; transaction = transaction-is i; last = l i; event = sym v i; keepalive = sym a i; waiting = m i; finished = d .finished }
+
+    table-is : TableOf after (s .table) (k .table)
+    table-is =
+        let a = now-held .table in
+        record {
+          size = a .size ∙ sym (b .known .size);
+          entries = now-held .memory .endpoints;
+          words = a .stored;
+          beyond = a .beyond;
+        }
+
+  -- ---- the devices
+
+  owned : (i : ℕ) → i < w .count → w .endpoints i .device < w .deviceCount
+  owned i h = well .endpoints i h .entry .device
+
+  -- how many there are then: no more than fit
+  many-are : after .deviceCount ≤ 64
+  unfolding addCounts
+  many-are = let e = adds .devices in let f = roomy .fewDevices in omega (arith, e, f)
+
+  placed-in : (changeOf p (s .devices) (d .counts .devices) .place < after .deviceCount) × (changeOf p (s .devices) (d .counts .devices) .at < after .deviceCount)
+  placed-in = change-in p (s .devices) (d .counts .devices) (after .deviceCount) some begun added
+    where
+      count : after .deviceCount ≡ w .deviceCount + one (p .begin .device) + one (p .closes && addsDevice (p .close .effect))
+      count = played-device-count packet time w
+
+      some : 0 < after .deviceCount
+      some = let f = well .specials .some in let c = count in omega (arith, f, c)
+
+      begun-by : (v : Bool) → p .begin .device ≡ v → changes (p .begin) ≡ true → p .begin .place < after .deviceCount
+      begun-by true e h = let q = plan-knows w packet .place e in let c = count ∙ ap (λ (z : Bool). w .deviceCount + one z + one (p .closes && addsDevice (p .close .effect))) e in omega (arith, q, c)
+      begun-by false e h = let q = plan-place w (let f = three well in omega (arith, f)) owned packet h e in let c = count in omega (arith, q, c)
+
+      begun : changes (p .begin) ≡ true → p .begin .place < after .deviceCount
+      begun h = begun-by (p .begin .device) refl h
+
+      added : (p .closes && addsDevice (p .close .effect)) ≡ true → d .counts .devices + one (p .begin .device) < after .deviceCount
+      added h = let c = count ∙ ap (λ (z : Bool). w .deviceCount + one (p .begin .device) + one z) h in omega (arith, c)
+
+  pub change-placed : Placed (changeOf p (s .devices) (d .counts .devices))
+  change-placed = record { place = let a = placed-in .0 in let m = many-are in omega (arith, a, m); at = let a = placed-in .1 in let m = many-are in omega (arith, a, m) }
+
+  devices-are : DevicesOf after (s .devices) (changed (changeOf p (s .devices) (d .counts .devices)) (s .devices))
+  devices-are =
+      let c = changeOf p (s .devices) (d .counts .devices) in
+      let v = s .devices in
+      let inside : (m : ℕ) → m < 64 → m < length v = λ m h. let q = b .many in omega (arith, q, h) in
+      record {
+        size = changed-length c v;
+        there = λ i h. changed-at c v i (inside (c .place) (change-placed .place)) (inside (c .at) (change-placed .at)) ∙ (change-told p v (d .counts .devices) i ∙ sym (played-devices packet time w i));
+        beyond = λ i h. changed-beyond c v i (let a = placed-in .0 in λ e. omega (arith, a, h, e)) (let a = placed-in .1 in λ e. omega (arith, a, h, e));
+      }
+
+  -- ---- all of it
+
+  module _ (k : Desk) (e : k ≡ performed p (w .packets) (entryDesk s)) (y z : List ℕ) (f : y ≡ sets (s .logs .bytes) (d .counts .bytes) packet) (g : z ≡ sets (s .logs .packets) (d .counts .packets * 2) (d .counts .bytes ∷ time ∷ [])) where
+    logs-are : Appends after (d .counts) (s .logs) (logs y (k .devices) (k .endpoints) z (s .logs .events) (k .transactions) (k .groups) (k .marks) (k .states) (k .items) (k .links) (k .requests))
+    logs-are =
+        let h = now-held k e in
+        let m = h .memory in
+        record {
+          bytes = f ∙ ap (sets (s .logs .bytes) (d .counts .bytes)) (sym bytes-are);
+          devices = h .devices .written;
+          endpoints = h .endpoints .written;
+          packets = g ∙ ap (sets (s .logs .packets) (d .counts .packets * 2)) (sym packets-are);
+          events = ap (sets (s .logs .events) (d .counts .events * 2)) (sym events-are);
+          transactions = h .transactions .written;
+          groups = m .groups .written;
+          marks = m .marks .written;
+          states = m .states .written;
+          items = m .items .written;
+          links = m .links .written;
+          requests = h .requests .written;
+        }
+
+    pub left : Left (handleRawPacket packet time w) (d .finished) s
+        (state (decoderBy d p sum (k .hand)) (changed (changeOf p (s .devices) (d .counts .devices)) (s .devices)) (k .table) (logs y (k .devices) (k .endpoints) z (s .logs .events) (k .transactions) (k .groups) (k .marks) (k .states) (k .items) (k .links) (k .requests)))
+    left =
+        subst (λ (v : World). Left v (d .finished) s (state (decoderBy d p sum (k .hand)) (changed (changeOf p (s .devices) (d .counts .devices)) (s .devices)) (k .table) (logs y (k .devices) (k .endpoints) z (s .logs .events) (k .transactions) (k .groups) (k .marks) (k .states) (k .items) (k .links) (k .requests))))
+        (sym (packet-is packet time w (b .live)))
+        (record { decoder = decoder-is k e; devices = devices-are; table = table-is k e; logs = logs-are })

@@ -1,0 +1,5 @@
+pub mod Places
+pub mod Changes
+pub mod Left
+pub mod Answers
+pub mod First

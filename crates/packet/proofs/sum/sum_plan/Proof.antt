@@ -1,0 +1,86 @@
+-- `sum_plan` meets its contract: with too many endpoints there is no room, and else the tally is small enough to be added.
+use native.Mathlib.Omega.{arith}
+use Prim.Native.Nat.{ℕ, _+_, _<_, _≤_, _^_}
+use mathlib.Core.Path.{_≡_, ap}
+use mathlib.Core.Bool.{Bool, true, false, _&&_}
+use borrow.Author.Tests.{eqb-true, eqb-false, not-true}
+use lib.Dec.{eqb}
+use Rattle.rows.specs.Sets.{one}
+use Rattle.judge.specs.Bools.{both}
+use Rattle.judge.specs.Room.{fitting}
+use Rattle.reckon.specs.Tallies.{endpointsThen, addCounts}
+use Rattle.reckon.proofs.Bounds.{looser, plan-small}
+use Rattle.reckon.proofs.Endpoints.{too-many}
+use Rattle.packet.specs.After.{sumPlan, tallyOf}
+use Rattle.packet.proofs.sum.sum_plan.Statement.{statement}
+use Rattle.packet.proofs.sum.sum_plan.Tie as tie
+
+-- the test of the first return
+many : (b : Bool) (n : ℕ) → (b && eqb n 128) ≡ true → 128 < n + one b
+many b n h = let g = both b (eqb n 128) h in let e = ap one (g .0) in let f = eqb-true n 128 (g .1) in omega (arith, e, f)
+
+few : (b : Bool) (n : ℕ) → n ≤ 128 → (b && eqb n 128) ≡ false → n + one b ≤ 128
+few true n l h = let f = eqb-false n 128 h in omega arith
+few false n l h = omega arith
+
+-- ---- the code's places
+
+spare : (c : tie.Else1) → endpointsThen (c .before .before .before .before .args .plan .begin) (c .before .before .before .before .args .d .counts .endpoints) ≤ 128
+spare c = let s = c .before .before .before .before in few (s .args .plan .begin .endpoint) (s .args .d .counts .endpoints) (s .pre .1 .1 .1 .0) (c .if1 .left)
+
+counts : (c : tie.After-add-counts) → let s = c .before .before .before .before .before .before in c .add-counts .result ≡ addCounts (s .args .d .counts) (tallyOf (s .args .d) (s .args .plan) (s .args .len))
+counts c = rw (c .before .tally-plan .ensures) at (c .add-counts .ensures)
+
+-- whether there is room
+room : (c : tie.After-fits2) → let s = c .before .before .before .before .before .before .before in c .fits2 .result ≡ fitting (addCounts (s .args .d .counts) (tallyOf (s .args .d) (s .args .plan) (s .args .len))) (s .args .room)
+room c = rw (counts (c .before)) at (c .fits2 .ensures)
+
+refuse-requires : tie.Need-refuse-requires
+refuse-requires c κs = tt
+
+returns : tie.Need-returns
+unfolding sumPlan
+returns c =
+    let s = c .before .before .before .before .before in
+    let l = many (s .args .plan .begin .endpoint) (s .args .d .counts .endpoints) (c .before .if1 .taken) in
+    let f = not-true (fitting (addCounts (s .args .d .counts) (tallyOf (s .args .d) (s .args .plan) (s .args .len))) (s .args .room)) (too-many (s .args .plan) (s .args .len) (s .args .d .waiting) (s .args .d .counts) (s .args .room) (s .pre .1 .1 .1 .1) l) in
+    rw f (c .refuse .ensures)
+
+tally-plan-requires : tie.Need-tally-plan-requires
+tally-plan-requires c κs = let s = c .before .before .before .before in (s .pre .0, (s .pre .1 .0, (s .pre .1 .1 .1 .1, spare c)))
+
+add-counts-requires : tie.Need-add-counts-requires
+add-counts-requires c κs =
+    let s = c .before .before .before .before .before in
+    let f = s .pre .1 .1 .1 .0 in
+    let e = ap one (s .pre .1 .1 .1 .1) in
+    let a = plan-small (s .args .plan) (s .args .len) (s .args .d .counts .endpoints) (s .args .d .waiting) (s .pre .0) (s .pre .1 .0) (omega (arith, f, e)) f (spare (c .before)) in
+    (s .pre .1 .1 .0, rw (c .tally-plan .ensures) (looser a (2 ^ 40) (omega arith)))
+
+fits-requires : tie.Need-fits-requires
+fits-requires c κs = tt
+
+plan-passes-requires : tie.Need-plan-passes-requires
+plan-passes-requires c κs = tt
+
+refuse-requires-2 : tie.Need-refuse-requires-2
+refuse-requires-2 c κs = tt
+
+returns-2 : tie.Need-returns-2
+unfolding sumPlan
+returns-2 c = rw (← room (c .before .before .before .before), c .before .before .before .if2 .taken, ← c .before .before .plan-passes .ensures, c .before .if3 .taken) (c .refuse2 .ensures)
+
+returns-3 : tie.Need-returns-3
+unfolding sumPlan
+returns-3 c =
+    rw (← room (c .before .before .before), c .before .before .if2 .taken, ← c .before .plan-passes .ensures, c .if3 .left, counts (c .before .before .before .before), c .before .before .before .before .before .tally-plan .ensures)
+
+refuse-requires-3 : tie.Need-refuse-requires-3
+refuse-requires-3 c κs = tt
+
+returns-4 : tie.Need-returns-4
+unfolding sumPlan
+returns-4 c = rw (← room (c .before .before), c .before .if2 .left) (c .refuse3 .ensures)
+
+pub sum-plan-spec : {M : Type 1} → statement M
+sum-plan-spec = tie.close (tie.spec refuse-requires returns tally-plan-requires add-counts-requires fits-requires plan-passes-requires refuse-requires-2 returns-2 returns-3 refuse-requires-3 returns-4)

@@ -1,0 +1,126 @@
+-- What a packet leaves, as the code puts it together: the sum, the record, and the change of the devices. PacketLaws ties it to the rules.
+use Prim.Native.Nat.{ℕ, _+_, _<_}
+use mathlib.Core.Bool.{Bool, true, false, _&&_, _||_, not}
+use mathlib.Core.List.{List, []}
+use lib.ListN.{getD, set}
+use Rattle.rows.specs.Sets.{one}
+use Rattle.transaction.specs.Table.{pick}
+use Rattle.transaction.specs.declared.Transaction.{Transaction}
+use Rattle.tables.specs.Details.{fresh}
+use Rattle.tables.specs.Search.{blank}
+use Rattle.tables.specs.declared.Device.{Device}
+use Rattle.group.specs.declared.Effect.{Effect}
+use Rattle.group.specs.declared.Effect.the-variants.{NoEffect, NewDevice, Request, PendingData, IndexData}
+use Rattle.rules.specs.declared.EventState.the-variants.{Idle}
+use Rattle.rules.specs.declared.Slot.the-variants.{Empty}
+use Rattle.rules.specs.World.{_▷_}
+use Rattle.update.specs.Tally.{none, addPacket}
+use Rattle.update.specs.declared.tally.Tally.{Tally}
+use Rattle.judge.specs.Room.{fitting}
+use Rattle.judge.specs.declared.Counts.{Counts}
+use Rattle.judge.specs.declared.Decoder.{Decoder}
+use Rattle.write.specs.declared.Tally.{Tally as Written}
+use Rattle.perform.specs.declared.Hand.{Hand}
+use Rattle.reckon.specs.Tallies.{tallyPlan, addCounts}
+use Rattle.reckon.specs.Passes.{planPasses}
+use Rattle.steps.specs.declared.Plan.{Plan}
+use Rattle.packet.specs.declared.change.Change.{Change}
+use Rattle.packet.specs.declared.sum.Sum.{Sum}
+
+-- ---- the sum
+
+abbrev pub refusal : Decoder → ℕ → Sum
+refusal d a = record { answer = a; counts = d .counts; waiting = d .waiting }
+
+abbrev pub accepted : Decoder → Tally → Sum
+accepted d t = record { answer = 0; counts = addCounts (d .counts) t; waiting = t .waiting }
+
+-- by whether there is room, and whether a byte total passes 2^64 - 1
+abbrev pub sumBy : Bool → Bool → Decoder → Tally → Sum
+sumBy true false d t = accepted d t
+sumBy true true d t = refusal d 9
+sumBy false over d t = refusal d 7
+
+abbrev pub sumOf : Bool → Decoder → Tally → Counts → Sum
+sumOf over d t room = sumBy (fitting (addCounts (d .counts) t) room) over d t
+
+-- a packet of so many bytes that drops the suspended transaction; any other
+abbrev pub tallyOfDropped : ℕ → ℕ → Tally
+tallyOfDropped waiting len = none waiting ▷ addPacket len
+
+abbrev pub tallyDropped : Decoder → ℕ → Tally
+tallyDropped d len = tallyOfDropped (d .waiting) len
+
+unfoldable pub sumDropped : Decoder → ℕ → Counts → Sum
+sumDropped d len room = sumOf false d (tallyDropped d len) room
+
+abbrev pub tallyOf : Decoder → Plan → ℕ → Tally
+tallyOf d p len = tallyPlan p len (d .counts .endpoints) (d .waiting)
+
+unfoldable pub sumPlan : Decoder → Plan → ℕ → Counts → Sum
+sumPlan d p len room = sumOf (planPasses p) d (tallyOf d p len) room
+
+-- ---- the record
+
+abbrev pub handOf : Decoder → Hand
+handOf d =
+    record {
+      tally = record {
+        groups = d .counts .groups;
+        states = d .counts .states;
+        marks = d .counts .marks;
+        items = d .counts .items;
+        links = d .counts .links;
+        last = d .last;
+        linked = d .transaction .linked;
+        link = d .transaction .link;
+      };
+      transactions = d .counts .transactions;
+      devices = d .counts .devices;
+      endpoints = d .counts .endpoints;
+      requests = d .counts .requests;
+    }
+
+-- the transaction with the T row that it has by now
+abbrev pub tied : Transaction → Written → Transaction
+tied t h = record { style = t .style; id = t .id; last = t .last; endpoint = t .endpoint; kind = t .kind; linked = h .linked; link = h .link; ready = t .ready; setup = t .setup; filled = t .filled; payload = t .payload }
+
+abbrev pub droppedDecoder : Decoder → Sum → Decoder
+droppedDecoder d s =
+    record { counts = s .counts; slot = Empty; transaction = d .transaction; last = d .last; event = Idle; keepalive = d .keepalive; waiting = s .waiting; finished = d .finished }
+
+abbrev pub decoderBy : Decoder → Plan → Sum → Hand → Decoder
+decoderBy d p s h =
+    record { counts = s .counts; slot = p .slot; transaction = tied (p .begin .transaction) (h .tally); last = h .tally .last; event = Idle; keepalive = d .keepalive; waiting = s .waiting; finished = d .finished }
+
+-- ---- the devices
+
+-- nothing changes: a row becomes what it was
+abbrev pub noChange : List Device → Change
+noChange v = record { place = 0; row = getD v 0 blank; at = 0; added = getD v 0 blank }
+
+abbrev pub begunChange : Plan → List Device → Change
+begunChange p v =
+    pick (p .begin .device || p .begin .types) (record { place = p .begin .place; row = p .known; at = p .begin .place; added = p .known }) (noChange v)
+
+abbrev pub adding : ℕ → ℕ → Change → Change
+adding address at c = record { place = c .place; row = c .row; at = at; added = fresh address }
+
+abbrev pub withAdded : Effect → ℕ → Change → Change
+withAdded NoEffect at c = c
+withAdded (NewDevice address) at c = adding address at c
+withAdded (Request n) at c = c
+withAdded (PendingData n) at c = c
+withAdded (IndexData n waited i) at c = c
+
+-- behind n devices, and perhaps a new one
+abbrev pub changeOf : Plan → List Device → ℕ → Change
+changeOf p v n = pick (p .closes) (withAdded (p .close .effect) (n + one (p .begin .device)) (begunChange p v)) (begunChange p v)
+
+-- what the caller does with it
+unfoldable pub changed : Change → List Device → List Device
+changed c v = set (set v (c .place) (c .row)) (c .at) (c .added)
+
+pub record Placed (c : Change) : Type 0 where
+  pub place : c .place < 64
+  pub at : c .at < 64

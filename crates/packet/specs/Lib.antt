@@ -1,0 +1,4 @@
+pub mod Call
+pub mod CallLaws
+pub mod After
+pub mod Dropped

@@ -1,0 +1,257 @@
+// The packet call on a record and logs that are known to be right: it requires what the public call tests.
+use crate::change::Change;
+use crate::change::change_of;
+use crate::change::no_change;
+use crate::sum::Sum;
+use crate::sum::sum_dropped;
+use crate::sum::sum_plan;
+use judge::Counts;
+use judge::Decoder;
+use outcome::bytes_known;
+use outcome::known;
+use outcome::room_of;
+use perform::Hand;
+use perform::perform;
+use plan::plan_packet;
+use rules::EventState;
+use rules::Slot;
+use steps::Plan;
+use tables::Device;
+use transaction::Transaction;
+use transaction::payload::start_pid;
+use write::Tally;
+ghost use mathlib.Core.Bool.{false};
+ghost use mathlib.Core.List.{[], _∷_};
+ghost use mathlib.Core.Path.{_≡_};
+ghost use Prim.Native.Nat.{_+_, _*_, _≤_, _^_};
+ghost use lib.ListN.{length};
+ghost use lib.Seq.{sets};
+ghost use Rattle.rules.specs.Transactions.{isDropped};
+ghost use Rattle.outcome.specs.Outcome.{isIll};
+ghost use Rattle.outcome.specs.State.{state, logs};
+ghost use Rattle.packet.specs.Call.{PacketCall};
+ghost use Rattle.reckon.specs.Tallies.{Under};
+ghost use Rattle.packet.specs.After.{handOf, tied, droppedDecoder, decoderBy, changed, Placed};
+ghost use Rattle.packet.specs.Dropped.{Drops};
+
+// What the call leaves; the devices are the caller's, who makes the change.
+pub struct Inner {
+    pub answer: u8,
+    pub decoder: Decoder,
+    pub change: Change,
+}
+
+// 01, answer 8: the suspended transaction has no endpoint.
+fn is_dropped(slot: Slot, t: Transaction) -> bool
+    ensures { λ r. ⌜ r ≡ isDropped slot t ⌝ }
+{
+    match slot {
+        Slot::Empty => false,
+        Slot::Current => false,
+        Slot::Suspended => t.endpoint == 0,
+    }
+}
+
+// Where the call begins to write.
+fn hand_of(d: Decoder) -> Hand
+    ensures { λ r. ⌜ r ≡ handOf d ⌝ }
+{
+    let n = d.counts;
+    let t = d.transaction;
+    Hand {
+        tally: Tally {
+            groups: n.groups,
+            states: n.states,
+            marks: n.marks,
+            items: n.items,
+            links: n.links,
+            last: d.last,
+            linked: t.linked,
+            link: t.link,
+        },
+        transactions: n.transactions,
+        devices: n.devices,
+        endpoints: n.endpoints,
+        requests: n.requests,
+    }
+}
+
+// The transaction with the T row that it has by now.
+fn tie(t: Transaction, d: Tally) -> Transaction
+    ensures { λ r. ⌜ r ≡ tied t d ⌝ }
+{
+    let mut t = t;
+    t.linked = d.linked;
+    t.link = d.link;
+    t
+}
+
+// The record after a packet that dropped the suspended transaction.
+fn dropped_decoder(d: Decoder, sum: Sum) -> Decoder
+    ensures { λ r. ⌜ r ≡ droppedDecoder d sum ⌝ }
+{
+    let counts = sum.counts;
+    let transaction = d.transaction;
+    Decoder {
+        counts,
+        slot: Slot::Empty,
+        transaction,
+        last: d.last,
+        event: EventState::Idle,
+        keepalive: d.keepalive,
+        waiting: sum.waiting,
+        finished: d.finished,
+    }
+}
+
+// The record after any other that is accepted.
+fn decoder_by(d: Decoder, plan: Plan, sum: Sum, h: Hand) -> Decoder
+    ensures { λ r. ⌜ r ≡ decoderBy d plan sum h ⌝ }
+{
+    let begin = plan.begin;
+    let slot = plan.slot;
+    let counts = sum.counts;
+    let tally = h.tally;
+    let transaction = tie(begin.transaction, tally);
+    Decoder {
+        counts,
+        slot,
+        transaction,
+        last: tally.last,
+        event: EventState::Idle,
+        keepalive: d.keepalive,
+        waiting: sum.waiting,
+        finished: d.finished,
+    }
+}
+
+// The packet's bytes, and its row.
+fn put_packet(n: Counts, packet: &[u8], time: u64, bytes: &mut [u8], packets: &mut [u64])
+    requires { ⌜ n .bytes + length (now packet) ≤ length (now bytes) ⌝ }
+    requires { ⌜ (n .packets + 1) * 2 ≤ length (now packets) ⌝ }
+    ensures { λ r. ⌜ now (bytes .exit) ≡ sets (now (bytes .entry)) (n .bytes) (now (packet .entry)) ⌝ }
+    ensures { λ r. ⌜ now (packets .exit) ≡ sets (now (packets .entry)) (n .packets * 2) (n .bytes ∷ time ∷ []) ⌝ }
+{
+    let b = n.bytes;
+    let p = n.packets;
+    rows::put_bytes(bytes, b, packet);
+    rows::put2(packets, p * 2, b as u64, time);
+}
+
+// The packet drops the suspended transaction: its own rows are all that is written.
+fn drop_packet(
+    d: Decoder,
+    none: Change,
+    packet: &[u8],
+    time: u64,
+    room: Counts,
+    bytes: &mut [u8],
+    packets: &mut [u64],
+) -> Inner
+    requires { ⌜ length (now packet) ≤ 4096 ⌝ }
+    requires { ⌜ d .waiting ≤ 128 ⌝ }
+    requires { ⌜ Under (2 ^ 40) (d .counts) ⌝ }
+    requires { ⌜ room .bytes ≤ length (now bytes) ⌝ }
+    requires { ⌜ room .packets * 2 ≤ length (now packets) ⌝ }
+    ensures { λ r. ⌜ Drops d none (now (packet .entry)) time room (now (bytes .entry)) (now (packets .entry)) r (now (bytes .exit)) (now (packets .exit)) ⌝ }
+{
+    let sum = sum_dropped(d, packet.len(), room);
+    if sum.answer != 0 {
+        return Inner {
+            answer: sum.answer,
+            decoder: d,
+            change: none,
+        };
+    }
+    put_packet(d.counts, packet, time, bytes, packets);
+    Inner {
+        answer: 8,
+        decoder: dropped_decoder(d, sum),
+        change: none,
+    }
+}
+
+// The packet of these bytes at this time.
+pub fn packet_in(
+    d: Decoder,
+    devices: [Device; 64],
+    packet: &[u8],
+    time: u64,
+    table: &mut [u64; 2176],
+    bytes: &mut [u8],
+    device_rows: &mut [u64],
+    endpoint_rows: &mut [u64],
+    packets: &mut [u64],
+    events: &[u64],
+    transactions: &mut [u64],
+    groups: &mut [u64],
+    marks: &mut [u8],
+    states: &mut [u64],
+    items: &mut [u64],
+    links: &mut [u64],
+    requests: &mut [u64],
+) -> Inner
+    requires { ⌜ isIll (state d devices (now table) (logs (now bytes) (now «device_rows») (now «endpoint_rows») (now packets) (now events) (now transactions) (now groups) (now marks) (now states) (now items) (now links) (now requests))) ≡ false ⌝ }
+    requires { ⌜ d .finished ≡ false ⌝ }
+    requires { ⌜ length (now packet) ≤ 4096 ⌝ }
+    ensures { λ r. ⌜ Placed (r .change) ⌝ }
+    ensures { λ r. ⌜ PacketCall (now (packet .entry)) time (state d devices (now (table .entry)) (logs (now (bytes .entry)) (now («device_rows» .entry)) (now («endpoint_rows» .entry)) (now (packets .entry)) (now (events .entry)) (now (transactions .entry)) (now (groups .entry)) (now (marks .entry)) (now (states .entry)) (now (items .entry)) (now (links .entry)) (now (requests .entry)))) (r .answer) (state (r .decoder) (changed (r .change) devices) (now (table .exit)) (logs (now (bytes .exit)) (now («device_rows» .exit)) (now («endpoint_rows» .exit)) (now (packets .exit)) (now (events .entry)) (now (transactions .exit)) (now (groups .exit)) (now (marks .exit)) (now (states .exit)) (now (items .exit)) (now (links .exit)) (now (requests .exit)))) ⌝ }
+{
+    let room = room_of(
+        bytes.len(),
+        device_rows.len(),
+        endpoint_rows.len(),
+        packets.len(),
+        events.len(),
+        transactions.len(),
+        groups.len(),
+        marks.len(),
+        states.len(),
+        items.len(),
+        links.len(),
+        requests.len(),
+    );
+    let n = d.counts;
+    let slot = d.slot;
+    let held = d.transaction;
+    // What the proof learns here: the table's words are words, the packet's bytes bytes, and so is the old transaction's token.
+    known(table);
+    bytes_known(packet);
+    let style = held.style;
+    let _token = start_pid(style);
+    let none = no_change(devices);
+    if is_dropped(slot, held) {
+        return drop_packet(d, none, packet, time, room, bytes, packets);
+    }
+    let plan = plan_packet(d, devices, table, packet);
+    let sum = sum_plan(d, plan, packet.len(), room);
+    if sum.answer != 0 {
+        return Inner {
+            answer: sum.answer,
+            decoder: d,
+            change: none,
+        };
+    }
+    let change = change_of(plan, devices, n.devices);
+    put_packet(n, packet, time, bytes, packets);
+    let hand = perform(
+        plan,
+        n.packets as u64,
+        hand_of(d),
+        table,
+        device_rows,
+        endpoint_rows,
+        transactions,
+        groups,
+        marks,
+        states,
+        items,
+        links,
+        requests,
+    );
+    Inner {
+        answer: 0,
+        decoder: decoder_by(d, plan, sum, hand),
+        change,
+    }
+}

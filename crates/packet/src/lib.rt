@@ -1,0 +1,119 @@
+// The packet call (handle_raw_packet of decoder.rs). Everything is decided first: a refused call returns before the first write.
+pub mod change;
+pub mod inner;
+mod sum;
+
+use crate::inner::packet_in;
+use judge::Counts;
+use judge::Decoder;
+use outcome::Called;
+use outcome::is_ill;
+use outcome::room_of;
+use tables::Device;
+ghost use mathlib.Core.Path.{_≡_};
+ghost use Rattle.outcome.specs.State.{state, logs};
+ghost use Rattle.packet.specs.Call.{PacketCall, firstTests};
+
+// The longest packet (01, Sizes).
+const MOST: usize = 4096;
+
+// Answers 1, 2 and 3, and 0 where none of them is given.
+fn first_tests(
+    d: Decoder,
+    devices: [Device; 64],
+    table: &[u64; 2176],
+    room: Counts,
+    len: usize,
+) -> u8
+    ensures { λ r. ⌜ r ≡ firstTests d devices (now (table .entry)) room len ⌝ }
+{
+    if is_ill(d, devices, table, room) {
+        return 1;
+    }
+    if d.finished {
+        return 2;
+    }
+    if MOST < len {
+        return 3;
+    }
+    0
+}
+
+// The packet of these bytes at this time. The devices are the caller's, in and out; the logs are in the order of 01's listing.
+pub fn packet(
+    d: Decoder,
+    devices: [Device; 64],
+    packet: &[u8],
+    time: u64,
+    table: &mut [u64; 2176],
+    bytes: &mut [u8],
+    device_rows: &mut [u64],
+    endpoint_rows: &mut [u64],
+    packets: &mut [u64],
+    events: &[u64],
+    transactions: &mut [u64],
+    groups: &mut [u64],
+    marks: &mut [u8],
+    states: &mut [u64],
+    items: &mut [u64],
+    links: &mut [u64],
+    requests: &mut [u64],
+) -> Called
+    ensures { λ r. ⌜ PacketCall (now (packet .entry)) time (state d devices (now (table .entry)) (logs (now (bytes .entry)) (now («device_rows» .entry)) (now («endpoint_rows» .entry)) (now (packets .entry)) (now (events .entry)) (now (transactions .entry)) (now (groups .entry)) (now (marks .entry)) (now (states .entry)) (now (items .entry)) (now (links .entry)) (now (requests .entry)))) (r .answer) (state (r .decoder) (r .devices) (now (table .exit)) (logs (now (bytes .exit)) (now («device_rows» .exit)) (now («endpoint_rows» .exit)) (now (packets .exit)) (now (events .entry)) (now (transactions .exit)) (now (groups .exit)) (now (marks .exit)) (now (states .exit)) (now (items .exit)) (now (links .exit)) (now (requests .exit)))) ⌝ }
+{
+    let room = room_of(
+        bytes.len(),
+        device_rows.len(),
+        endpoint_rows.len(),
+        packets.len(),
+        events.len(),
+        transactions.len(),
+        groups.len(),
+        marks.len(),
+        states.len(),
+        items.len(),
+        links.len(),
+        requests.len(),
+    );
+    let answer = first_tests(d, devices, table, room, packet.len());
+    if answer != 0 {
+        return Called {
+            answer,
+            decoder: d,
+            devices,
+        };
+    }
+    let r = packet_in(
+        d,
+        devices,
+        packet,
+        time,
+        table,
+        bytes,
+        device_rows,
+        endpoint_rows,
+        packets,
+        events,
+        transactions,
+        groups,
+        marks,
+        states,
+        items,
+        links,
+        requests,
+    );
+    let decoder = r.decoder;
+    let c = r.change;
+    let place = c.place;
+    let at = c.at;
+    let mut devices = devices;
+    let row = c.row;
+    let added = c.added;
+    devices[place] = row;
+    devices[at] = added;
+    Called {
+        answer: r.answer,
+        decoder,
+        devices,
+    }
+}

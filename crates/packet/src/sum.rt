@@ -1,0 +1,93 @@
+// What a packet comes to, reckoned before anything is written: the answer, and the counts after it.
+use judge::Counts;
+use judge::Decoder;
+use judge::room::fits;
+use reckon::add_counts;
+use reckon::plan_passes;
+use reckon::tally_plan;
+use steps::Plan;
+use update::tally::tally_none;
+use update::tally::tally_packet;
+ghost use mathlib.Core.Bool.{false};
+ghost use mathlib.Core.Path.{_≡_};
+ghost use Prim.Native.Nat.{_≤_, _^_};
+ghost use Rattle.reckon.specs.Tallies.{Under};
+ghost use Rattle.packet.specs.After.{refusal, sumDropped, sumPlan};
+
+// The answers of 01's table.
+const NO_ROOM: u8 = 7;
+
+const TOTAL: u8 = 9;
+
+// How many endpoints there may be, whatever the room.
+const MOST_ENDPOINTS: usize = 128;
+
+pub struct Sum {
+    // 0, or why the packet is refused.
+    pub answer: u8,
+    // After it.
+    pub counts: Counts,
+    pub waiting: usize,
+}
+
+fn refuse(d: Decoder, answer: u8) -> Sum
+    ensures { λ r. ⌜ r ≡ refusal d answer ⌝ }
+{
+    let counts = d.counts;
+    Sum {
+        answer,
+        counts,
+        waiting: d.waiting,
+    }
+}
+
+// The packet that drops the suspended transaction: its own rows.
+pub fn sum_dropped(d: Decoder, len: usize, room: Counts) -> Sum
+    requires { ⌜ len ≤ 4096 ⌝ }
+    requires { ⌜ d .waiting ≤ 128 ⌝ }
+    requires { ⌜ Under (2 ^ 40) (d .counts) ⌝ }
+    ensures { λ r. ⌜ r ≡ sumDropped d len room ⌝ }
+{
+    let t = tally_none(d.waiting);
+    let t = tally_packet(len, t);
+    let counts = add_counts(d.counts, t);
+    if fits(counts, room) {
+        Sum {
+            answer: 0,
+            counts,
+            waiting: t.waiting,
+        }
+    } else {
+        refuse(d, NO_ROOM)
+    }
+}
+
+// Any other, by its steps.
+pub fn sum_plan(d: Decoder, plan: Plan, len: usize, room: Counts) -> Sum
+    requires { ⌜ len ≤ 4096 ⌝ }
+    requires { ⌜ d .waiting ≤ 128 ⌝ }
+    requires { ⌜ Under (2 ^ 40) (d .counts) ⌝ }
+    requires { ⌜ d .counts .endpoints ≤ 128 ⌝ }
+    requires { ⌜ plan .resume .endpoint ≡ false ⌝ }
+    ensures { λ r. ⌜ r ≡ sumPlan d plan len room ⌝ }
+{
+    let n = d.counts;
+    let begin = plan.begin;
+    let endpoints = n.endpoints;
+    if begin.endpoint & (endpoints == MOST_ENDPOINTS) {
+        return refuse(d, NO_ROOM);
+    }
+    let t = tally_plan(plan, len, endpoints, d.waiting);
+    let counts = add_counts(n, t);
+    if fits(counts, room) {
+        if plan_passes(plan) {
+            return refuse(d, TOTAL);
+        }
+        return Sum {
+            answer: 0,
+            counts,
+            waiting: t.waiting,
+        };
+    }
+    refuse(d, NO_ROOM)
+}
