@@ -1,0 +1,94 @@
+-- An event up to its own rows: the world and the memory once the transaction and every active group have ended, or the transaction is suspended.
+use Prim.Native.Nat.{ℕ, _+_, _^_, _<_, _≤_}
+use native.Mathlib.Omega.{arith}
+use mathlib.Core.Bool.{Bool, true, false, false≢true}
+use mathlib.Core.Path.{_≡_, refl, sym, subst}
+use Rattle.transaction.specs.Payload.{startPid}
+use Rattle.rules.specs.Decoder.{suspend, endAllActive}
+use Rattle.rules.specs.World.{World, withSlot, withKeepalive}
+use Rattle.update.specs.Update.{when}
+use Rattle.write.specs.Memory.{Memory, Room}
+use Rattle.event.specs.Event.{isCurrent}
+use Rattle.outcome.specs.Outcome.{isIll, worldAt}
+use Rattle.outcome.specs.State.{State, roomOf, Known}
+use Rattle.steps.specs.Ending.{slotEnded, endingOf, endPlayed}
+use Rattle.steps.specs.Step.{ended}
+use Rattle.reckon.proofs.Events.{suspended, settled}
+use Rattle.reckon.proofs.Formed.{three}
+use Rattle.events.specs.After.{slotAfter, keepaliveThen}
+use Rattle.events.specs.Ended.{endedMemory, settledMemory, SettlesIf}
+use Rattle.events.proofs.Ends.{reached-slot, reached-keepalive, reached-all}
+use Rattle.events.proofs.Reached.{memoryAt, Reached, reached-start}
+use Rattle.events.proofs.Sane.{formed, is-ready, few-ended, reached-end, endable}
+
+abbrev pub beforeOf : Bool → State → World
+beforeOf true s = withKeepalive false (endAllActive (endPlayed (endingOf (worldAt s)) (worldAt s)))
+beforeOf false s = suspend (worldAt s)
+
+abbrev pub memoryThen : Bool → State → Memory
+memoryThen r s = settledMemory r (endingOf (worldAt s)) (s .decoder .counts .endpoints) (s .decoder .transaction .id) (startPid (s .decoder .transaction .style)) (memoryAt s)
+
+none-then : (k : Bool) → false ≡ keepaliveThen true k
+none-then true = refl
+none-then false = refl
+
+same-then : (k : Bool) → k ≡ keepaliveThen false k
+same-then true = refl
+same-then false = refl
+
+pub rests : (r : Bool) (s : State) → isCurrent (beforeOf r s .slot) ≡ false
+unfolding endPlayed
+rests true s = settled (s .decoder .slot)
+rests false s = suspended (s .decoder .slot)
+
+pub slot-is : (r : Bool) (s : State) → beforeOf r s .slot ≡ slotAfter r (s .decoder .slot)
+unfolding endPlayed
+slot-is true s = refl
+slot-is false s = refl
+
+-- the event endpoint's counts can grow
+pub record Grows (w : World) : Type 0 where
+  pub transactions : w .endpoints 0 .transactions + 1 < 2 ^ 64
+  pub groups : w .endpoints 0 .groups + 1 < 2 ^ 64
+
+module _ (s : State) (sane : isIll s ≡ false) where
+  pub few : s .decoder .counts .endpoints ≤ 128
+  few = formed s sane .counts .fewEndpoints
+
+  pub some : 0 < s .decoder .counts .endpoints
+  some = let l = three (formed s sane) in omega (arith, l)
+
+  module _ (known : Known (s .table)) (byte : startPid (s .decoder .transaction .style) < 256) where
+    reached-reset : Reached s false (beforeOf true s) (memoryThen true s)
+    unfolding settledMemory endPlayed
+    reached-reset =
+        let e = endingOf (worldAt s) in
+        let k = s .decoder .keepalive in
+        let v = when (e .ends) (ended (e .old) (e .end)) (worldAt s) in
+        let m = endedMemory e (s .decoder .counts .endpoints) (s .decoder .transaction .id) (startPid (s .decoder .transaction .style)) (memoryAt s) in
+        let a = reached-slot s k v m (reached-end s sane known byte) (slotEnded (s .decoder .slot)) in
+        reached-keepalive s k _ _ (reached-all s k (withSlot (slotEnded (s .decoder .slot)) v) m a few) false
+
+    reached-suspended : Reached s (s .decoder .keepalive) (beforeOf false s) (memoryThen false s)
+    unfolding settledMemory
+    reached-suspended = reached-slot s (s .decoder .keepalive) (worldAt s) (memoryAt s) (reached-start s (roomOf (s .logs)) (formed s sane) known) _
+
+    pub reached-before : (r : Bool) → Reached s (keepaliveThen r (s .decoder .keepalive)) (beforeOf r s) (memoryThen r s)
+    reached-before true = subst (λ (b : Bool). Reached s b (beforeOf true s) (memoryThen true s)) (none-then (s .decoder .keepalive)) reached-reset
+    reached-before false = subst (λ (b : Bool). Reached s b (beforeOf false s) (memoryThen false s)) (same-then (s .decoder .keepalive)) reached-suspended
+
+    pub grows : (r : Bool) → Grows (beforeOf r s)
+    unfolding endPlayed
+    grows true =
+        let e = endingOf (worldAt s) in
+        let v = when (e .ends) (ended (e .old) (e .end)) (worldAt s) in
+        let f = few-ended s sane 0 (subst (λ (n : ℕ). 0 < n) (sym (reached-end s sane known byte .holds .count)) some) in
+        record { transactions = omega (arith, f .transactions); groups = omega (arith, f .groups) }
+    grows false = let f = is-ready s sane .entries 0 some in record { transactions = omega (arith, f .transactions); groups = omega (arith, f .groups) }
+
+    -- what settle asks, from the room after it
+    pub settles-if : (r : Bool) → Room (memoryThen r s)
+        → SettlesIf r (endingOf (worldAt s)) (s .decoder .counts .endpoints) (s .decoder .transaction .id) (startPid (s .decoder .transaction .style)) (memoryAt s)
+    unfolding settledMemory
+    settles-if true m on = endable s sane known byte (record { groups = m .groups; states = m .states; marks = m .marks; items = m .items; links = m .links })
+    settles-if false m on = absurd (false≢true on)

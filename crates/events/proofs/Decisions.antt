@@ -1,0 +1,28 @@
+-- What deciding an event leans on: few groups are active, and the sum is that of the parts decided.
+use Prim.Native.Nat.{ℕ, _≤_}
+use native.Mathlib.Omega.{arith}
+use mathlib.Core.List.{List}
+use mathlib.Core.Path.{_≡_, ap, _∙_}
+use Rattle.tables.specs.Phases.{inPhase, active}
+use Rattle.tables.specs.Word as word
+use Rattle.tables.specs.declared.Device.{Device}
+use Rattle.rules.specs.Events.{Act, turnOf}
+use Rattle.judge.specs.World.{worldOf}
+use Rattle.judge.specs.declared.Counts.{Counts}
+use Rattle.judge.specs.declared.Decoder.{Decoder}
+use Rattle.steps.specs.Ending.{endingOf}
+use Rattle.steps.specs.declared.Ending.{Ending}
+use Rattle.reckon.proofs.Formed.{count-few}
+use Rattle.events.specs.After.{resetsBy, sumOf, eventTally}
+use Rattle.events.specs.declared.sum.Sum.{Sum}
+
+pub few-active : (t : List ℕ) (n : ℕ) → n ≤ 128 → active t n ≤ 128
+few-active t n h = let c = count-few (inPhase word.Active t) n 0 in omega (arith, c)
+
+pub sum-is : (d : Decoder) (v : List Device) (t : List ℕ) (kind : ℕ) (room : Counts) (e : Ending) (a : Act) (k : ℕ) (r : Sum)
+    → e ≡ endingOf (worldOf d v t) → a ≡ turnOf (d .event) kind .act → k ≡ active t (d .counts .endpoints) → r ≡ sumOf (d .counts) (eventTally (resetsBy kind) d e a k) room
+    → r ≡ sumOf (d .counts) (eventTally (resetsBy kind) d (endingOf (worldOf d v t)) (turnOf (d .event) kind .act) (active t (d .counts .endpoints))) room
+sum-is d v t kind room e a k r p q z h =
+    h ∙ ap (λ (x : Ending). sumOf (d .counts) (eventTally (resetsBy kind) d x a k) room) p
+    ∙ ap (λ (x : Act). sumOf (d .counts) (eventTally (resetsBy kind) d (endingOf (worldOf d v t)) x k) room) q
+    ∙ ap (λ (x : ℕ). sumOf (d .counts) (eventTally (resetsBy kind) d (endingOf (worldOf d v t)) (turnOf (d .event) kind .act) x) room) z

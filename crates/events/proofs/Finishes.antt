@@ -1,0 +1,144 @@
+-- Finish, over plain values: its answer, what carrying it out asks, and that what it leaves is what the rules leave.
+use Prim.Native.Nat.{ℕ, _<_}
+use mathlib.Core.Bool.{Bool, true, false, not, cond}
+use mathlib.Core.List.{[]}
+use mathlib.Core.Path.{_≡_, refl, sym, ap, _∙_, subst}
+use borrow.Author.Tests.{ne-eqb}
+use native.Mathlib.Omega.{arith}
+use lib.Seq.{sets}
+use Rattle.transaction.specs.Payload.{startPid}
+use Rattle.rules.specs.Decoder.{finish}
+use Rattle.rules.specs.Rows.{log}
+use Rattle.rules.specs.World.{World, withSlot}
+use Rattle.update.specs.Update.{when}
+use Rattle.write.specs.HoldsLaws.{holds-room}
+use Rattle.write.specs.Memory.{Memory}
+use Rattle.write.specs.declared.Tally.{Tally}
+use Rattle.judge.specs.Answers.{firstOf, finishTests}
+use Rattle.judge.specs.RoomLaws.{within}
+use Rattle.judge.specs.declared.Counts.{Counts}
+use Rattle.judge.specs.declared.Decoder.{Decoder}
+use Rattle.outcome.specs.Outcome.{Left, isIll, isFull, isOver, worldAt}
+use Rattle.outcome.specs.OutcomeLaws.{unique, refused, accepted}
+use Rattle.outcome.specs.State.{State, state, logs, roomOf, Known}
+use Rattle.steps.specs.Ending.{slotEnded, endingOf, endPlayed}
+use Rattle.steps.specs.Step.{ended}
+use Rattle.steps.specs.declared.Ending.{Ending}
+use Rattle.steps.proofs.Ends.{finish-is}
+use Rattle.reckon.specs.Tallies.{tallyEnding}
+use Rattle.reckon.proofs.Counts.{counts-after, world-has}
+use Rattle.reckon.proofs.Formed.{finish-full-is}
+use Rattle.reckon.proofs.Quiet.{ending-totals}
+use Rattle.reckon.proofs.Unpassed.{ending-over}
+use Rattle.events.specs.After.{sumOf, finishedDecoder}
+use Rattle.events.specs.Call.{finishTestsOf, FinishCall}
+use Rattle.events.specs.Ended.{endedMemory, Endable, tallyOf}
+use Rattle.events.specs.declared.sum.Sum.{Sum}
+use Rattle.events.proofs.Ends.{reached-slot}
+use Rattle.events.proofs.Reached.{firstMemory, memoryAt, space, left-of}
+use Rattle.events.proofs.Sane.{totalled, formed, end-adds, reached-end, endable}
+
+-- 01: "any two permitted outcomes coincide"
+pub finish-unique : (s : State) (a b : ℕ) (s′ s″ : State) → FinishCall s a s′ → FinishCall s b s″ → (a ≡ b) × (s′ ≡ s″)
+finish-unique s a b s′ s″ x y = unique x y
+
+module _ (s : State) where
+  -- the end of its transaction, and what that comes to
+  abbrev pub endAt : Ending
+  endAt = endingOf (worldAt s)
+
+  abbrev pub sumAt : Sum
+  sumAt = sumOf (s .decoder .counts) (tallyEnding endAt (s .decoder .counts .endpoints) (s .decoder .waiting)) (roomOf (s .logs))
+
+  abbrev pub endedAt : Memory
+  endedAt = endedMemory endAt (s .decoder .counts .endpoints) (s .decoder .transaction .id) (startPid (s .decoder .transaction .style)) (memoryAt s)
+
+module _ (s : State) (sane : isIll s ≡ false) (known : Known (s .table)) where
+  full-is : isFull s (finish (worldAt s)) ≡ not (sumAt s .fits)
+  unfolding sumOf
+  full-is = ap (isFull s) (finish-is (worldAt s)) ∙ finish-full-is s (roomOf (s .logs)) (formed s sane)
+
+  over-is : isOver (finish (worldAt s)) ≡ false
+  over-is = ap isOver (finish-is (worldAt s)) ∙ ending-over (endAt s) (worldAt s) (ending-totals (worldAt s)) (totalled s known)
+
+  answer-is : s .decoder .finished ≡ false → (b : Bool) → sumAt s .fits ≡ b → cond b 0 7 ≡ firstOf (finishTestsOf (finish (worldAt s)) s)
+  unfolding firstOf
+  answer-is going b e = by (isIll s) (s .decoder .finished) (isFull s (finish (worldAt s))) (isOver (finish (worldAt s))) b sane going (full-is ∙ ap not e) over-is
+    where
+      by : (ill finished full over b : Bool) → ill ≡ false → finished ≡ false → full ≡ not b → over ≡ false → cond b 0 7 ≡ firstOf (finishTests ill finished full over)
+      by ill finished full over true e f g h = rw (e, f, g, h)
+      by ill finished full over false e f g h = rw (e, f, g)
+
+  pub finish-full : s .decoder .finished ≡ false → sumAt s .fits ≡ false → FinishCall s 7 s
+  finish-full going e = refused 7 (answer-is going false e) refl
+
+  module _ (byte : startPid (s .decoder .transaction .style) < 256) (going : s .decoder .finished ≡ false) (fits : sumAt s .fits ≡ true) where
+    pub finish-endable : Endable (endAt s) (s .decoder .counts .endpoints) (s .decoder .transaction .id) (startPid (s .decoder .transaction .style)) (memoryAt s)
+    unfolding sumOf endPlayed
+    finish-endable =
+        endable s sane known byte
+        (holds-room (reached-end s sane known byte .holds) (space s (tallyEnding (endAt s) (s .decoder .counts .endpoints) (s .decoder .waiting)) (endPlayed (endAt s) (worldAt s)) (end-adds s sane) (within _ _ fits)))
+
+    -- the state that it leaves
+    abbrev pub finishedState : State
+    finishedState =
+        state (finishedDecoder (s .decoder) (sumAt s) (endedAt s .tally)) (s .devices) (endedAt s .table)
+        (logs (s .logs .bytes) (s .logs .devices) (s .logs .endpoints) (s .logs .packets) (s .logs .events) (s .logs .transactions) (endedAt s .groups) (endedAt s .marks) (endedAt s .states) (endedAt s .items) (endedAt s .links) (s .logs .requests))
+
+    played-left : Left (endPlayed (endAt s) (worldAt s)) true s finishedState
+    unfolding sumOf endPlayed
+    played-left =
+        let v = when (endAt s .ends) (ended (endAt s .old) (endAt s .end)) (worldAt s) in
+        let r = reached-slot s (s .decoder .keepalive) v (endedAt s) (reached-end s sane known byte) (slotEnded (s .decoder .slot)) in
+        let a = end-adds s sane in
+        let none : (k : ℕ) → k < 6 → log k (v .journal) ≡ [] = λ k u. r .logs k (λ j g h. ne-eqb j k (λ e. omega arith)) in
+        left-of s (withSlot (slotEnded (s .decoder .slot)) v) (endedAt s) (r .holds) (r .table) (known .size) (r .devices) (r .transaction) true _ _ _ _ _
+        (counts-after (world-has (s .decoder) (s .devices) (s .table)) a) refl (r .event) (r .keepalive) (a .waiting) (s .logs .packets) (s .logs .events) (s .logs .transactions)
+        (record {
+          bytes = none 0 (omega arith);
+          devices = none 1 (omega arith);
+          endpoints = none 2 (omega arith);
+          requests = r .logs 11 (λ j g h. ne-eqb j 11 (λ e. omega arith));
+          packetRows = ap (sets (s .logs .packets) _) (sym (none 3 (omega arith)));
+          eventRows = ap (sets (s .logs .events) _) (sym (none 4 (omega arith)));
+          transactionRows = ap (sets (s .logs .transactions) _) (sym (none 5 (omega arith)));
+        })
+
+    pub finish-accepted : FinishCall s 0 finishedState
+    finish-accepted = accepted 0 (answer-is going true fits) refl (subst (λ (w : World). Left w true s finishedState) (sym (finish-is (worldAt s))) played-left)
+
+-- ---- as the code has its parts
+
+pub sum-at : (s : State) (e : Ending) (room : Counts) (r : Sum) → e ≡ endAt s → room ≡ roomOf (s .logs)
+    → r ≡ sumOf (s .decoder .counts) (tallyEnding e (s .decoder .counts .endpoints) (s .decoder .waiting)) room → r ≡ sumAt s
+sum-at s e room r p q h =
+    h ∙ ap (λ (x : Ending). sumOf (s .decoder .counts) (tallyEnding x (s .decoder .counts .endpoints) (s .decoder .waiting)) room) p
+    ∙ ap (sumOf (s .decoder .counts) (tallyEnding (endAt s) (s .decoder .counts .endpoints) (s .decoder .waiting))) q
+
+pub end-asks : (s : State) (e : Ending) (pid : ℕ) (h : Tally) → e ≡ endAt s → pid ≡ startPid (s .decoder .transaction .style) → h ≡ tallyOf (s .decoder)
+    → Endable (endAt s) (s .decoder .counts .endpoints) (s .decoder .transaction .id) (startPid (s .decoder .transaction .style)) (memoryAt s)
+    → Endable e (s .decoder .counts .endpoints) (s .decoder .transaction .id) pid (firstMemory s h)
+end-asks s e pid h p q r a =
+    subst (λ (x : Ending). Endable x (s .decoder .counts .endpoints) (s .decoder .transaction .id) pid (firstMemory s h)) (sym p)
+    (subst (λ (x : ℕ). Endable (endAt s) (s .decoder .counts .endpoints) (s .decoder .transaction .id) x (firstMemory s h)) (sym q)
+    (subst (λ (x : Tally). Endable (endAt s) (s .decoder .counts .endpoints) (s .decoder .transaction .id) (startPid (s .decoder .transaction .style)) (firstMemory s x)) (sym r) a))
+
+pub ended-at : (s : State) (e : Ending) (pid : ℕ) (h : Tally) (m : Memory) → e ≡ endAt s → pid ≡ startPid (s .decoder .transaction .style) → h ≡ tallyOf (s .decoder)
+    → m ≡ endedMemory e (s .decoder .counts .endpoints) (s .decoder .transaction .id) pid (firstMemory s h) → m ≡ endedAt s
+ended-at s e pid h m p q r a =
+    a ∙ ap (λ (x : Ending). endedMemory x (s .decoder .counts .endpoints) (s .decoder .transaction .id) pid (firstMemory s h)) p
+    ∙ ap (λ (x : ℕ). endedMemory (endAt s) (s .decoder .counts .endpoints) (s .decoder .transaction .id) x (firstMemory s h)) q
+    ∙ ap (λ (x : Tally). endedMemory (endAt s) (s .decoder .counts .endpoints) (s .decoder .transaction .id) (startPid (s .decoder .transaction .style)) (firstMemory s x)) r
+
+-- the state with this memory
+abbrev pub stateOf : State → Decoder → Memory → State
+stateOf s d m =
+    state d (s .devices) (m .table)
+    (logs (s .logs .bytes) (s .logs .devices) (s .logs .endpoints) (s .logs .packets) (s .logs .events) (s .logs .transactions) (m .groups) (m .marks) (m .states) (m .items) (m .links) (s .logs .requests))
+
+pub finish-returns : (s : State) (m : Memory) (d : Decoder) (sum : Sum) → FinishCall s 0 (stateOf s (finishedDecoder (s .decoder) (sumAt s) (endedAt s .tally)) (endedAt s)) → m ≡ endedAt s → sum ≡ sumAt s
+    → d ≡ finishedDecoder (s .decoder) sum (m .tally) → FinishCall s 0 (stateOf s d m)
+finish-returns s m d sum a p q r =
+    subst (λ (x : Decoder). FinishCall s 0 (stateOf s x m)) (sym r)
+    (subst (λ (x : Sum). FinishCall s 0 (stateOf s (finishedDecoder (s .decoder) x (m .tally)) m)) (sym q)
+    (subst (λ (x : Memory). FinishCall s 0 (stateOf s (finishedDecoder (s .decoder) (sumAt s) (x .tally)) x)) (sym p) a))

@@ -1,0 +1,11 @@
+pub mod Closing
+pub mod Reached
+pub mod Ends
+pub mod Sane
+pub mod Refuses
+pub mod Finishes
+pub mod Decisions
+pub mod Before
+pub mod Tail
+pub mod Happens
+pub mod Parts

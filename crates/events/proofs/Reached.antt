@@ -1,0 +1,146 @@
+-- How far a call has come: memory (write, Holds) and the record's other parts, between the state that it began with and a world of the rules.
+use Prim.Native.Nat.{ℕ, _*_, _<_, _≤_}
+use native.Mathlib.Omega.{arith}
+use mathlib.Core.Bool.{Bool, false}
+use mathlib.Core.List.{List, []}
+use mathlib.Core.Path.{_≡_, refl, sym, ap, _∙_, subst}
+use lib.Dec.{eqb}
+use lib.ListN.{length, getD}
+use lib.Seq.{sets}
+use Rattle.transaction.specs.Payload.{startPid}
+use Rattle.tables.specs.Search.{blank}
+use Rattle.rules.specs.Rows.{Row, log}
+use Rattle.rules.specs.World.{World}
+use Rattle.rules.specs.declared.EventState.{EventState}
+use Rattle.rules.specs.declared.Slot.{Slot}
+use Rattle.update.specs.Tally.{inLog, waitingOf, Adds}
+use Rattle.update.specs.declared.tally.Tally.{Tally}
+use Rattle.write.specs.Holds.{Holds, Space}
+use Rattle.write.specs.HoldsLaws.{holds-start}
+use Rattle.write.specs.Memory.{Memory, memory}
+use Rattle.write.specs.declared.Tally.{Tally as Written}
+use Rattle.judge.specs.FormedLaws.{WellFormed}
+use Rattle.judge.specs.RoomLaws.{Within}
+use Rattle.judge.specs.TabledLaws.{Tabled, tabled-start}
+use Rattle.judge.specs.declared.Counts.{Counts}
+use Rattle.outcome.specs.Outcome.{Appends, Left, countsAfter, decoderOf, worldAt}
+use Rattle.outcome.specs.State.{Logs, State, state, logs, roomBy, roomOf, Known}
+use Rattle.steps.proofs.Played.{tiedTo, Tied}
+use Rattle.reckon.specs.Tallies.{addCounts}
+use Rattle.events.specs.Ended.{tallyOf, tied}
+
+-- the memory of a state, and with another tally
+abbrev pub firstMemory : State → Written → Memory
+firstMemory s h = memory h (s .table) (s .logs .groups) (s .logs .states) (s .logs .marks) (s .logs .items) (s .logs .links)
+
+abbrev pub memoryAt : State → Memory
+memoryAt s = firstMemory s (tallyOf (s .decoder))
+
+abbrev pub HoldsAt : State → World → Memory → Type 0
+HoldsAt s w m = Holds (s .decoder .counts .endpoints) (s .decoder .transaction .id) (startPid (s .decoder .transaction .style)) (memoryAt s) w m
+
+-- a log that no group goes to
+abbrev pub Aside : ℕ → Type 0
+Aside k = (j : ℕ) → 6 ≤ j → j ≤ 10 → eqb j k ≡ false
+
+-- the call on s has come to the world w, in which there is a keepalive group as b says, and to the memory m
+pub record Reached (s : State) (b : Bool) (w : World) (m : Memory) : Type 0 where
+  pub holds : HoldsAt s w m
+  pub table : Tabled (s .decoder .counts .endpoints) (s .table) (m .table)
+  pub devices : (j : ℕ) → w .devices j ≡ getD (s .devices) j blank
+  pub transaction : Tied (s .decoder .transaction) (w .transaction)
+  pub event : w .eventState ≡ s .decoder .event
+  pub keepalive : w .keepalive ≡ b
+  pub transactions : w .transactions ≡ s .decoder .counts .transactions
+  pub logs : (k : ℕ) → Aside k → log k (w .journal) ≡ []
+
+-- where it begins
+pub reached-start : (s : State) (room : Counts) → WellFormed (s .decoder) (s .devices) (s .table) room → Known (s .table) → Reached s (s .decoder .keepalive) (worldAt s) (memoryAt s)
+reached-start s room h k =
+    let d = s .decoder in
+    record {
+      holds = holds-start (d .counts .endpoints) (d .transaction .id) (startPid (d .transaction .style)) (worldAt s) (memoryAt s) refl (k .size) refl (λ j u. refl) refl refl refl refl refl refl refl refl;
+      table = tabled-start (d .counts .endpoints) (s .table) (k .size) (λ i u. h .endpoints i u .words);
+      devices = λ j. refl;
+      transaction = refl;
+      event = refl;
+      keepalive = refl;
+      transactions = refl;
+      logs = λ k u. refl;
+    }
+
+-- ---- room
+
+-- the rows of a tally whose counts fit the lent logs fit memory's
+pub space : (s : State) (t : Tally) (v : World) → Adds t (worldAt s) v → Within (addCounts (s .decoder .counts) t) (roomOf (s .logs)) → Space (memoryAt s) (v .journal)
+unfolding addCounts roomBy inLog
+space s t v a w =
+    record {
+      groups = let e = a .words 6 in let g = w .groups in omega (arith, e, g);
+      marks = let e = a .words 7 in let g = w .marks in omega (arith, e, g);
+      states = let e = a .words 8 in let g = w .states in omega (arith, e, g);
+      items = let e = a .words 9 in let g = w .items in omega (arith, e, g);
+      links = let e = a .words 10 in let g = w .links in omega (arith, e, g);
+    }
+
+-- ---- the end of a call
+
+-- the rows of the logs that memory does not have
+pub record Besides (w : World) (n : Counts) (l : Logs) (packets events transactions : List ℕ) : Type 0 where
+  pub bytes : log 0 (w .journal) ≡ []
+  pub devices : log 1 (w .journal) ≡ []
+  pub endpoints : log 2 (w .journal) ≡ []
+  pub requests : log 11 (w .journal) ≡ []
+  pub packetRows : packets ≡ sets (l .packets) (n .packets * 2) (log 3 (w .journal))
+  pub eventRows : events ≡ sets (l .events) (n .events * 2) (log 4 (w .journal))
+  pub transactionRows : transactions ≡ sets (l .transactions) (n .transactions) (log 5 (w .journal))
+
+none-written : (l : List ℕ) (at k : ℕ) (js : List Row) → log k js ≡ [] → l ≡ sets l at (log k js)
+none-written l at k js e = ap (sets l at) (sym e)
+
+module _ (s : State) (w : World) (m : Memory) (holds : HoldsAt s w m) (table : Tabled (s .decoder .counts .endpoints) (s .table) (m .table)) where
+  appends : (p e t : List ℕ) → Besides w (s .decoder .counts) (s .logs) p e t
+      → Appends w (s .decoder .counts) (s .logs) (logs (s .logs .bytes) (s .logs .devices) (s .logs .endpoints) p e t (m .groups) (m .marks) (m .states) (m .items) (m .links) (s .logs .requests))
+  appends p e t b =
+      record {
+        bytes = none-written (s .logs .bytes) _ 0 (w .journal) (b .bytes);
+        devices = none-written (s .logs .devices) _ 1 (w .journal) (b .devices);
+        endpoints = none-written (s .logs .endpoints) _ 2 (w .journal) (b .endpoints);
+        packets = b .packetRows;
+        events = b .eventRows;
+        transactions = b .transactionRows;
+        groups = holds .groups .written;
+        marks = holds .marks .written;
+        states = holds .states .written;
+        items = holds .items .written;
+        links = holds .links .written;
+        requests = none-written (s .logs .requests) _ 11 (w .journal) (b .requests);
+      }
+
+  tied-is : Tied (s .decoder .transaction) (w .transaction) → tied (s .decoder .transaction) (m .tally) ≡ w .transaction
+  tied-is h =
+      let t = s .decoder .transaction in
+      ap (λ (b : Bool). tiedTo t b (m .tally .link)) (holds .linked) ∙ ap (tiedTo t (w .transaction .linked)) (holds .link) ∙ sym h
+
+  -- what it leaves is what the rules leave
+  pub left-of : (size : length (s .table) ≡ 2176) → ((j : ℕ) → w .devices j ≡ getD (s .devices) j blank) → Tied (s .decoder .transaction) (w .transaction)
+      → (f : Bool) (c : Counts) (slot : Slot) (event : EventState) (keepalive : Bool) (waiting : ℕ)
+      → countsAfter (s .decoder .counts) w ≡ c → w .slot ≡ slot → w .eventState ≡ event → w .keepalive ≡ keepalive → waitingOf w ≡ waiting
+      → (p e t : List ℕ) → Besides w (s .decoder .counts) (s .logs) p e t
+      → Left w f s
+      (state (record { counts = c; slot = slot; transaction = tied (s .decoder .transaction) (m .tally); last = m .tally .last; event = event; keepalive = keepalive; waiting = waiting; finished = f }) (s .devices) (m .table)
+      (logs (s .logs .bytes) (s .logs .devices) (s .logs .endpoints) p e t (m .groups) (m .marks) (m .states) (m .items) (m .links) (s .logs .requests)))
+  unfolding decoderOf
+  left-of size devices tie f c slot event keepalive waiting ec es ee ek ew p e t b =
+      record {
+        decoder = λ i. record { counts = sym ec i; slot = sym es i; transaction = tied-is tie i; last = holds .lastItem i; event = sym ee i; keepalive = sym ek i; waiting = sym ew i; finished = f };
+        devices = record { size = refl; there = λ i u. sym (devices i); beyond = λ i u. refl };
+        table =
+            record {
+              size = table .size ∙ sym size;
+              entries = λ i u. holds .endpoints i (subst (λ (n : ℕ). i < n) (holds .count) u);
+              words = λ i u. table .stored i (subst (λ (n : ℕ). i < n) (holds .count) u);
+              beyond = λ i u. table .beyond i (subst (λ (n : ℕ). n * 17 ≤ i) (holds .count) u);
+            };
+        logs = appends p e t b;
+      }

@@ -1,0 +1,97 @@
+-- What a state that is not ill gives the end of its transaction: numbers in their ranges, its tally, and that no byte total passes.
+use Prim.Native.Nat.{ℕ, _+_, _*_, _^_, _<_, _≤_}
+use native.Mathlib.Omega.{arith}
+use mathlib.Core.Bool.{Bool, true, false}
+use mathlib.Core.Path.{_≡_, subst}
+use Rattle.transaction.specs.Payload.{startPid}
+use Rattle.tables.specs.Table.{entryAt}
+use Rattle.tables.specs.TableLaws.{fits-entry}
+use Rattle.update.specs.Tally.{Adds}
+use Rattle.update.specs.Update.{when}
+use Rattle.write.specs.Memory.{Room}
+use Rattle.judge.specs.FormedLaws.{WellFormed}
+use Rattle.outcome.specs.Outcome.{isIll, worldAt}
+use Rattle.outcome.specs.OutcomeLaws.{sound}
+use Rattle.outcome.specs.State.{State, roomOf, Known}
+use Rattle.plan.specs.Ready.{Ready, ready}
+use Rattle.steps.specs.Ending.{currentEndpoint, endingOf, endPlayed}
+use Rattle.steps.specs.Sound.{EndFits}
+use Rattle.steps.specs.Step.{ended, endOf}
+use Rattle.steps.proofs.Small.{Few, FewAll, few-more, group-small, ended-few}
+use Rattle.steps.proofs.Sound.{fits-ending}
+use Rattle.reckon.specs.Suited.{EndingSuits, Totalled}
+use Rattle.reckon.specs.Tallies.{Under, tallyEnding}
+use Rattle.reckon.proofs.Bounds.{under}
+use Rattle.reckon.proofs.Counted.{ending-adds}
+use Rattle.reckon.proofs.Formed.{current-stands, waiting-is, waiting-few}
+use Rattle.reckon.proofs.Planned.{ending-suits}
+use Rattle.reckon.proofs.Quiet.{ending-totals}
+use Rattle.events.specs.Ended.{closedOn, endedMemory, Endable}
+use Rattle.events.proofs.Ends.{reached-ended, reached-when}
+use Rattle.events.proofs.Reached.{memoryAt, Reached, reached-start}
+
+-- no byte total passes 2^64 - 1 yet: it is a word
+pub totalled : (s : State) → Known (s .table) → Totalled (worldAt s)
+unfolding entryAt
+totalled s k i h = let w = k .words (i * 17 + 6) in omega (arith, w)
+
+module _ (s : State) (sane : isIll s ≡ false) where
+  pub formed : WellFormed (s .decoder) (s .devices) (s .table) (roomOf (s .logs))
+  formed = sound s sane .0
+
+  pub is-ready : Ready (s .decoder) (s .table)
+  is-ready = ready (s .decoder) (s .devices) (s .table) (roomOf (s .logs)) formed (sound s sane .1)
+
+  pub few-counts : Under (2 ^ 40) (s .decoder .counts)
+  few-counts = under (s .decoder .counts) (roomOf (s .logs)) (formed .counts) (sound s sane .1)
+
+  -- the endpoints' counts are far from overflow, and stay so
+  few-start : FewAll 0 (worldAt s)
+  few-start j h = let e = is-ready .entries j h in record { transactions = omega (arith, e .transactions); groups = omega (arith, e .groups) }
+
+  few-entry : Few 0 (endingOf (worldAt s) .end .entry)
+  unfolding endingOf endOf
+  few-entry =
+      let x = currentEndpoint (s .decoder .slot) (s .decoder .transaction) in
+      group-small (entryAt (s .table) x) (s .decoder .transaction) _ false false (record { few = few-start x (current-stands formed); fits = fits-entry (s .table) x }) .few
+
+  pub few-ended : FewAll 1 (when (endingOf (worldAt s) .ends) (ended (endingOf (worldAt s) .old) (endingOf (worldAt s) .end)) (worldAt s))
+  few-ended = by (endingOf (worldAt s) .ends)
+    where
+      by : (b : Bool) → FewAll 1 (when b (ended (endingOf (worldAt s) .old) (endingOf (worldAt s) .end)) (worldAt s))
+      by true = ended-few (endingOf (worldAt s) .old) (endingOf (worldAt s) .end) (worldAt s) few-entry few-start
+      by false = λ j h. few-more (few-start j h)
+
+  -- what sum_finish asks
+  pub sum-asks : (s .decoder .waiting ≤ 128) × ((s .decoder .counts .endpoints ≤ 128) × Under (2 ^ 40) (s .decoder .counts))
+  sum-asks = (waiting-few formed, (formed .counts .fewEndpoints, few-counts))
+
+  pub suits : EndingSuits (endingOf (worldAt s)) (worldAt s)
+  suits = ending-suits (worldAt s) (current-stands formed)
+
+  pub end-adds : Adds (tallyEnding (endingOf (worldAt s)) (s .decoder .counts .endpoints) (s .decoder .waiting)) (worldAt s) (endPlayed (endingOf (worldAt s)) (worldAt s))
+  end-adds =
+      subst (λ (n : ℕ). Adds (tallyEnding (endingOf (worldAt s)) (s .decoder .counts .endpoints) n) (worldAt s) (endPlayed (endingOf (worldAt s)) (worldAt s))) (waiting-is formed)
+      (ending-adds (endingOf (worldAt s)) (worldAt s) suits)
+
+  module _ (known : Known (s .table)) (byte : startPid (s .decoder .transaction .style) < 256) where
+    end-fits : EndFits (endingOf (worldAt s) .old) (endingOf (worldAt s) .end) (worldAt s)
+    end-fits =
+        let x = currentEndpoint (s .decoder .slot) (s .decoder .transaction) in
+        let e = is-ready .entries x (current-stands formed) in
+        fits-ending (worldAt s) (record { few = formed .counts .fewEndpoints; there = current-stands formed; transactions = e .transactions; groups = e .groups; fits = fits-entry (s .table) x; token = byte })
+
+    -- the transaction's end, before the slot is emptied
+    pub reached-end : Reached s (s .decoder .keepalive) (when (endingOf (worldAt s) .ends) (ended (endingOf (worldAt s) .old) (endingOf (worldAt s) .end)) (worldAt s))
+        (endedMemory (endingOf (worldAt s)) (s .decoder .counts .endpoints) (s .decoder .transaction .id) (startPid (s .decoder .transaction .style)) (memoryAt s))
+    unfolding endedMemory
+    reached-end =
+        let e = endingOf (worldAt s) in
+        let start = reached-start s (roomOf (s .logs)) formed known in
+        reached-when s (s .decoder .keepalive) (e .ends) (ended (e .old) (e .end)) (closedOn (e .old) (e .end) (s .decoder .counts .endpoints) (s .decoder .transaction .id) (startPid (s .decoder .transaction .style))) (worldAt s) (memoryAt s)
+        (λ on. reached-ended s (s .decoder .keepalive) (worldAt s) (memoryAt s) start (e .old) (e .end) end-fits (ending-totals (worldAt s) .quiet on)) start
+
+    -- what end_here asks
+    pub endable : Room (endedMemory (endingOf (worldAt s)) (s .decoder .counts .endpoints) (s .decoder .transaction .id) (startPid (s .decoder .transaction .style)) (memoryAt s))
+        → Endable (endingOf (worldAt s)) (s .decoder .counts .endpoints) (s .decoder .transaction .id) (startPid (s .decoder .transaction .style)) (memoryAt s)
+    endable r = record { sized = known .size; few = formed .counts .fewEndpoints; there = end-fits .there; transactions = end-fits .transactions; groups = end-fits .groups; bytes = end-fits .bytes; room = r }

@@ -1,0 +1,67 @@
+-- `events::event` meets its contract: the first tests (Refuses), and `event_in` past them.
+use borrow.Author.Needs.{needs}
+use borrow.Author.Tests.{ltb-false}
+use Rattle.outcome.specs.State.{State, state, logs}
+use Rattle.events.proofs.Refuses.{first-refuses, first-passes}
+use Rattle.events.proofs.event.Statement.{statement}
+use Rattle.events.proofs.event.Tie as tie
+
+-- the state that the call begins with
+abbrev begun : tie.Start → State
+begun s =
+    state (s .args .d) (s .args .devices) (s .args .table .now)
+    (logs (s .args .bytes .now) (s .args .device-rows .now) (s .args .endpoint-rows .now) (s .args .packets .now) (s .args .events .now) (s .args .transactions .now) (s .args .groups .now) (s .args .marks .now) (s .args .states .now) (s .args .items .now) (s .args .links .now) (s .args .requests .now))
+
+returns : tie.Need-returns
+returns c = let s = c .before .before .before .before .before .before .before .before .before .before .before .before .before .before .before .before in first-refuses (begun s) _ (s .args .kind) _ (c .before .before .before .room-of .ensures) (c .before .first-tests .ensures) (c .if1 .taken) _ _ _ _
+
+event-in-requires : tie.Need-event-in-requires
+event-in-requires c κs =
+    let s = c .before .before .before .before .before .before .before .before .before .before .before .before .before .before .before .before .before .before .before .before .before .before .before .before .before in
+    let p = first-passes (begun s) _ (s .args .kind) _ (c .before .before .before .before .before .before .before .before .before .before .before .before .room-of .ensures) (c .before .before .before .before .before .before .before .before .before .before .first-tests .ensures) (c .before .before .before .before .before .before .before .before .before .if1 .left) in
+    (p .0, (p .1 .0, ltb-false 7 (s .args .kind) (p .1 .1)))
+
+same-length : tie.Need-same-length
+same-length c = c .before .before .before .before .before .before .before .before .before .before .before .before .before .before .before .before .before .event-in .kept .1 .1 .1 .1 .1 .1 .1 .1 .1 .0
+
+same-length-2 : tie.Need-same-length-2
+same-length-2 c = c .before .before .before .before .before .before .before .before .before .before .before .before .before .before .before .before .before .event-in .kept .1 .1 .1 .1 .1 .1 .1 .1 .1 .1 .0
+
+same-length-3 : tie.Need-same-length-3
+same-length-3 c = c .before .before .before .before .before .before .before .before .before .before .before .before .before .before .before .before .before .event-in .kept .1 .1 .1 .1 .1 .1 .1 .1 .1 .1 .1 .0
+
+same-length-4 : tie.Need-same-length-4
+same-length-4 c = c .before .before .before .before .before .before .before .before .before .before .before .before .before .before .before .before .before .event-in .kept .1 .1 .1 .1 .1 .1 .1 .1 .1 .1 .1 .1 .0
+
+same-length-5 : tie.Need-same-length-5
+same-length-5 c = c .before .before .before .before .before .before .before .before .before .before .before .before .before .before .before .before .before .event-in .kept .1 .1 .1 .1 .1 .1 .1 .1 .1 .1 .1 .1 .1 .0
+
+same-length-6 : tie.Need-same-length-6
+same-length-6 c = c .before .before .before .before .before .before .before .before .before .before .before .before .before .before .before .before .before .event-in .kept .1 .1 .1 .1 .1 .1 .1 .1 .1 .1 .1 .1 .1 .1 .0
+
+same-length-7 : tie.Need-same-length-7
+same-length-7 c = c .before .before .before .before .before .before .before .before .before .before .before .before .before .before .before .before .before .event-in .kept .1 .1 .1 .1 .1 .1 .1 .1 .1 .1 .1 .1 .1 .1 .1 .0
+
+same-length-8 : tie.Need-same-length-8
+same-length-8 c = c .before .before .before .before .before .before .before .before .before .before .before .before .before .before .before .before .before .event-in .kept .1 .1 .1 .1 .1 .1 .1 .1 .1 .1 .1 .1 .1 .1 .1 .1 .0
+
+returns-2 : tie.Need-returns-2
+returns-2 c = c .before .before .before .before .before .before .before .before .before .before .before .before .before .before .before .before .before .event-in .ensures
+
+pub event-spec : {M : Type 1} → statement M
+event-spec =
+    tie.close
+    (tie.spec
+    (λ c κs. search needs)
+    (λ c κs. search needs)
+    returns
+    event-in-requires
+    same-length
+    same-length-2
+    same-length-3
+    same-length-4
+    same-length-5
+    same-length-6
+    same-length-7
+    same-length-8
+    returns-2)

@@ -1,0 +1,53 @@
+-- `events::finish` meets its contract: the first tests (Refuses), and `finish_in` past them.
+use borrow.Author.Needs.{needs}
+use Rattle.outcome.specs.State.{State, state, logs}
+use Rattle.events.proofs.Refuses.{first-refuses, first-passes}
+use Rattle.events.proofs.finish.Statement.{statement}
+use Rattle.events.proofs.finish.Tie as tie
+
+-- the state that the call begins with
+abbrev begun : tie.Start → State
+begun s =
+    state (s .args .d) (s .args .devices) (s .args .table .now)
+    (logs (s .args .bytes .now) (s .args .device-rows .now) (s .args .endpoint-rows .now) (s .args .packets .now) (s .args .events .now) (s .args .transactions .now) (s .args .groups .now) (s .args .marks .now) (s .args .states .now) (s .args .items .now) (s .args .links .now) (s .args .requests .now))
+
+returns : tie.Need-returns
+returns c = first-refuses (begun (c .before .before .before .before .before .before .before .before .before .before .before .before .before .before .before .before)) _ 0 _ (c .before .before .before .room-of .ensures) (c .before .first-tests .ensures) (c .if1 .taken) _ _ _ _
+
+finish-in-requires : tie.Need-finish-in-requires
+finish-in-requires c κs =
+    let p = first-passes (begun (c .before .before .before .before .before .before .before .before .before .before .before .before .before .before .before .before .before .before .before .before .before .before)) _ 0 _ (c .before .before .before .before .before .before .before .before .before .room-of .ensures) (c .before .before .before .before .before .before .before .first-tests .ensures) (c .before .before .before .before .before .before .if1 .left) in
+    (p .0, p .1 .0)
+
+same-length : tie.Need-same-length
+same-length c = c .before .before .before .before .before .before .before .before .before .before .before .finish-in .kept .1 .1 .1 .1 .1 .1 .1 .1 .1 .0
+
+same-length-2 : tie.Need-same-length-2
+same-length-2 c = c .before .before .before .before .before .before .before .before .before .before .before .finish-in .kept .1 .1 .1 .1 .1 .1 .1 .1 .1 .1 .0
+
+same-length-3 : tie.Need-same-length-3
+same-length-3 c = c .before .before .before .before .before .before .before .before .before .before .before .finish-in .kept .1 .1 .1 .1 .1 .1 .1 .1 .1 .1 .1 .0
+
+same-length-4 : tie.Need-same-length-4
+same-length-4 c = c .before .before .before .before .before .before .before .before .before .before .before .finish-in .kept .1 .1 .1 .1 .1 .1 .1 .1 .1 .1 .1 .1 .0
+
+same-length-5 : tie.Need-same-length-5
+same-length-5 c = c .before .before .before .before .before .before .before .before .before .before .before .finish-in .kept .1 .1 .1 .1 .1 .1 .1 .1 .1 .1 .1 .1 .1 .0
+
+returns-2 : tie.Need-returns-2
+returns-2 c = c .before .before .before .before .before .before .before .before .before .before .before .finish-in .ensures
+
+pub finish-spec : {M : Type 1} → statement M
+finish-spec =
+    tie.close
+    (tie.spec
+    (λ c κs. search needs)
+    (λ c κs. search needs)
+    returns
+    finish-in-requires
+    same-length
+    same-length-2
+    same-length-3
+    same-length-4
+    same-length-5
+    returns-2)

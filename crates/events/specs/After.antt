@@ -1,0 +1,67 @@
+-- What the two calls leave, as the code puts it together: the sum and the record.
+use Prim.Native.Nat.{ℕ}
+use mathlib.Core.Bool.{Bool, true, false, cond, not, _&&_, _||_}
+use mathlib.Core.Path.{_≡_}
+use mathlib.Core.List.{List}
+use lib.Dec.{eqb, ltb}
+use Rattle.tables.specs.Phases.{active}
+use Rattle.tables.specs.declared.Device.{Device}
+use Rattle.rules.specs.Decoder.{suspendAt}
+use Rattle.rules.specs.Events.{Act, Turn, turnOf}
+use Rattle.rules.specs.declared.Slot.{Slot}
+use Rattle.update.specs.declared.tally.Tally.{Tally}
+use Rattle.write.specs.declared.Tally.{Tally as Written}
+use Rattle.judge.specs.Formed.{wellFormed}
+use Rattle.judge.specs.Room.{fitting, long}
+use Rattle.judge.specs.declared.Counts.{Counts}
+use Rattle.judge.specs.World.{worldOf}
+use Rattle.judge.specs.declared.Decoder.{Decoder}
+use Rattle.event.specs.Event.{told}
+use Rattle.eventdo.specs.ActedLaws.{keepaliveAfter}
+use Rattle.steps.specs.Ending.{slotEnded, endingOf}
+use Rattle.steps.specs.declared.Ending.{Ending}
+use Rattle.reckon.specs.Tallies.{tallyKeepalive, tallyEvent, addCounts}
+use Rattle.events.specs.Ended.{tied}
+use Rattle.events.specs.declared.decide.Decided.{Decided}
+use Rattle.events.specs.declared.sum.Sum.{Sum}
+
+-- the tests that come first: 1, 2 and, by the event's kind, 4
+abbrev pub firstTests : Decoder → List Device → List ℕ → Counts → ℕ → ℕ
+firstTests d v t room kind = cond (long room || not (wellFormed d v t room)) 1 (cond (d .finished) 2 (cond (ltb 7 kind) 4 0))
+
+-- with the rows of t behind n
+unfoldable pub sumOf : Counts → Tally → Counts → Sum
+sumOf n t room = record { fits = fitting (addCounts n t) room; counts = addCounts n t; waiting = t .waiting }
+
+abbrev pub finishedDecoder : Decoder → Sum → Written → Decoder
+finishedDecoder d s h =
+    record { counts = s .counts; slot = slotEnded (d .slot); transaction = tied (d .transaction) h; last = h .last; event = d .event; keepalive = d .keepalive; waiting = s .waiting; finished = true }
+
+-- ---- an event
+
+-- any kind but a keepalive resets: the transaction and every active group end
+abbrev pub resetsBy : ℕ → Bool
+resetsBy kind = not (eqb kind 0)
+
+abbrev pub slotAfter : Bool → Slot → Slot
+slotAfter true s = slotEnded s
+slotAfter false s = suspendAt s
+
+-- the keepalive group before the event's own rows
+abbrev pub keepaliveThen : Bool → Bool → Bool
+keepaliveThen resets k = k && not resets
+
+-- the rows of an event that does a, with k groups active before it
+unfoldable pub eventTally : Bool → Decoder → Ending → Act → ℕ → Tally
+eventTally true d e a k = tallyEvent e a (d .counts .endpoints) (d .waiting) k
+eventTally false d e a k = tallyKeepalive a (d .keepalive) (d .counts .endpoints) (d .waiting)
+
+pub record Decides (d : Decoder) (v : List Device) (t : List ℕ) (kind : ℕ) (room : Counts) (r : Decided) : Type 0 where
+  pub resets : r .resets ≡ resetsBy kind
+  pub end : r .end ≡ endingOf (worldOf d v t)
+  pub turn : told (r .turn) ≡ turnOf (d .event) kind
+  pub sum : r .sum ≡ sumOf (d .counts) (eventTally (resetsBy kind) d (endingOf (worldOf d v t)) (turnOf (d .event) kind .act) (active t (d .counts .endpoints))) room
+
+abbrev pub eventDecoder : Decoder → Bool → Turn → Sum → Written → Decoder
+eventDecoder d resets t s h =
+    record { counts = s .counts; slot = slotAfter resets (d .slot); transaction = tied (d .transaction) h; last = h .last; event = t .next; keepalive = keepaliveAfter (t .act) (keepaliveThen resets (d .keepalive)); waiting = s .waiting; finished = d .finished }

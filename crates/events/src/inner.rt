@@ -1,0 +1,268 @@
+// The two calls on a record and logs that are known to be right: they require what the public calls test.
+use crate::decide::decide;
+use crate::decide::keepalive_after;
+use crate::decide::slot_after;
+use crate::decide::starts_group;
+use crate::ending::end_here;
+use crate::ending::settle;
+use crate::ending::slot_ended;
+use crate::ending::tally_of;
+use crate::ending::tie;
+use crate::sum::Sum;
+use crate::sum::sum_finish;
+use event::Turn;
+use event::adds_group;
+use event::adds_row;
+use eventdo::event_rows;
+use judge::Counts;
+use judge::Decoder;
+use outcome::known;
+use outcome::room_of;
+use plan::plan_ending;
+use tables::Device;
+use transaction::payload::start_pid;
+use write::Tally;
+ghost use mathlib.Core.Bool.{false};
+ghost use mathlib.Core.List.{[], _∷_};
+ghost use mathlib.Core.Path.{_≡_};
+ghost use Prim.Native.Nat.{_+_, _*_, _≤_};
+ghost use lib.ListN.{length};
+ghost use lib.Seq.{sets};
+ghost use Rattle.rows.specs.Sets.{opt};
+ghost use Rattle.event.specs.Event.{told};
+ghost use Rattle.outcome.specs.Outcome.{isIll};
+ghost use Rattle.outcome.specs.State.{state, logs};
+ghost use Rattle.events.specs.After.{finishedDecoder, eventDecoder};
+ghost use Rattle.events.specs.Call.{EventCall, FinishCall};
+
+// The answer of 01's table where there is no room.
+const NO_ROOM: u8 = 7;
+
+// What a call leaves; the devices are the caller's, and stay.
+pub struct Inner {
+    pub answer: u8,
+    pub decoder: Decoder,
+}
+
+// The record after finish.
+fn finished_decoder(d: Decoder, sum: Sum, tally: Tally) -> Decoder
+    ensures { λ r. ⌜ r ≡ finishedDecoder d sum tally ⌝ }
+{
+    let counts = sum.counts;
+    let slot = d.slot;
+    let event = d.event;
+    Decoder {
+        counts,
+        slot: slot_ended(slot),
+        transaction: tie(d.transaction, tally),
+        last: tally.last,
+        event,
+        keepalive: d.keepalive,
+        waiting: sum.waiting,
+        finished: true,
+    }
+}
+
+// Finish: the current transaction ends.
+pub fn finish_in(
+    d: Decoder,
+    devices: [Device; 64],
+    table: &mut [u64; 2176],
+    bytes: &[u8],
+    device_rows: &[u64],
+    endpoint_rows: &[u64],
+    packets: &[u64],
+    events: &[u64],
+    transactions: &[u64],
+    groups: &mut [u64],
+    marks: &mut [u8],
+    states: &mut [u64],
+    items: &mut [u64],
+    links: &mut [u64],
+    requests: &[u64],
+) -> Inner
+    requires { ⌜ isIll (state d devices (now table) (logs (now bytes) (now «device_rows») (now «endpoint_rows») (now packets) (now events) (now transactions) (now groups) (now marks) (now states) (now items) (now links) (now requests))) ≡ false ⌝ }
+    requires { ⌜ d .finished ≡ false ⌝ }
+    ensures { λ r. ⌜ FinishCall (state d devices (now (table .entry)) (logs (now (bytes .entry)) (now («device_rows» .entry)) (now («endpoint_rows» .entry)) (now (packets .entry)) (now (events .entry)) (now (transactions .entry)) (now (groups .entry)) (now (marks .entry)) (now (states .entry)) (now (items .entry)) (now (links .entry)) (now (requests .entry)))) (r .answer) (state (r .decoder) devices (now (table .exit)) (logs (now (bytes .exit)) (now («device_rows» .exit)) (now («endpoint_rows» .exit)) (now (packets .exit)) (now (events .exit)) (now (transactions .exit)) (now (groups .exit)) (now (marks .exit)) (now (states .exit)) (now (items .exit)) (now (links .exit)) (now (requests .exit)))) ⌝ }
+{
+    let room = room_of(
+        bytes.len(),
+        device_rows.len(),
+        endpoint_rows.len(),
+        packets.len(),
+        events.len(),
+        transactions.len(),
+        groups.len(),
+        marks.len(),
+        states.len(),
+        items.len(),
+        links.len(),
+        requests.len(),
+    );
+    known(table);
+    let n = d.counts;
+    let held = d.transaction;
+    let style = held.style;
+    let e = plan_ending(d, devices, table);
+    let sum = sum_finish(d, e, room);
+    if !sum.fits {
+        return Inner {
+            answer: NO_ROOM,
+            decoder: d,
+        };
+    }
+    let tally = end_here(
+        e,
+        held.id,
+        start_pid(style),
+        tally_of(d),
+        n.endpoints,
+        table,
+        groups,
+        marks,
+        states,
+        items,
+        links,
+    );
+    Inner {
+        answer: 0,
+        decoder: finished_decoder(d, sum, tally),
+    }
+}
+
+// The event's packet row and event row, and where `row` a transaction row.
+fn put_event(
+    n: Counts,
+    row: bool,
+    code: u8,
+    time: u64,
+    packets: &mut [u64],
+    events: &mut [u64],
+    transactions: &mut [u64],
+)
+    requires { ⌜ (n .packets + 1) * 2 ≤ length (now packets) ⌝ }
+    requires { ⌜ (n .events + 1) * 2 ≤ length (now events) ⌝ }
+    requires { ⌜ n .transactions + length (opt row (n .packets ∷ [])) ≤ length (now transactions) ⌝ }
+    ensures { λ r. ⌜ now (packets .exit) ≡ sets (now (packets .entry)) (n .packets * 2) (n .bytes ∷ time ∷ []) ⌝ }
+    ensures { λ r. ⌜ now (events .exit) ≡ sets (now (events .entry)) (n .events * 2) (n .packets ∷ code ∷ []) ⌝ }
+    ensures { λ r. ⌜ now (transactions .exit) ≡ sets (now (transactions .entry)) (n .transactions) (opt row (n .packets ∷ [])) ⌝ }
+{
+    let p = n.packets;
+    let e = n.events;
+    rows::put2(packets, p * 2, n.bytes as u64, time);
+    rows::put2(events, e * 2, p as u64, code as u64);
+    rows::put1_if(row, transactions, n.transactions, p as u64);
+}
+
+// The record after an event.
+fn event_decoder(d: Decoder, resets: bool, turn: Turn, sum: Sum, tally: Tally) -> Decoder
+    ensures { λ r. ⌜ r ≡ eventDecoder d resets (told turn) sum tally ⌝ }
+{
+    let counts = sum.counts;
+    let slot = d.slot;
+    let act = turn.act;
+    let next = turn.next;
+    Decoder {
+        counts,
+        slot: slot_after(resets, slot),
+        transaction: tie(d.transaction, tally),
+        last: tally.last,
+        event: next,
+        keepalive: keepalive_after(act, d.keepalive & !resets),
+        waiting: sum.waiting,
+        finished: d.finished,
+    }
+}
+
+// An event of this kind, at most 7, with this code at this time.
+pub fn event_in(
+    d: Decoder,
+    devices: [Device; 64],
+    kind: u8,
+    code: u8,
+    time: u64,
+    table: &mut [u64; 2176],
+    bytes: &[u8],
+    device_rows: &[u64],
+    endpoint_rows: &[u64],
+    packets: &mut [u64],
+    events: &mut [u64],
+    transactions: &mut [u64],
+    groups: &mut [u64],
+    marks: &mut [u8],
+    states: &mut [u64],
+    items: &mut [u64],
+    links: &mut [u64],
+    requests: &[u64],
+) -> Inner
+    requires { ⌜ isIll (state d devices (now table) (logs (now bytes) (now «device_rows») (now «endpoint_rows») (now packets) (now events) (now transactions) (now groups) (now marks) (now states) (now items) (now links) (now requests))) ≡ false ⌝ }
+    requires { ⌜ d .finished ≡ false ⌝ }
+    requires { ⌜ kind ≤ 7 ⌝ }
+    ensures { λ r. ⌜ EventCall kind code time (state d devices (now (table .entry)) (logs (now (bytes .entry)) (now («device_rows» .entry)) (now («endpoint_rows» .entry)) (now (packets .entry)) (now (events .entry)) (now (transactions .entry)) (now (groups .entry)) (now (marks .entry)) (now (states .entry)) (now (items .entry)) (now (links .entry)) (now (requests .entry)))) (r .answer) (state (r .decoder) devices (now (table .exit)) (logs (now (bytes .exit)) (now («device_rows» .exit)) (now («endpoint_rows» .exit)) (now (packets .exit)) (now (events .exit)) (now (transactions .exit)) (now (groups .exit)) (now (marks .exit)) (now (states .exit)) (now (items .exit)) (now (links .exit)) (now (requests .exit)))) ⌝ }
+{
+    let room = room_of(
+        bytes.len(),
+        device_rows.len(),
+        endpoint_rows.len(),
+        packets.len(),
+        events.len(),
+        transactions.len(),
+        groups.len(),
+        marks.len(),
+        states.len(),
+        items.len(),
+        links.len(),
+        requests.len(),
+    );
+    known(table);
+    let n = d.counts;
+    let held = d.transaction;
+    let style = held.style;
+    let c = decide(d, devices, kind, table, room);
+    let sum = c.sum;
+    if !sum.fits {
+        return Inner {
+            answer: NO_ROOM,
+            decoder: d,
+        };
+    }
+    let end = c.end;
+    let turn = c.turn;
+    let act = turn.act;
+    let row = adds_row(act);
+    let group = adds_group(act, d.keepalive & !c.resets);
+    let start = starts_group(act);
+    let tally = settle(
+        c.resets,
+        end,
+        held.id,
+        start_pid(style),
+        tally_of(d),
+        n.endpoints,
+        table,
+        groups,
+        marks,
+        states,
+        items,
+        links,
+    );
+    put_event(n, row, code, time, packets, events, transactions);
+    let tally = event_rows(
+        row,
+        group,
+        start,
+        tally,
+        n.endpoints,
+        n.transactions as u64,
+        table,
+        groups,
+        states,
+        marks,
+        items,
+        links,
+    );
+    Inner {
+        answer: 0,
+        decoder: event_decoder(d, c.resets, turn, sum, tally),
+    }
+}
