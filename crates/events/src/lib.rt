@@ -36,7 +36,7 @@ fn first_tests(d: Decoder, devices: [Device; 64], table: &[u64; 2176], room: Cou
     0
 }
 
-// An event of this kind, with this code at this time. The devices are the caller's, in and out; the logs are in the order of 01's listing.
+// An event of this kind, with this code at this time. The devices are the caller's, in and out; the logs come in the order of their numbers (rules, Rows).
 pub fn event(
     d: Decoder,
     devices: [Device; 64],

@@ -1,4 +1,4 @@
--- What a packet leaves, as the code puts it together: the sum, the record, and the change of the devices. PacketLaws ties it to the rules.
+-- What a packet leaves, as the code puts it together: the sum, the record, and the change of the devices. proofs/Left.antt and proofs/Answers.antt tie it to the rules.
 use Prim.Native.Nat.{ℕ, _+_, _<_}
 use mathlib.Core.Bool.{Bool, true, false, _&&_, _||_, not}
 use mathlib.Core.List.{List, []}

@@ -39,7 +39,7 @@ fn first_tests(
     0
 }
 
-// The packet of these bytes at this time. The devices are the caller's, in and out; the logs are in the order of 01's listing.
+// The packet of these bytes at this time. The devices are the caller's, in and out; the logs come in the order of their numbers (rules, Rows).
 pub fn packet(
     d: Decoder,
     devices: [Device; 64],
