@@ -1,10 +1,11 @@
--- Demand 3 on the marks, after every sequence of calls.
+-- Demand 3 on the marks: what every call keeps (`Sound`), and what that gives; so it holds after every sequence of calls.
 use mathlib.Core.Path.{_≡_, refl, ap, _∙_}
 use mathlib.Core.Bool.{Bool, true, false}
 use mathlib.Core.List.{List, [], _++_}
 use Prim.Native.Nat.{ℕ, zero, suc, _+_, _<_, _≤_}
 use native.Mathlib.Omega.{arith}
-use lib.Dec.{eqb}
+use borrow.Author.Tests.{ltb-true, ltb-false}
+use lib.Dec.{eqb, ltb}
 use lib.ListN.{length, length-append}
 use Rattle.transaction.specs.Table.{pick}
 use Rattle.tables.specs.Details.{fresh}
@@ -30,11 +31,42 @@ pub record Sound (js : List Row) (w : World) : Type 0 where
   pub three : 3 ≤ c
   pub keeps : (e : ℕ) → Keeps js e c y (withJournal [] w)
 
-sound : (js : List Row) (w : World) (k : Call) → Sound js w → Sound (call k (withJournal [] w) .journal ++ js) (call k (withJournal [] w))
+-- a call keeps it
+pub sound : (js : List Row) (w : World) (k : Call) → Sound js w → Sound (call k (withJournal [] w) .journal ++ js) (call k (withJournal [] w))
 sound js w k s = record { c = m .c′; y = m .y′; fits = m .fits; three = m .three; keeps = λ e. m .keeps e (s .keeps e) }
   where
     m : Moves js (s .c) (s .y) (withJournal [] w) (call k (withJournal [] w))
     m = calls js (s .c) (s .y) (s .fits) (s .three) k (withJournal [] w) (s .keeps 0)
+
+-- an endpoint that is not there has no group
+none-there : {e c y : ℕ} (p : Phase) {g d k t n : ℕ} {ms : List Mark} → Holds e c y p g d k t n ms → c ≤ e → 3 ≤ c → (d′ : ℕ) → Holds e c y None 0 d′ k t n ms
+none-there None l h three d′ =
+    record { facts = rw (l .unused h) at (l .facts); inside = tt; unused = λ i. refl; quiet = λ i. refl; special = λ i. absurd (omega arith); size = l .size; target = l .target }
+none-there Early l h three d′ = let i = l .inside in absurd (omega arith)
+none-there Active l h three d′ = let i = l .inside in absurd (omega arith)
+none-there Ended l h three d′ = let i = l .inside in absurd (omega arith)
+
+-- v says what w says of every endpoint that is there, and of any other that it has no group
+pub record Like (w v : World) : Type 0 where
+  pub count : v .count ≡ w .count
+  pub target : v .transaction .endpoint ≡ w .transaction .endpoint
+  pub items : v .items ≡ w .items
+  pub there : (e : ℕ) → e < w .count → v .endpoints e ≡ w .endpoints e
+  pub beyond : (e : ℕ) → w .count ≤ e → (phase e v ≡ None) × (v .endpoints e .groups ≡ 0)
+
+pub sound-like : {js : List Row} {w v : World} → Like w v → Sound js w → Sound js v
+sound-like {js} {w} {v} a s = record { c = s .c; y = s .y; fits = s .fits; three = s .three; keeps = λ e. at e (ltb e (w .count)) refl }
+  where
+    rest : {e c y : ℕ} {p : Phase} {g d : ℕ} {ms : List Mark} → Holds e c y p g d (w .count) (w .transaction .endpoint) (w .items) ms → Holds e c y p g d (v .count) (v .transaction .endpoint) (v .items) ms
+    rest l = rw (a .count, a .target, a .items) l
+
+    at : (e : ℕ) (b : Bool) → ltb e (w .count) ≡ b → Keeps js e (s .c) (s .y) (withJournal [] v)
+    at e true h = let q : v .endpoints e ≡ w .endpoints e = a .there e (ltb-true e (w .count) h) in rw q (rest (s .keeps e))
+    at e false h =
+        let l = ltb-false e (w .count) h in
+        let z = s .keeps e .size in
+        let b = a .beyond e l in
+        rw (b .0, b .1) (rest (none-there (phase e w) (s .keeps e) (omega arith) (s .three) (v .endpoints e .address)))
 
 fresh-keeps : (e : ℕ) → Keeps (Decoder.fresh .journal) e 3 0 (withJournal [] Decoder.fresh)
 unfolding fresh
@@ -76,32 +108,42 @@ module _ {e g n : ℕ} {ms : List Mark} where
   stand Active d f = let a = f .grouped d in let b = f .counted d in let l = ended-length Active f in open-one (omega arith) (omega arith)
   stand Ended d f = let a = f .grouped d in let b = f .counted d in let l = ended-length Ended f in waiting-one (omega arith) (omega arith)
 
-pub demand3 : {js : List Row} {w : World} → Reach js w → (e : ℕ) → ¬ (e ≡ 0) → OnMarks e js
-demand3 {js} {w} r e d =
-    let l : Keeps js e (always r .c) (always r .y) (withJournal [] w) = always r .keeps e in
-    let f = l .facts in
-    record { standing = stand (phase e w) d f; ended = f .finished (length (endings (marks e js))) (ended-length (phase e w) f); closing = f .named; asserted = f .asserted }
+-- ---- what it gives
 
--- ---- what the world's own numbers say, for the crates above
-
+-- how many groups are not closed
 abbrev pub unclosed : Phase → ℕ
 unclosed None = 0
 unclosed Early = 1
 unclosed Active = 1
 unclosed Ended = 1
 
--- the groups of an endpoint are its G rows: those closed, and the one that its phase speaks of
-pub groups-are : {js : List Row} {w : World} → Reach js w → (e : ℕ) → ¬ (e ≡ 0) → (starts (marks e js) ≡ w .endpoints e .groups) × (w .endpoints e .groups ≡ length (closings (marks e js)) + unclosed (phase e w))
-groups-are {js} {w} r e d = (l .facts .grouped d, l .facts .counted d ∙ by (phase e w))
-  where
-    l : Keeps js e (always r .c) (always r .y) (withJournal [] w)
-    l = always r .keeps e
+-- of every endpoint but the event endpoint
+module _ {js : List Row} {w : World} (s : Sound js w) (e : ℕ) (d : ¬ (e ≡ 0)) where
+  kept : Keeps js e (s .c) (s .y) (withJournal [] w)
+  kept = s .keeps e
 
-    by : (p : Phase) → length (closings (marks e js)) + (extra (waitOf p) + one (openOf p)) ≡ length (closings (marks e js)) + unclosed p
-    by None = refl
-    by Early = refl
-    by Active = refl
-    by Ended = refl
+  pub on-marks : OnMarks e js
+  on-marks =
+      let f = kept .facts in
+      record { standing = stand (phase e w) d f; ended = f .finished (length (endings (marks e js))) (ended-length (phase e w) f); closing = f .named; asserted = f .asserted; turned = f .turned }
+
+  -- the groups of an endpoint are its G rows: those closed, and the one that its phase speaks of
+  pub groups-of : (starts (marks e js) ≡ w .endpoints e .groups) × (w .endpoints e .groups ≡ length (closings (marks e js)) + unclosed (phase e w))
+  groups-of = (kept .facts .grouped d, kept .facts .counted d ∙ by (phase e w))
+    where
+      by : (p : Phase) → length (closings (marks e js)) + (extra (waitOf p) + one (openOf p)) ≡ length (closings (marks e js)) + unclosed p
+      by None = refl
+      by Early = refl
+      by Active = refl
+      by Ended = refl
+
+-- ---- after every sequence of calls
+
+pub demand3 : {js : List Row} {w : World} → Reach js w → (e : ℕ) → ¬ (e ≡ 0) → OnMarks e js
+demand3 r = on-marks (always r)
+
+pub groups-are : {js : List Row} {w : World} → Reach js w → (e : ℕ) → ¬ (e ≡ 0) → (starts (marks e js) ≡ w .endpoints e .groups) × (w .endpoints e .groups ≡ length (closings (marks e js)) + unclosed (phase e w))
+groups-are r = groups-of (always r)
 
 -- the three special endpoints are there, and the transaction's endpoint is
 pub endpoints-there : {js : List Row} {w : World} → Reach js w → (3 ≤ w .count) × (w .transaction .endpoint < w .count)

@@ -2,9 +2,11 @@ pub mod Facts
 pub mod Loops
 pub mod Keeps
 pub mod Moves
+pub mod Counted
 pub mod Demand
 pub mod Links
 pub mod Seen
+pub mod Stands
 pub mod Linked
 pub mod Tokened
 pub mod Runs

@@ -176,7 +176,7 @@ resume-wakes Empty n w q = rw q tt
 resume-wakes Current n w q = rw q tt
 resume-wakes Suspended n w q = tt
 
-resume-links : (s : Slot) (n : ℕ) (w : World) → w .slot ≡ s → Linked w → Linked (resumeAt s n w)
+pub resume-links : (s : Slot) (n : ℕ) (w : World) → w .slot ≡ s → Linked w → Linked (resumeAt s n w)
 resume-links Empty n w q l = l
 resume-links Current n w q l = l
 resume-links Suspended n w q l = or-true (eqb (w .transaction .endpoint) 0)
@@ -186,7 +186,7 @@ awake-ends Empty b c w q a = rw q tt
 awake-ends Current b c w q a = tt
 awake-ends Suspended b c w q a = absurd a
 
-token-slot : (s : Style) (pid : ℕ) (p : List ℕ) (w : World) → appendToken s pid p w .slot ≡ w .slot
+pub token-slot : (s : Style) (pid : ℕ) (p : List ℕ) (w : World) → appendToken s pid p w .slot ≡ w .slot
 token-slot NoStyle pid p w = refl
 token-slot (Simple first) pid p w = refl
 token-slot (Split sc kind) pid p w = ap (λ (s : Seen). s .slot) (packet-seen pid p w)
@@ -268,7 +268,7 @@ token-links (Split sc kind) pid p w d l = absurd (d sc kind refl)
 token-links (Token sc kind first) pid p w d l = pid-links (w .slot) pid (w .transaction) (w .endpoints) l
 
 module _ (pid : ℕ) (p : List ℕ) where
-  extract-links : (s : Slot) (t : Transaction) (f : ℕ → Endpoint) → LinkedIn s t f → LinkedIn s (extractPayload t pid (length p) (setupDataOf p)) f
+  pub extract-links : (s : Slot) (t : Transaction) (f : ℕ → Endpoint) → LinkedIn s t f → LinkedIn s (extractPayload t pid (length p) (setupDataOf p)) f
   extract-links Empty t f l = tt
   extract-links Current t f l = let k = extract-keeps t pid (length p) (setupDataOf p) in rw (k .endpoint, k .linked) l
   extract-links Suspended t f l = let k = extract-keeps t pid (length p) (setupDataOf p) in rw (k .endpoint, k .linked) l

@@ -16,7 +16,7 @@ use Rattle.rules.specs.Demand.{Reach, linksOf, OnMarks, OnLinks, Quiet}
 use Rattle.rules.proofs.Facts.{Facts, extra}
 use Rattle.rules.proofs.Loops.{openOf, waitOf}
 use Rattle.rules.proofs.Keeps.{Keeps}
-use Rattle.rules.proofs.Demand.{always, demand3}
+use Rattle.rules.proofs.Demand.{Sound, always, on-marks}
 
 -- a row's words in the link log
 abbrev words : Row → List ℕ
@@ -157,19 +157,29 @@ module _ (e : ℕ) where
       length-append (log 9 js) (pick (eqb (written r .0) 9) (written r .1) [])
       ∙ (ap (λ (n : ℕ). n + length (pick (eqb (written r .0) 9) (written r .1) [])) (item-rows js) ∙ item-row r (marks e js))
 
+-- of what every call keeps
+module _ {js : List Row} {w : World} (s : Sound js w) where
+  pub links-of : (e : ℕ) → ¬ (e ≡ 0) → OnLinks e js
+  links-of e d =
+      let h : OnMarks e js = on-marks s e d in
+      record { standing = rw (start-rows e js, closing-rows e js) (h .standing); ended = h .ended; closing = rw (closing-rows e js) (h .closing); asserted = h .asserted; turned = h .turned }
+
+  pub event-of : Quiet js w
+  event-of = record { phases = l .quiet refl; endless = f .finished 0 (none (phase 0 w) (l .quiet refl)); unclosed = closing-rows 0 js ∙ f .unclosed refl }
+    where
+      l : Keeps js 0 (s .c) (s .y) (withJournal [] w)
+      l = s .keeps 0
+
+      f : Facts 0 (openOf (phase 0 w)) (waitOf (phase 0 w)) (w .endpoints 0 .groups) (w .items) (marks 0 js)
+      f = l .facts
+
+      none : (p : Phase) → p ≡ None → 0 ≡ length (closings (marks 0 js)) + extra (waitOf p)
+      none p q = let h : closings (marks 0 js) ≡ [] = f .unclosed refl in rw (q, h)
+
+-- ---- after every sequence of calls
+
 pub on-links : {js : List Row} {w : World} → Reach js w → (e : ℕ) → ¬ (e ≡ 0) → OnLinks e js
-on-links {js} r e d =
-    let h : OnMarks e js = demand3 r e d in
-    record { standing = rw (start-rows e js, closing-rows e js) (h .standing); ended = h .ended; closing = rw (closing-rows e js) (h .closing); asserted = h .asserted }
+on-links r = links-of (always r)
 
 pub event-endpoint : {js : List Row} {w : World} → Reach js w → Quiet js w
-event-endpoint {js} {w} r = record { phases = l .quiet refl; endless = f .finished 0 (none (phase 0 w) (l .quiet refl)); unclosed = closing-rows 0 js ∙ f .unclosed refl }
-  where
-    l : Keeps js 0 (always r .c) (always r .y) (withJournal [] w)
-    l = always r .keeps 0
-
-    f : Facts 0 (openOf (phase 0 w)) (waitOf (phase 0 w)) (w .endpoints 0 .groups) (w .items) (marks 0 js)
-    f = l .facts
-
-    none : (p : Phase) → p ≡ None → 0 ≡ length (closings (marks 0 js)) + extra (waitOf p)
-    none p q = let h : closings (marks 0 js) ≡ [] = f .unclosed refl in rw (q, h)
+event-endpoint r = event-of (always r)

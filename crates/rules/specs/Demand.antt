@@ -10,7 +10,7 @@ use Rattle.tables.specs.declared.Phase.the-variants.{None}
 use Rattle.rules.specs.Rows.{Row, log}
 use Rattle.rules.specs.World.{World, eventEp, phase, withJournal}
 use Rattle.rules.specs.Decoder.{fresh, handleRawPacket, handleEvent, handleDetail, finish}
-use Rattle.rules.specs.Marks.{Mark, marks, starts, endings, closings, First, Asserted}
+use Rattle.rules.specs.Marks.{Mark, marks, starts, endings, closings, First, Asserted, InTurn}
 
 -- a call that is not refused: bytes and time; kind, code and time; address, number, direction, type and max; finish
 pub data Call : Type 0 where
@@ -46,6 +46,8 @@ pub record Demand3 (started : ℕ) (closed : List ℕ) (ms : List Mark) : Type 0
   pub standing : Standing started (length (endings ms)) (length closed)
   -- the groups end in order, each once: 0, 1, 2 ..
   pub ended : endings ms ≡ upTo (length (endings ms))
+  -- each as the last that was started
+  pub turned : InTurn ms
   -- closing row k names the first item added after group k ended
   pub closing : (k : ℕ) → k < length closed → First k (getD closed k 0) ms
   -- and the Rust's assert holds at each closing row

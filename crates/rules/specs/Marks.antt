@@ -106,3 +106,12 @@ Asserted (started ∷ ms) = Asserted ms
 Asserted (ended k ∷ ms) = Asserted ms
 Asserted (item ∷ ms) = Asserted ms
 Asserted (closed i ∷ ms) = (lastEnded ms ≡ At (length (closings ms))) × Asserted ms
+
+-- a group that ends is the last that was started: where group k ends there are k + 1 G rows, so group k is the one of G row k
+abbrev pub InTurn : List Mark → Type 0
+InTurn [] = Unit {0}
+InTurn (other ∷ ms) = InTurn ms
+InTurn (started ∷ ms) = InTurn ms
+InTurn (ended k ∷ ms) = (starts ms ≡ suc k) × InTurn ms
+InTurn (item ∷ ms) = InTurn ms
+InTurn (closed i ∷ ms) = InTurn ms

@@ -1,6 +1,7 @@
--- 01, well formed: a transaction lacks an endpoint exactly if it is a split without its token. It holds after every sequence of calls (proofs/Tokened.antt).
+-- 01, well formed: a transaction lacks an endpoint exactly if it is a split without its token. Every call keeps it, where the special endpoints
+-- stand (proofs/Tokened.antt).
 use mathlib.Core.Path.{_≡_}
-use Prim.Native.Nat.{ℕ}
+use Prim.Native.Nat.{ℕ, _≤_}
 use Rattle.transaction.specs.declared.Style.{Style}
 use Rattle.transaction.specs.declared.Style.the-variants.{Nothing, Simple, Split, Token}
 use Rattle.rules.specs.World.{World}
@@ -21,3 +22,7 @@ TokenedIn Suspended s x = TokenedAt s x
 
 abbrev pub Tokened : World → Type 0
 Tokened w = TokenedIn (w .slot) (w .transaction .style) (w .transaction .endpoint)
+
+-- the special endpoints are there, and the event endpoint has its number, which no token has
+abbrev pub Stands : World → Type 0
+Stands w = (3 ≤ w .count) × (w .endpoints 0 .address ≡ 0x10)

@@ -81,7 +81,7 @@ pub record Parts (P : (World → World) → Type 0) (x : ℕ) : Type 0 where
   pub item : P (rules.addItem x)
 
 -- by what holds of a part that is perhaps done, and of two in a row
-by-parts : (P : (World → World) → Type 0) → ((b : Bool) (f : World → World) → P f → P (when b f)) → ((f h : World → World) → P f → P h → P (λ w. h (f w)))
+pub by-parts : (P : (World → World) → Type 0) → ((b : Bool) (f : World → World) → P f → P (when b f)) → ((f h : World → World) → P f → P h → P (λ w. h (f w)))
     → (x : ℕ) → Parts P x → (u : Update) → P (act u x)
 by-parts P may next x k u =
     next _ _ (next _ _ (next _ _ (next _ _ (next _ _ (next _ _ (may (u .over) (rules.over x) (k .over)) (may (u .cut) (endRow x) (k .cut))) (may (u .link) (rules.link x) (k .link))) (may (u .start) (startGroup x) (k .start))) (k .group (u .group))) (may (u .end) (endGroup x) (k .end))) (may (u .item) (rules.addItem x) (k .item))
