@@ -1,20 +1,41 @@
 -- Making a fresh decoder, over plain values: the room that the answer 0 tells, and the contract from its pieces.
-use Prim.Native.Nat.{ℕ, _≤_}
+use Prim.Native.Nat.{ℕ, _+_, _<_, _≤_}
 use native.Mathlib.Omega.{arith}
-use mathlib.Core.Path.{_≡_, ap}
+use mathlib.Core.Path.{_≡_, refl, sym, ap, _∙_}
+use mathlib.Core.Bool.{Bool, true, false}
 use mathlib.Core.List.{List}
-use lib.ListN.{length, set}
-use lib.Seq.{sets}
+use borrow.Author.Tests.{eqb-true, eqb-false}
+use lib.Dec.{eqb}
+use lib.ListN.{length, getD, set, length-replicate}
+use lib.Seq.{sets, getD-set-same, getD-set-other, ext-getD}
 use Rattle.tables.specs.Details as details
 use Rattle.tables.specs.declared.Device.{Device}
 use Rattle.rules.specs.Decoder.{fresh}
 use Rattle.rules.specs.Rows.{log}
-use Rattle.judge.specs.Fresh.{countsOf, freshDecoder, freshTable, refusedDecoder}
+use Rattle.judge.specs.Fresh.{countsOf, freshDecoder, clearTable, freshTable, refusedDecoder}
+use Rattle.judge.specs.FreshLaws.{clear-word}
 use Rattle.judge.specs.RoomLaws.{within}
 use Rattle.judge.specs.declared.Decoder.{Decoder}
 use Rattle.outcome.specs.State.{Logs, logs, state, roomBy, roomOf}
 use Rattle.calls.specs.Fresh.{freshAnswer, made, unmade, Makes}
 use Rattle.calls.specs.FreshLaws.{fitted}
+
+-- ---- the table is cleared
+
+-- one word more is 0
+pub cleared-next : (t : List ℕ) (i : ℕ) → i < length t → ((k : ℕ) → k < i → getD t k 0 ≡ 0) → (k : ℕ) → k < i + 1 → getD (set t i 0) k 0 ≡ 0
+cleared-next t i h z k l = at (eqb k i) refl
+  where
+    at : (b : Bool) → eqb k i ≡ b → getD (set t i 0) k 0 ≡ 0
+    at true e = let q = eqb-true k i e in rw q (getD-set-same t i 0 0 h)
+    at false e = let n = eqb-false k i e in getD-set-other t i k 0 0 n ∙ z k (omega arith)
+
+-- all of them are
+pub cleared-all : (t t₀ : List ℕ) → length t ≡ length t₀ → ((k : ℕ) → k < length t₀ → getD t k 0 ≡ 0) → t ≡ clearTable t₀
+cleared-all t t₀ e z =
+    ext-getD 0 t (clearTable t₀) (e ∙ sym (length-replicate (length t₀) 0)) (λ k l. z k (omega arith) ∙ sym (clear-word (length t₀) k))
+
+-- ---- the answer and the rows
 
 -- answer 0: there is room for one device and three endpoint rows
 pub roomy : (l : Logs) → freshAnswer (roomOf l) ≡ 0 → (1 ≤ length (l .devices)) × (9 ≤ length (l .endpoints))

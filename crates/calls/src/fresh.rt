@@ -13,6 +13,7 @@ use tables::details::EVENT_EP_NUM;
 use tables::details::FRAMING_EP_NUM;
 use tables::details::INVALID_EP_NUM;
 use tables::details::fresh_device;
+use tables::entry::sized;
 use tables::entry::store;
 ghost use mathlib.Core.Path.{_≡_};
 ghost use Prim.Native.Nat.{_≤_};
@@ -21,7 +22,7 @@ ghost use lib.Seq.{sets};
 ghost use Rattle.rules.specs.Decoder.{fresh};
 ghost use Rattle.rules.specs.Rows.{log};
 ghost use Rattle.rules.specs.World.{newEndpoint};
-ghost use Rattle.judge.specs.Fresh.{freshTable};
+ghost use Rattle.judge.specs.Fresh.{clearTable, freshTable};
 ghost use Rattle.outcome.specs.State.{logs, state};
 ghost use Rattle.calls.specs.Fresh.{freshAnswer, Makes};
 
@@ -65,10 +66,23 @@ fn special_endpoint(number: u8) -> Endpoint
     }
 }
 
-// The entries of the three special endpoints.
+// Every word 0: of what a caller left in the table no call of a fresh decoder sees anything.
+fn clear_table(table: &mut [u64; 2176])
+    ensures { λ r. ⌜ now (table .exit) ≡ clearTable (now (table .entry)) ⌝ }
+{
+    sized(table);
+    let mut i: usize = 0;
+    while i < 2176 {
+        table[i] = 0;
+        i += 1;
+    }
+}
+
+// The entries of the three special endpoints, in a cleared table.
 fn store_specials(table: &mut [u64; 2176])
     ensures { λ r. ⌜ now (table .exit) ≡ freshTable (now (table .entry)) ⌝ }
 {
+    clear_table(table);
     let event = special_endpoint(EVENT_EP_NUM);
     store(table, 0, event);
     let invalid = special_endpoint(INVALID_EP_NUM);

@@ -230,7 +230,7 @@ specials-stand n devices table s =
     (is-special _ _ (s .invalid)))
     (is-special _ _ (s .framing))
 
-resting : (p : Phase) → not (standing p) ≡ true → p ≡ None
+pub resting : (p : Phase) → not (standing p) ≡ true → p ≡ None
 resting None h = refl
 resting Early h = absurd (false≢true h)
 resting Active h = absurd (false≢true h)

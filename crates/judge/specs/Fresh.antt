@@ -2,7 +2,7 @@
 use Prim.Native.Nat.{ℕ}
 use mathlib.Core.Bool.{false}
 use mathlib.Core.List.{List}
-use lib.ListN.{set}
+use lib.ListN.{length, set, replicate}
 use Rattle.transaction.specs.declared.Style.the-variants.{Nothing}
 use Rattle.transaction.specs.declared.Transaction.{Transaction}
 use Rattle.tables.specs.Details.{fresh}
@@ -35,8 +35,12 @@ freshDecoder = idleWith (countsOf 1 3)
 abbrev pub freshDevices : List Device → List Device
 freshDevices devices = set devices 0 (fresh 0)
 
+-- all other words are 0, so that nothing a caller left in the lent table is seen by a later call
+abbrev pub clearTable : List ℕ → List ℕ
+clearTable table = replicate (length table) 0
+
 unfoldable pub freshTable : List ℕ → List ℕ
-freshTable table = storeAt (storeAt (storeAt table 0 (newEndpoint 0 0x10)) 1 (newEndpoint 0 0x11)) 2 (newEndpoint 0 0x12)
+freshTable table = storeAt (storeAt (storeAt (clearTable table) 0 (newEndpoint 0 0x10)) 1 (newEndpoint 0 0x11)) 2 (newEndpoint 0 0x12)
 
 -- "refused, it returns a record that every call answers 1": its first device does not stand
 abbrev pub refusedDecoder : Decoder

@@ -1,12 +1,12 @@
 -- A fresh decoder is well formed in every room that it fits, and stands for the world that the rules begin with; a refused one is well formed in none.
-use Prim.Native.Nat.{ℕ, zero, suc, _<_}
+use Prim.Native.Nat.{ℕ, zero, suc, _*_, _<_, _≤_}
 use native.Mathlib.Omega.{arith}
 use mathlib.Core.Path.{_≡_, refl, sym, ap, _∙_}
 use mathlib.Core.Bool.{Bool, true, false, false≢true}
 use mathlib.Core.Logic.{inl}
 use mathlib.Core.List.{List}
 use lib.Dec.{eqb}
-use lib.ListN.{length, getD}
+use lib.ListN.{length, getD, replicate, length-replicate}
 use lib.Seq.{getD-set-same}
 use Rattle.tables.specs.Details.{fresh}
 use Rattle.tables.specs.Phases.{inPhase, waiting}
@@ -21,9 +21,10 @@ use Rattle.rules.specs.Decoder as rules
 use Rattle.rules.specs.World.{newEndpoint}
 use Rattle.judge.specs.Formed.{wellFormed}
 use Rattle.judge.specs.FormedLaws.{EntryFormed, Stored, well, well-formed}
-use Rattle.judge.specs.Fresh.{countsOf, freshDecoder, freshDevices, freshTable, refusedDecoder}
+use Rattle.judge.specs.Fresh.{countsOf, freshDecoder, freshDevices, clearTable, freshTable, refusedDecoder}
 use Rattle.judge.specs.RoomLaws.{Within}
 use Rattle.judge.specs.StoredLaws.{stored-same, stored-other, length-store}
+use Rattle.judge.specs.TabledLaws.{store-past}
 use Rattle.judge.specs.World.{worldOf, Agrees}
 use Rattle.judge.specs.declared.Counts.{Counts}
 
@@ -48,17 +49,26 @@ numberAt zero = 0x10
 numberAt (suc zero) = 0x11
 numberAt (suc (suc i)) = 0x12
 
-module _ (table : List ℕ) (l : length table ≡ 2176) where
-  length-1 : length (storeAt table 0 (newEndpoint 0 0x10)) ≡ 2176
-  length-1 = length-store _ _ _ ∙ l
+-- a cleared table has no other word than 0
+pub clear-word : (n i : ℕ) → _≡_ {A = ℕ} (getD (replicate n 0) i 0) 0
+clear-word zero i = refl
+clear-word (suc n) zero = refl
+clear-word (suc n) (suc i) = clear-word n i
 
-  length-2 : length (storeAt (storeAt table 0 (newEndpoint 0 0x10)) 1 (newEndpoint 0 0x11)) ≡ 2176
+module _ (table : List ℕ) (l : length table ≡ 2176) where
+  length-0 : length (clearTable table) ≡ 2176
+  length-0 = length-replicate (length table) 0 ∙ l
+
+  length-1 : length (storeAt (clearTable table) 0 (newEndpoint 0 0x10)) ≡ 2176
+  length-1 = length-store _ _ _ ∙ length-0
+
+  length-2 : length (storeAt (storeAt (clearTable table) 0 (newEndpoint 0 0x10)) 1 (newEndpoint 0 0x11)) ≡ 2176
   length-2 = length-store _ _ _ ∙ length-1
 
   pub fresh-entry : (i : ℕ) → i < 3 → entryAt (freshTable table) i ≡ newEndpoint 0 (numberAt i)
   unfolding freshTable
   fresh-entry zero h =
-      load-store-other _ 2 0 _ (λ e. omega arith) ∙ (load-store-other _ 1 0 _ (λ e. omega arith) ∙ load-store-same table 0 _ l (omega arith) (new-fits 0x10 (omega arith)))
+      load-store-other _ 2 0 _ (λ e. omega arith) ∙ (load-store-other _ 1 0 _ (λ e. omega arith) ∙ load-store-same (clearTable table) 0 _ length-0 (omega arith) (new-fits 0x10 (omega arith)))
   fresh-entry (suc zero) h = load-store-other _ 2 1 _ (λ e. omega arith) ∙ load-store-same _ 1 _ length-1 (omega arith) (new-fits 0x11 (omega arith))
   fresh-entry (suc (suc zero)) h = load-store-same _ 2 _ length-2 (omega arith) (new-fits 0x12 (omega arith))
   fresh-entry (suc (suc (suc i))) h = absurd (omega arith)
@@ -66,10 +76,16 @@ module _ (table : List ℕ) (l : length table ≡ 2176) where
   pub fresh-stored : (i : ℕ) → i < 3 → Stored (freshTable table) i
   unfolding freshTable
   fresh-stored zero h =
-      stored-other _ 2 0 _ (λ e. omega arith) (stored-other _ 1 0 _ (λ e. omega arith) (stored-same table 0 _ l (omega arith) (new-fits 0x10 (omega arith))))
+      stored-other _ 2 0 _ (λ e. omega arith) (stored-other _ 1 0 _ (λ e. omega arith) (stored-same (clearTable table) 0 _ length-0 (omega arith) (new-fits 0x10 (omega arith))))
   fresh-stored (suc zero) h = stored-other _ 2 1 _ (λ e. omega arith) (stored-same _ 1 _ length-1 (omega arith) (new-fits 0x11 (omega arith)))
   fresh-stored (suc (suc zero)) h = stored-same _ 2 _ length-2 (omega arith) (new-fits 0x12 (omega arith))
   fresh-stored (suc (suc (suc i))) h = absurd (omega arith)
+
+  -- behind the three entries all is 0
+  pub fresh-beyond : (i : ℕ) → 3 * word.width ≤ i → getD (freshTable table) i 0 ≡ 0
+  unfolding freshTable
+  fresh-beyond i h =
+      store-past _ 2 _ i (omega arith) ∙ (store-past _ 1 _ i (omega arith) ∙ (store-past _ 0 _ i (omega arith) ∙ clear-word (length table) i))
 
   none-waits : waiting (freshTable table) 3 ≡ 0
   none-waits =

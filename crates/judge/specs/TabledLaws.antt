@@ -30,7 +30,7 @@ pub tabled-start : (n : ℕ) (t : List ℕ) → length t ≡ 2176 → ((i : ℕ)
 tabled-start n t l s = record { size = l; stored = s; beyond = λ i h. refl }
 
 -- a store leaves what stands behind its row
-store-past : (t : List ℕ) (x : ℕ) (e : Endpoint) (i : ℕ) → suc x * word.width ≤ i → getD (storeAt t x e) i 0 ≡ getD t i 0
+pub store-past : (t : List ℕ) (x : ℕ) (e : Endpoint) (i : ℕ) → suc x * word.width ≤ i → getD (storeAt t x e) i 0 ≡ getD t i 0
 unfolding storeAt
 store-past t x e i h = getD-sets-past (words e) t (x * word.width) i 0 (omega arith)
 

@@ -102,7 +102,7 @@ accepted {q} a e r l = record { answer = e; left = λ h. l; kept = λ h. absurd 
 
 -- ---- what the first test tells
 
-not-true : (b : Bool) → not b ≡ false → b ≡ true
+pub not-true : (b : Bool) → not b ≡ false → b ≡ true
 not-true true h = refl
 not-true false h = absurd (true≢false h)
 
