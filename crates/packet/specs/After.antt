@@ -95,13 +95,19 @@ decoderBy d p s h =
 
 -- ---- the devices
 
--- nothing changes: a row becomes what it was
+-- nothing changes: a row, the first, becomes what it was
+abbrev pub keeping : Device → Change
+keeping first = record { place = 0; row = first; at = 0; added = first }
+
 abbrev pub noChange : List Device → Change
-noChange v = record { place = 0; row = getD v 0 blank; at = 0; added = getD v 0 blank }
+noChange v = keeping (getD v 0 blank)
+
+abbrev pub begunBy : Plan → Device → Change
+begunBy p first =
+    pick (p .begin .device || p .begin .types) (record { place = p .begin .place; row = p .known; at = p .begin .place; added = p .known }) (keeping first)
 
 abbrev pub begunChange : Plan → List Device → Change
-begunChange p v =
-    pick (p .begin .device || p .begin .types) (record { place = p .begin .place; row = p .known; at = p .begin .place; added = p .known }) (noChange v)
+begunChange p v = begunBy p (getD v 0 blank)
 
 abbrev pub adding : ℕ → ℕ → Change → Change
 adding address at c = record { place = c .place; row = c .row; at = at; added = fresh address }
@@ -114,8 +120,11 @@ withAdded (PendingData n) at c = c
 withAdded (IndexData n waited i) at c = c
 
 -- behind n devices, and perhaps a new one
+abbrev pub changeBy : Plan → Device → ℕ → Change
+changeBy p first n = pick (p .closes) (withAdded (p .close .effect) (n + one (p .begin .device)) (begunBy p first)) (begunBy p first)
+
 abbrev pub changeOf : Plan → List Device → ℕ → Change
-changeOf p v n = pick (p .closes) (withAdded (p .close .effect) (n + one (p .begin .device)) (begunChange p v)) (begunChange p v)
+changeOf p v n = changeBy p (getD v 0 blank) n
 
 -- what the caller does with it
 unfoldable pub changed : Change → List Device → List Device

@@ -6,7 +6,7 @@ use tables::details::fresh_device;
 use tables::entry::flag_word;
 ghost use mathlib.Core.Path.{_≡_};
 ghost use Prim.Native.Nat.{_≤_};
-ghost use Rattle.packet.specs.After.{noChange, begunChange, adding, withAdded, changeOf};
+ghost use Rattle.packet.specs.After.{keeping, begunBy, adding, withAdded, changeBy};
 
 // Row `place` becomes `row`, then row `at` becomes `added`; where nothing changes, a row becomes what it was.
 pub struct Change {
@@ -16,10 +16,10 @@ pub struct Change {
     pub added: Device,
 }
 
-pub fn no_change(devices: [Device; 64]) -> Change
-    ensures { λ r. ⌜ r ≡ noChange devices ⌝ }
+// Where nothing changes; first is the first row.
+pub fn no_change(first: Device) -> Change
+    ensures { λ r. ⌜ r ≡ keeping first ⌝ }
 {
-    let first = devices[0];
     Change {
         place: 0,
         row: first,
@@ -29,8 +29,8 @@ pub fn no_change(devices: [Device; 64]) -> Change
 }
 
 // That of the step that begins.
-fn begun_change(plan: Plan, devices: [Device; 64]) -> Change
-    ensures { λ r. ⌜ r ≡ begunChange plan devices ⌝ }
+fn begun_change(plan: Plan, first: Device) -> Change
+    ensures { λ r. ⌜ r ≡ begunBy plan first ⌝ }
 {
     let begin = plan.begin;
     let known = plan.known;
@@ -43,7 +43,7 @@ fn begun_change(plan: Plan, devices: [Device; 64]) -> Change
             added: known,
         }
     } else {
-        no_change(devices)
+        no_change(first)
     }
 }
 
@@ -70,14 +70,14 @@ fn with_added(effect: Effect, at: usize, c: Change) -> Change
 }
 
 // Of a packet with these steps, where there are n devices.
-pub fn change_of(plan: Plan, devices: [Device; 64], n: usize) -> Change
+pub fn change_of(plan: Plan, first: Device, n: usize) -> Change
     requires { ⌜ n ≤ 64 ⌝ }
-    ensures { λ r. ⌜ r ≡ changeOf plan devices n ⌝ }
+    ensures { λ r. ⌜ r ≡ changeBy plan first n ⌝ }
 {
     let begin = plan.begin;
     let close = plan.close;
     let effect = close.effect;
-    let begun = begun_change(plan, devices);
+    let begun = begun_change(plan, first);
     if plan.closes {
         with_added(effect, n + flag_word(begin.device) as usize, begun)
     } else {

@@ -12,11 +12,11 @@ use outcome::known;
 use outcome::room_of;
 use perform::Hand;
 use perform::perform;
-use plan::plan_packet;
+use plan::near::Near;
+use plan::plan_near;
 use rules::EventState;
 use rules::Slot;
 use steps::Plan;
-use tables::Device;
 use transaction::Transaction;
 use transaction::payload::start_pid;
 use write::Tally;
@@ -27,12 +27,12 @@ ghost use Prim.Native.Nat.{_+_, _*_, _≤_, _^_};
 ghost use lib.ListN.{length};
 ghost use lib.Seq.{sets};
 ghost use Rattle.rules.specs.Transactions.{isDropped};
-ghost use Rattle.outcome.specs.Outcome.{isIll};
 ghost use Rattle.outcome.specs.State.{state, logs};
 ghost use Rattle.packet.specs.Call.{PacketCall};
 ghost use Rattle.reckon.specs.Tallies.{Under};
 ghost use Rattle.packet.specs.After.{handOf, tied, droppedDecoder, decoderBy, changed, Placed};
 ghost use Rattle.packet.specs.Dropped.{Drops};
+ghost use Rattle.packet.specs.Lent.{SomeLent, ForLent};
 
 // What the call leaves; the devices are the caller's, who makes the change.
 pub struct Inner {
@@ -171,10 +171,10 @@ fn drop_packet(
     }
 }
 
-// The packet of these bytes at this time.
+// The packet of these bytes at this time; of the devices it is given the rows that it goes by.
 pub fn packet_in(
     d: Decoder,
-    devices: [Device; 64],
+    near: Near,
     packet: &[u8],
     time: u64,
     table: &mut [u64; 2176],
@@ -191,11 +191,11 @@ pub fn packet_in(
     links: &mut [u64],
     requests: &mut [u64],
 ) -> Inner
-    requires { ⌜ isIll (state d devices (now table) (logs (now bytes) (now «device_rows») (now «endpoint_rows») (now packets) (now events) (now transactions) (now groups) (now marks) (now states) (now items) (now links) (now requests))) ≡ false ⌝ }
+    requires { ⌜ SomeLent near (now packet) d (now table) (logs (now bytes) (now «device_rows») (now «endpoint_rows») (now packets) (now events) (now transactions) (now groups) (now marks) (now states) (now items) (now links) (now requests)) ⌝ }
     requires { ⌜ d .finished ≡ false ⌝ }
     requires { ⌜ length (now packet) ≤ 4096 ⌝ }
     ensures { λ r. ⌜ Placed (r .change) ⌝ }
-    ensures { λ r. ⌜ PacketCall (now (packet .entry)) time (state d devices (now (table .entry)) (logs (now (bytes .entry)) (now («device_rows» .entry)) (now («endpoint_rows» .entry)) (now (packets .entry)) (now (events .entry)) (now (transactions .entry)) (now (groups .entry)) (now (marks .entry)) (now (states .entry)) (now (items .entry)) (now (links .entry)) (now (requests .entry)))) (r .answer) (state (r .decoder) (changed (r .change) devices) (now (table .exit)) (logs (now (bytes .exit)) (now («device_rows» .exit)) (now («endpoint_rows» .exit)) (now (packets .exit)) (now (events .entry)) (now (transactions .exit)) (now (groups .exit)) (now (marks .exit)) (now (states .exit)) (now (items .exit)) (now (links .exit)) (now (requests .exit)))) ⌝ }
+    ensures { λ r. ⌜ ForLent near (now (packet .entry)) d (now (table .entry)) (logs (now (bytes .entry)) (now («device_rows» .entry)) (now («endpoint_rows» .entry)) (now (packets .entry)) (now (events .entry)) (now (transactions .entry)) (now (groups .entry)) (now (marks .entry)) (now (states .entry)) (now (items .entry)) (now (links .entry)) (now (requests .entry))) (λ v. PacketCall (now (packet .entry)) time (state d v (now (table .entry)) (logs (now (bytes .entry)) (now («device_rows» .entry)) (now («endpoint_rows» .entry)) (now (packets .entry)) (now (events .entry)) (now (transactions .entry)) (now (groups .entry)) (now (marks .entry)) (now (states .entry)) (now (items .entry)) (now (links .entry)) (now (requests .entry)))) (r .answer) (state (r .decoder) (changed (r .change) v) (now (table .exit)) (logs (now (bytes .exit)) (now («device_rows» .exit)) (now («endpoint_rows» .exit)) (now (packets .exit)) (now (events .entry)) (now (transactions .exit)) (now (groups .exit)) (now (marks .exit)) (now (states .exit)) (now (items .exit)) (now (links .exit)) (now (requests .exit))))) ⌝ }
 {
     let room = room_of(
         bytes.len(),
@@ -219,11 +219,12 @@ pub fn packet_in(
     bytes_known(packet);
     let style = held.style;
     let _token = start_pid(style);
-    let none = no_change(devices);
+    let first = near.first;
+    let none = no_change(first);
     if is_dropped(slot, held) {
         return drop_packet(d, none, packet, time, room, bytes, packets);
     }
-    let plan = plan_packet(d, devices, table, packet);
+    let plan = plan_near(d, near, table, packet);
     let sum = sum_plan(d, plan, packet.len(), room);
     if sum.answer != 0 {
         return Inner {
@@ -232,7 +233,7 @@ pub fn packet_in(
             change: none,
         };
     }
-    let change = change_of(plan, devices, n.devices);
+    let change = change_of(plan, first, n.devices);
     put_packet(n, packet, time, bytes, packets);
     let hand = perform(
         plan,

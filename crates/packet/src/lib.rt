@@ -9,6 +9,7 @@ use judge::Decoder;
 use outcome::Called;
 use outcome::is_ill;
 use outcome::room_of;
+use plan::near::look;
 use tables::Device;
 ghost use mathlib.Core.Path.{_≡_};
 ghost use Rattle.outcome.specs.State.{state, logs};
@@ -83,9 +84,10 @@ pub fn packet(
             devices,
         };
     }
+    let near = look(d, devices, table, packet);
     let r = packet_in(
         d,
-        devices,
+        near,
         packet,
         time,
         table,

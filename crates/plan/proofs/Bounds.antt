@@ -117,7 +117,7 @@ module _ (d : Decoder) (devices : List Device) (table : List ℕ) (r : Ready d t
     place-small pid packet = by (found pid packet world) refl
       where
         by : (f : Found) → f ≡ found pid packet world → Small k (placeAt f x0 e0 pid packet world .entry)
-        by (At i) q = by-small i (found-at world (r .three) pid packet (At i) i q refl)
+        by (At i) q = by-small i (found-at world (r .three) (deviceFor (tokenOf packet .address) world) pid packet (At i) i q refl)
         by Missing q = new-small (deviceFor (tokenOf packet .address) world) (tokenOf packet .address) (addressFor pid (tokenOf packet .number))
 
     starting-small : (s : Status) (pid : ℕ) (packet : List ℕ) (n : ℕ) → Small k (starting s x0 e0 pid packet n world .entry)

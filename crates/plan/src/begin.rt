@@ -2,6 +2,7 @@
 use crate::bytes::split_kind;
 use crate::bytes::split_sc;
 use crate::bytes::token_of;
+use crate::near::Near;
 use crate::place::INVALID_EP_ID;
 use crate::place::packet_endpoint;
 use crate::place::stand_at;
@@ -26,10 +27,11 @@ use usb::pid::MALFORMED;
 use usb::pid::SPLIT;
 ghost use mathlib.Core.Path.{_≡_};
 ghost use Prim.Native.Nat.{_<_};
+ghost use Rattle.tables.specs.Table.{entryAt};
 ghost use Rattle.rules.specs.World.{withPid, withToken};
-ghost use Rattle.judge.specs.World.{worldOf};
-ghost use Rattle.steps.specs.Packet.{none, going, startBy, updateFor, typeBy, startOn, startSplit, startPlain, starting, withTokenOn, goingOn, appending, middleOf};
+ghost use Rattle.steps.specs.Packet.{none, going, startBy, updateFor, typeBy, startOn, startSplit, startPlain, starting, withTokenOn, appending, middleOf};
 ghost use Rattle.plan.specs.Ready.{Ready};
+ghost use Rattle.plan.specs.Near.{ForSeen, standingOn, goingBy};
 
 fn no_update() -> Update
     ensures { λ r. ⌜ r ≡ none ⌝ }
@@ -166,23 +168,24 @@ fn transaction_start(
     packet: &[u8],
     n: u64,
     d: Decoder,
-    devices: [Device; 64],
+    near: Near,
     table: &[u64; 2176],
 ) -> Middle
     requires { ⌜ Ready d (now table) ⌝ }
-    ensures { λ r. ⌜ r ≡ starting status x0 e0 pid (now (packet .entry)) n (worldOf d devices (now (table .entry))) ⌝ }
+    ensures { λ r. ⌜ ForSeen near x0 (now (packet .entry)) d (now (table .entry)) (λ w. r ≡ starting status x0 e0 pid (now (packet .entry)) n w) ⌝ }
 {
+    let first = near.first;
     match pid {
         MALFORMED => {
-            let p = stand_at(x0, e0, INVALID_EP_ID, d, devices, table);
+            let p = stand_at(x0, e0, INVALID_EP_ID, first, table);
             start_on(status, p, kind::UNKNOWN, 0, pid, n)
         }
         SPLIT => {
-            let p = stand_at(x0, e0, INVALID_EP_ID, d, devices, table);
+            let p = stand_at(x0, e0, INVALID_EP_ID, first, table);
             start_split(packet, pid, n, p)
         }
         _ => {
-            let p = packet_endpoint(x0, e0, pid, packet, d, devices, table);
+            let p = packet_endpoint(x0, e0, pid, packet, d, near, table);
             start_plain(status, p, pid, packet, n)
         }
     }
@@ -252,22 +255,20 @@ fn with_token_on(
     }
 }
 
-// Any other packet: the transaction stays on its endpoint.
+// Any other packet: the transaction stays on its endpoint, whose device's row is known.
 fn append_on(
     status: Status,
     x0: usize,
     e0: Endpoint,
     pid: u8,
     b: Transaction,
-    d: Decoder,
-    devices: [Device; 64],
+    known: Device,
     table: &[u64; 2176],
 ) -> Middle
-    requires { ⌜ Ready d (now table) ⌝ }
-    requires { ⌜ x0 < d .counts .endpoints ⌝ }
-    ensures { λ r. ⌜ r ≡ goingOn status x0 e0 pid b (worldOf d devices (now (table .entry))) ⌝ }
+    requires { ⌜ x0 < 128 ⌝ }
+    ensures { λ r. ⌜ r ≡ goingBy status (standingOn x0 e0 x0 known (entryAt (now (table .entry)) x0)) pid b ⌝ }
 {
-    let p = stand_at(x0, e0, x0, d, devices, table);
+    let p = stand_at(x0, e0, x0, known, table);
     let entry = p.entry;
     let known = p.known;
     let t = with_pid(pid, b);
@@ -290,23 +291,24 @@ fn transaction_append(
     packet: &[u8],
     b: Transaction,
     d: Decoder,
-    devices: [Device; 64],
+    near: Near,
     table: &[u64; 2176],
 ) -> Middle
     requires { ⌜ Ready d (now table) ⌝ }
     requires { ⌜ x0 < d .counts .endpoints ⌝ }
-    ensures { λ r. ⌜ r ≡ appending status x0 e0 pid (now (packet .entry)) b (worldOf d devices (now (table .entry))) ⌝ }
+    ensures { λ r. ⌜ ForSeen near x0 (now (packet .entry)) d (now (table .entry)) (λ w. r ≡ appending status x0 e0 pid (now (packet .entry)) b w) ⌝ }
 {
     let style = b.style;
+    let old = near.old;
     match style {
-        Style::Nothing => append_on(status, x0, e0, pid, b, d, devices, table),
-        Style::Simple(_) => append_on(status, x0, e0, pid, b, d, devices, table),
+        Style::Nothing => append_on(status, x0, e0, pid, b, old, table),
+        Style::Simple(_) => append_on(status, x0, e0, pid, b, old, table),
         Style::Split(sc, kind) => {
-            let p = packet_endpoint(x0, e0, pid, packet, d, devices, table);
+            let p = packet_endpoint(x0, e0, pid, packet, d, near, table);
             let token = token_of(packet);
             with_token_on(status, p, sc, kind, token.address, pid, b)
         }
-        Style::Token(_, _, _) => append_on(status, x0, e0, pid, b, d, devices, table),
+        Style::Token(_, _, _) => append_on(status, x0, e0, pid, b, old, table),
     }
 }
 
@@ -320,20 +322,20 @@ pub fn middle_of(
     n: u64,
     b: Transaction,
     d: Decoder,
-    devices: [Device; 64],
+    near: Near,
     table: &[u64; 2176],
 ) -> Middle
     requires { ⌜ Ready d (now table) ⌝ }
     requires { ⌜ x0 < d .counts .endpoints ⌝ }
-    ensures { λ r. ⌜ r ≡ middleOf status x0 e0 pid (now (packet .entry)) n b (worldOf d devices (now (table .entry))) ⌝ }
+    ensures { λ r. ⌜ ForSeen near x0 (now (packet .entry)) d (now (table .entry)) (λ w. r ≡ middleOf status x0 e0 pid (now (packet .entry)) n b w) ⌝ }
 {
     match status {
-        Status::New => transaction_start(status, x0, e0, pid, packet, n, d, devices, table),
-        Status::Continue => transaction_append(status, x0, e0, pid, packet, b, d, devices, table),
-        Status::Retry => transaction_append(status, x0, e0, pid, packet, b, d, devices, table),
-        Status::Done => transaction_append(status, x0, e0, pid, packet, b, d, devices, table),
-        Status::Fail => transaction_append(status, x0, e0, pid, packet, b, d, devices, table),
-        Status::Ambiguous => transaction_append(status, x0, e0, pid, packet, b, d, devices, table),
-        Status::Invalid => transaction_start(status, x0, e0, pid, packet, n, d, devices, table),
+        Status::New => transaction_start(status, x0, e0, pid, packet, n, d, near, table),
+        Status::Continue => transaction_append(status, x0, e0, pid, packet, b, d, near, table),
+        Status::Retry => transaction_append(status, x0, e0, pid, packet, b, d, near, table),
+        Status::Done => transaction_append(status, x0, e0, pid, packet, b, d, near, table),
+        Status::Fail => transaction_append(status, x0, e0, pid, packet, b, d, near, table),
+        Status::Ambiguous => transaction_append(status, x0, e0, pid, packet, b, d, near, table),
+        Status::Invalid => transaction_start(status, x0, e0, pid, packet, n, d, near, table),
     }
 }

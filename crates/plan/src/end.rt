@@ -1,6 +1,5 @@
 // The end of a transaction (group_update), and what it leaves of the endpoint's entry.
 use group::group_status;
-use judge::Decoder;
 use steps::End;
 use steps::Middle;
 use tables::Detail;
@@ -17,12 +16,12 @@ use update::entry::transaction_update;
 ghost use mathlib.Core.Path.{_≡_};
 ghost use mathlib.Core.Bool.{false};
 ghost use Prim.Native.Nat.{_<_, _^_};
-ghost use Rattle.rules.specs.Endpoints.{detailOf};
+ghost use Rattle.tables.specs.Details.{detailsOf};
+ghost use Rattle.tables.specs.Table.{entryAt};
 ghost use Rattle.update.specs.Entry.{itemAfter};
-ghost use Rattle.judge.specs.World.{worldOf};
 ghost use Rattle.steps.specs.Step.{endOf};
 ghost use Rattle.steps.specs.Packet.{closeOf, entryEnded, lastEnded};
-ghost use Rattle.plan.specs.Ready.{Ready, Small};
+ghost use Rattle.plan.specs.Ready.{Small};
 
 // Of a transaction t on the endpoint x with the entry e; last is the last item's endpoint.
 fn end_of(
@@ -49,24 +48,21 @@ fn end_of(
     }
 }
 
-// The end of the old transaction, neither with success nor complete.
+// The end of the old transaction, neither with success nor complete; known is the row of its endpoint's device.
 pub fn end_at(
     x: usize,
     e: Endpoint,
     t: Transaction,
-    d: Decoder,
-    devices: [Device; 64],
+    last: usize,
+    known: Device,
     table: &[u64; 2176],
 ) -> End
-    requires { ⌜ Ready d (now table) ⌝ }
-    requires { ⌜ x < d .counts .endpoints ⌝ }
-    ensures { λ r. ⌜ r ≡ endOf x e t (detailOf x (worldOf d devices (now (table .entry)))) (d .last) false false ⌝ }
+    requires { ⌜ x < 128 ⌝ }
+    ensures { λ r. ⌜ r ≡ endOf x e t (detailsOf known (entryAt (now (table .entry)) x .address)) last false false ⌝ }
 {
     let stored = load(table, x);
-    let place = stored.device as usize;
-    let known = devices[place];
     let detail = endpoint_details(known, stored.address);
-    end_of(x, e, t, detail, d.last, false, false)
+    end_of(x, e, t, detail, last, false, false)
 }
 
 // The last item's endpoint after an update of endpoint x.

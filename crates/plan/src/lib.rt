@@ -2,6 +2,7 @@
 mod begin;
 mod bytes;
 mod end;
+pub mod near;
 mod place;
 mod slot;
 mod status;
@@ -13,6 +14,8 @@ use crate::end::close_of;
 use crate::end::end_at;
 use crate::end::entry_ended;
 use crate::end::last_ended;
+use crate::near::Near;
+use crate::near::look;
 use crate::slot::current_endpoint;
 use crate::slot::entry_then;
 use crate::slot::is_suspended;
@@ -47,9 +50,10 @@ ghost use Rattle.rows.specs.Sets.{one};
 ghost use Rattle.rules.specs.World.{withId};
 ghost use Rattle.update.specs.Update.{decideResume};
 ghost use Rattle.judge.specs.World.{worldOf};
-ghost use Rattle.steps.specs.Packet.{resumes, going, planBy, planOf};
+ghost use Rattle.steps.specs.Packet.{resumes, oldEndpoint, going, planBy, planOf};
 ghost use Rattle.steps.specs.Ending.{endingOf};
 ghost use Rattle.plan.specs.Ready.{Ready, Small};
+ghost use Rattle.plan.specs.Near.{Taken, ForSeen};
 
 // A suspended transaction is resumed, in a row of its own.
 fn resume_of(d: Decoder) -> Begin
@@ -79,13 +83,14 @@ fn plan_by(
     t: Transaction,
     packet: &[u8],
     d: Decoder,
-    devices: [Device; 64],
+    near: Near,
     table: &[u64; 2176],
 ) -> Plan
     requires { ⌜ Ready d (now table) ⌝ }
     requires { ⌜ x0 < d .counts .endpoints ⌝ }
     requires { ⌜ Small (2 ^ 61) e ⌝ }
-    ensures { λ r. ⌜ r ≡ planBy j x0 e t (now (packet .entry)) (worldOf d devices (now (table .entry))) ⌝ }
+    requires { ⌜ Taken near x0 (now packet) d (now table) ⌝ }
+    ensures { λ r. ⌜ ForSeen near x0 (now (packet .entry)) d (now (table .entry)) (λ w. r ≡ planBy j x0 e t (now (packet .entry)) w) ⌝ }
 {
     let status = j.status;
     let pid = j.pid;
@@ -93,12 +98,13 @@ fn plan_by(
     let style = t.style;
     let brought = extract_payload(t, pid, packet.len(), setup_of(packet));
     let token = brought.style;
-    let end = end_at(x0, e, brought, d, devices, table);
+    let old = near.old;
+    let end = end_at(x0, e, brought, d.last, old, table);
     let ends = is_new(status) & (x0 != 0);
     let e0 = entry_ended(ends, end, start_pid(token), e);
     let last = last_ended(ends, end, x0, d.last);
     let n = next_row(d);
-    let m = middle_of(status, x0, e0, pid, packet, n, brought, d, devices, table);
+    let m = middle_of(status, x0, e0, pid, packet, n, brought, d, near, table);
     let begin = m.begin;
     let known = m.known;
     let own = begin.transaction;
@@ -117,10 +123,11 @@ fn plan_by(
     }
 }
 
-// The steps of a packet.
-pub fn plan_packet(d: Decoder, devices: [Device; 64], table: &[u64; 2176], packet: &[u8]) -> Plan
+// The steps of a packet, by the rows that were taken for it.
+pub fn plan_near(d: Decoder, near: Near, table: &[u64; 2176], packet: &[u8]) -> Plan
     requires { ⌜ Ready d (now table) ⌝ }
-    ensures { λ r. ⌜ r ≡ planOf (now (packet .entry)) (worldOf d devices (now (table .entry))) ⌝ }
+    requires { ⌜ Taken near (oldEndpoint (d .slot) (d .transaction)) (now packet) d (now table) ⌝ }
+    ensures { λ r. ⌜ ForSeen near (oldEndpoint (d .slot) (d .transaction)) (now (packet .entry)) d (now (table .entry)) (λ w. r ≡ planOf (now (packet .entry)) w) ⌝ }
 {
     let counts = d.counts;
     let slot = d.slot;
@@ -130,7 +137,16 @@ pub fn plan_packet(d: Decoder, devices: [Device; 64], table: &[u64; 2176], packe
     let t = transaction_then(slot, counts.transactions as u64, stored, held);
     let j = transaction_status(state_at(slot_then(slot), t), packet);
     let e = entry_then(slot, stored);
-    plan_by(j, x0, e, t, packet, d, devices, table)
+    plan_by(j, x0, e, t, packet, d, near, table)
+}
+
+// The steps of a packet.
+pub fn plan_packet(d: Decoder, devices: [Device; 64], table: &[u64; 2176], packet: &[u8]) -> Plan
+    requires { ⌜ Ready d (now table) ⌝ }
+    ensures { λ r. ⌜ r ≡ planOf (now (packet .entry)) (worldOf d devices (now (table .entry))) ⌝ }
+{
+    let near = look(d, devices, table, packet);
+    plan_near(d, near, table, packet)
 }
 
 // The end of the current transaction, by an event or by finish.
@@ -142,7 +158,9 @@ pub fn plan_ending(d: Decoder, devices: [Device; 64], table: &[u64; 2176]) -> En
     let t = d.transaction;
     let x = current_endpoint(slot, t);
     let e = load(table, x);
-    let end = end_at(x, e, t, d, devices, table);
+    let place = e.device as usize;
+    let known = devices[place];
+    let end = end_at(x, e, t, d.last, known, table);
     Ending {
         ends: x != 0,
         old: x,

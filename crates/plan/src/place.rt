@@ -1,5 +1,6 @@
 // The endpoint of a packet (packet_endpoint of decoder.rs and of capture.rs), found but not added.
 use crate::bytes::token_of;
+use crate::near::Near;
 use judge::Decoder;
 use steps::Place;
 use tables::Device;
@@ -8,7 +9,6 @@ use tables::Found;
 use tables::Phase;
 use tables::details::fresh_device;
 use tables::entry::load;
-use tables::find::find_device;
 use tables::find::find_endpoint;
 use usb::pid::IN;
 use usb::pid::OUT;
@@ -21,10 +21,12 @@ ghost use Prim.Native.Nat.{_<_, _≤_};
 ghost use Rattle.usb.specs.Pid.{SETUP, IN, OUT, PING};
 ghost use Rattle.transaction.specs.Table.{pick, only, _or_};
 ghost use Rattle.rules.specs.World.{newEndpoint};
-ghost use Rattle.rules.specs.Endpoints.{addressFor, deviceFor, endpointLookup, found};
+ghost use Rattle.tables.specs.Table.{entryAt};
+ghost use Rattle.rules.specs.Endpoints.{addressFor, endpointLookup};
 ghost use Rattle.judge.specs.World.{worldOf};
-ghost use Rattle.steps.specs.Packet.{standing, newOn, placeOf};
+ghost use Rattle.steps.specs.Packet.{placeOf};
 ghost use Rattle.plan.specs.Ready.{Ready};
+ghost use Rattle.plan.specs.Near.{ForSeen, foundOn, standingOn, newBy, rowFor};
 ghost use lib.Dec.{eqb};
 
 // INVALID_EP_ID and FRAMING_EP_ID of the Rust.
@@ -64,24 +66,17 @@ fn endpoint_lookup(device: Found, address: u8, d: Decoder, table: &[u64; 2176]) 
 }
 
 // packet_endpoint of capture.rs.
-fn find_place(
-    pid: u8,
-    packet: &[u8],
-    d: Decoder,
-    devices: [Device; 64],
-    table: &[u64; 2176],
-) -> Found
-    requires { ⌜ Ready d (now table) ⌝ }
-    ensures { λ r. ⌜ r ≡ found pid (now (packet .entry)) (worldOf d devices (now (table .entry))) ⌝ }
+fn find_place(pid: u8, packet: &[u8], d: Decoder, near: Near, table: &[u64; 2176]) -> Found
+    requires { ⌜ d .counts .endpoints ≤ 128 ⌝ }
+    ensures { λ r. ⌜ r ≡ foundOn (near .found) pid (now (packet .entry)) (worldOf d [] (now (table .entry))) ⌝ }
 {
     if pid == SOF {
         return Found::At(FRAMING_EP_ID);
     }
     if is_token(pid) {
-        let counts = d.counts;
         let token = token_of(packet);
         let address = address_for(pid, token.number);
-        let device = find_device(devices, counts.devices, token.address);
+        let device = near.found;
         endpoint_lookup(device, address, d, table)
     } else {
         Found::At(INVALID_EP_ID)
@@ -95,22 +90,13 @@ fn entry_by(x0: usize, e0: Endpoint, i: usize, e: Endpoint) -> Endpoint
     if i == x0 { e0 } else { e }
 }
 
-// An endpoint that is there.
-pub fn stand_at(
-    x0: usize,
-    e0: Endpoint,
-    i: usize,
-    d: Decoder,
-    devices: [Device; 64],
-    table: &[u64; 2176],
-) -> Place
-    requires { ⌜ Ready d (now table) ⌝ }
-    requires { ⌜ i < d .counts .endpoints ⌝ }
-    ensures { λ r. ⌜ r ≡ standing x0 e0 i (worldOf d devices (now (table .entry))) ⌝ }
+// An endpoint that is there, with its device's row.
+pub fn stand_at(x0: usize, e0: Endpoint, i: usize, known: Device, table: &[u64; 2176]) -> Place
+    requires { ⌜ i < 128 ⌝ }
+    ensures { λ r. ⌜ r ≡ standingOn x0 e0 i known (entryAt (now (table .entry)) i) ⌝ }
 {
     let e = load(table, i);
     let place = e.device as usize;
-    let known = devices[place];
     let number = e.address;
     let entry = entry_by(x0, e0, i, e);
     Place {
@@ -150,16 +136,15 @@ fn new_endpoint(device: u64, address: u8) -> Endpoint
 }
 
 // A new endpoint (add_endpoint), with a new device where the address has none.
-fn new_on(owner: u8, address: u8, d: Decoder, devices: [Device; 64]) -> Place
-    requires { ⌜ d .counts .devices ≤ 64 ⌝ }
-    ensures { λ r. ⌜ r ≡ newOn (deviceFor owner (worldOf d devices [])) owner address (worldOf d devices []) ⌝ }
+fn new_on(owner: u8, address: u8, d: Decoder, near: Near) -> Place
+    ensures { λ r. ⌜ r ≡ newBy (near .found) (near .row) owner address (d .counts) ⌝ }
 {
     let counts = d.counts;
     let x = counts.endpoints;
-    let found = find_device(devices, counts.devices, owner);
+    let found = near.found;
     match found {
         Found::At(place) => {
-            let known = devices[place];
+            let known = near.row;
             let entry = new_endpoint(place as u64, address);
             Place {
                 x,
@@ -188,6 +173,13 @@ fn new_on(owner: u8, address: u8, d: Decoder, devices: [Device; 64]) -> Place
     }
 }
 
+// The row of the device of an endpoint that was found: the special endpoints are on the first.
+fn row_for(i: usize, near: Near) -> Device
+    ensures { λ r. ⌜ r ≡ rowFor i near ⌝ }
+{
+    if i < 3 { near.first } else { near.row }
+}
+
 // packet_endpoint.
 pub fn packet_endpoint(
     x0: usize,
@@ -195,19 +187,22 @@ pub fn packet_endpoint(
     pid: u8,
     packet: &[u8],
     d: Decoder,
-    devices: [Device; 64],
+    near: Near,
     table: &[u64; 2176],
 ) -> Place
     requires { ⌜ Ready d (now table) ⌝ }
-    ensures { λ r. ⌜ r ≡ placeOf x0 e0 pid (now (packet .entry)) (worldOf d devices (now (table .entry))) ⌝ }
+    ensures { λ r. ⌜ ForSeen near x0 (now (packet .entry)) d (now (table .entry)) (λ w. r ≡ placeOf x0 e0 pid (now (packet .entry)) w) ⌝ }
 {
-    let found = find_place(pid, packet, d, devices, table);
+    let found = find_place(pid, packet, d, near, table);
     match found {
-        Found::At(i) => stand_at(x0, e0, i, d, devices, table),
+        Found::At(i) => {
+            let row = row_for(i, near);
+            stand_at(x0, e0, i, row, table)
+        }
         Found::Nothing => {
             let token = token_of(packet);
             let address = address_for(pid, token.number);
-            new_on(token.address, address, d, devices)
+            new_on(token.address, address, d, near)
         }
     }
 }

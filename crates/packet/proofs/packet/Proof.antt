@@ -3,8 +3,12 @@ use mathlib.Core.Path.{_≡_}
 use Prim.Native.Nat.{_<_}
 use native.Mathlib.Omega.{arith}
 use borrow.Author.Needs.{needs}
-use Rattle.outcome.specs.State.{State, state, logs}
+use lib.ListN.{length}
+use Rattle.outcome.specs.OutcomeLaws.{sound}
+use Rattle.outcome.specs.State.{State, state, logs, roomOf}
+use Rattle.plan.specs.Ready.{ready}
 use Rattle.packet.specs.After.{changed}
+use Rattle.packet.specs.Lent.{Lent}
 use Rattle.packet.proofs.Answers.{Passes}
 use Rattle.packet.proofs.First.{first-refused, first-passed}
 use Rattle.packet.proofs.packet.Statement.{statement}
@@ -19,14 +23,32 @@ lent c =
 returns : tie.Need-returns
 returns c = first-refused (c .before .before .before .before .before .before .before .before .before .before .before .before .before .before .before .before .before .args .packet .now) (c .before .before .before .before .before .before .before .before .before .before .before .before .before .before .before .before .before .args .time) (lent (c .before .before .before .before .before .before .before .before .before .before .before .before .before .before .before .before .before)) (c .before .before .before .room-of .ensures) (c .before .first-tests .ensures) (c .if1 .taken)
 
+-- what the first tests let pass
+passed : (c : tie.After-look) → Passes (c .before .before .before .before .before .before .before .before .before .before .before .before .before .before .before .before .before .before .before .args .packet .now) (lent (c .before .before .before .before .before .before .before .before .before .before .before .before .before .before .before .before .before .before .before))
+passed c = let a = c .before .before .before .before .before .before .before .before .before .before .before .before .before .before .before .before .before .before .before in first-passed (a .args .packet .now) (a .args .time) (lent a) (c .before .before .before .before .before .room-of .ensures) (c .before .before .before .first-tests .ensures) (c .before .before .if1 .left)
+
+many : (c : tie.Start) → length (c .args .devices) ≡ 64
+many c = search needs
+
+look-requires : tie.Need-look-requires
+look-requires c κs =
+    let a = c .before .before .before .before .before .before .before .before .before .before .before .before .before .before .before .before .before .before in
+    let p = first-passed (a .args .packet .now) (a .args .time) (lent a) (c .before .before .before .before .room-of .ensures) (c .before .before .first-tests .ensures) (c .before .if1 .left) in
+    let w = sound (lent a) (p .ill) in
+    ready (a .args .d) (a .args .devices) (a .args .table .now) (roomOf (lent a .logs)) (w .0) (w .1)
+
+-- the rows are taken from the devices
+lends : (c : tie.After-look) → Lent (c .look .result) (c .before .before .before .before .before .before .before .before .before .before .before .before .before .before .before .before .before .before .before .args .packet .now) (c .before .before .before .before .before .before .before .before .before .before .before .before .before .before .before .before .before .before .before .args .d) (c .before .before .before .before .before .before .before .before .before .before .before .before .before .before .before .before .before .before .before .args .devices) (c .before .before .before .before .before .before .before .before .before .before .before .before .before .before .before .before .before .before .before .args .table .now) (lent (c .before .before .before .before .before .before .before .before .before .before .before .before .before .before .before .before .before .before .before) .logs)
+lends c = record { ill = passed c .ill; many = many (c .before .before .before .before .before .before .before .before .before .before .before .before .before .before .before .before .before .before .before); seen = c .look .ensures }
+
 packet-in-requires : tie.Need-packet-in-requires
 packet-in-requires c κs =
-    let p = first-passed (c .before .before .before .before .before .before .before .before .before .before .before .before .before .before .before .before .before .before .before .before .before .before .before .before .before .before .before .before .before .args .packet .now) (c .before .before .before .before .before .before .before .before .before .before .before .before .before .before .before .before .before .before .before .before .before .before .before .before .before .before .before .before .before .args .time) (lent (c .before .before .before .before .before .before .before .before .before .before .before .before .before .before .before .before .before .before .before .before .before .before .before .before .before .before .before .before .before)) (c .before .before .before .before .before .before .before .before .before .before .before .before .before .before .before .room-of .ensures) (c .before .before .before .before .before .before .before .before .before .before .before .before .before .first-tests .ensures) (c .before .before .before .before .before .before .before .before .before .before .before .before .if1 .left) in
-    (p .ill, (p .finished, p .short))
+    let m = c .before .before .before .before .before .before .before .before .before .before .before .before in
+    (record { devices = c .before .before .before .before .before .before .before .before .before .before .before .before .before .before .before .before .before .before .before .before .before .before .before .before .before .before .before .before .before .before .before .args .devices; lent = lends m }, (passed m .finished, passed m .short))
 
 returns-2 : tie.Need-returns-2
 unfolding changed
-returns-2 c = c .before .before .before .before .before .before .before .before .before .before .before .before .before .before .before .before .before .before .before .before .before .before .before .before .before .before .packet-in .ensures .1
+returns-2 c = c .before .before .before .before .before .before .before .before .before .before .before .before .before .before .before .before .before .before .before .before .before .before .before .before .before .before .packet-in .ensures .1 (c .before .before .before .before .before .before .before .before .before .before .before .before .before .before .before .before .before .before .before .before .before .before .before .before .before .before .before .before .before .before .before .before .before .before .before .before .before .before .before .before .before .before .before .before .before .before .before .before .before .before .before .before .before .before .before .before .before .before .args .devices) (lends (c .before .before .before .before .before .before .before .before .before .before .before .before .before .before .before .before .before .before .before .before .before .before .before .before .before .before .before .before .before .before .before .before .before .before .before .before .before .before .before))
 
 pub packet-spec : {M : Type 1} → statement M
 packet-spec =
@@ -35,6 +57,7 @@ packet-spec =
     (λ c κs. tt)
     (λ c κs. tt)
     returns
+    look-requires
     packet-in-requires
     (λ c. let h = c .before .before .before .before .before .before .before .before .before .before .before .before .before .before .before .before .before .before .before .before .before .before .before .before .before .before .packet-in .ensures .0 .place in omega arith)
     (λ c. c .before .before .before .before .before .before .before .before .before .before .before .before .before .before .before .before .before .before .before .before .before .before .before .before .before .before .packet-in .ensures .0 .place)

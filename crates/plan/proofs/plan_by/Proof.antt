@@ -5,29 +5,35 @@ use Rattle.plan.specs.Ready.{Small}
 use Prim.Native.Nat.{_^_}
 use Rattle.plan.proofs.Bounds.{end-small, ended-small, middle-small, wider}
 use native.Mathlib.Omega.{arith}
-use mathlib.Core.Bool.{_&&_, not}
+use mathlib.Core.Bool.{false, _&&_, not}
+use mathlib.Core.Path.{ap, _∙_}
 use lib.Dec.{eqb}
+use Rattle.tables.specs.Details.{detailsOf}
+use Rattle.tables.specs.Table.{entryAt}
+use Rattle.tables.specs.declared.Device.{Device}
+use Rattle.steps.specs.Step.{endOf}
 use Rattle.plan.proofs.plan_by.Statement.{statement}
 use Rattle.plan.proofs.plan_by.Tie as tie
 
 -- the entry that the old transaction's end leaves has few rows
 old-small : (c : tie.After-end-at) → Small (2 ^ 61) (c .end-at .result .entry)
-old-small c = rw (c .end-at .ensures) (end-small (c .before .before .before .before .pre .1 .1) _ _ _ _ _ _)
+old-small c = rw (c .end-at .ensures) (end-small (c .before .before .before .before .before .pre .1 .1 .0) _ _ _ _ _ _)
 
--- and so has the entry of the packet's own endpoint
+-- and so has the entry of the packet's own endpoint, whatever devices the rows are of
 own-small : (c : tie.After-middle-of) → Small (2 ^ 62) (c .middle-of .result .entry)
 own-small c =
     let ended = c .before .before .before in
     let fresh = ended .before .before in
     let end = fresh .before in
-    let s = end .before .before .before .before in
+    let s = end .before .before .before .before .before in
     let a = s .args in
+    let taken = s .pre .1 .1 .1 in
     let h : Small (2 ^ 62) (ended .entry-ended .result) =
     rw (ended .entry-ended .ensures)
-    (wider (ended-small (fresh .is-new .result && not (eqb (a .x0) 0)) (end .end-at .result) (ended .before .start-pid .result) (old-small end) (s .pre .1 .1)) (2 ^ 62) (omega arith))
+    (wider (ended-small (fresh .is-new .result && not (eqb (a .x0) 0)) (end .end-at .result) (ended .before .start-pid .result) (old-small end) (s .pre .1 .1 .0)) (2 ^ 62) (omega arith))
     in
-    rw (c .middle-of .ensures)
-    (middle-small (a .d) (a .devices) (a .table .now) (s .pre .0) (2 ^ 62) (omega arith) (a .x0) (s .pre .1 .0) (ended .entry-ended .result) h (a .j .status) (a .j .pid) (a .packet .now) (c .before .next-row .result) (end .before .extract-payload .result))
+    rw (c .middle-of .ensures (taken .devices) (taken .seen))
+    (middle-small (a .d) (taken .devices) (a .table .now) (s .pre .0) (2 ^ 62) (omega arith) (a .x0) (s .pre .1 .0) (ended .entry-ended .result) h (a .j .status) (a .j .pid) (a .packet .now) (c .before .next-row .result) (end .before .before .extract-payload .result))
 
 entry-ended-requires : tie.Need-entry-ended-requires
 entry-ended-requires c κs = wider (old-small (c .before .before)) (2 ^ 62) (omega arith)
@@ -36,18 +42,18 @@ close-of-requires : tie.Need-close-of-requires
 close-of-requires c κs = own-small (c .before .before .before .before .before .before .before .before .before)
 
 returns : tie.Need-returns
-returns c =
-    let s = c .before .before .before .before .before .before .before .before .before .before .before .before .before .before .before .before .before .before .before .before .before .args in
-    planned (s .j) (s .x0) (s .e) (s .t) (s .packet .now) (worldOf (s .d) (s .devices) (s .table .now))
-    (c .before .before .before .before .before .before .before .before .before .before .before .before .before .before .before .before .before .before .before .setup-of .ensures)
-    (c .before .before .before .before .before .before .before .before .before .before .before .before .before .before .before .before .before .before .extract-payload .ensures)
-    (c .before .before .before .before .before .before .before .before .before .before .before .before .before .before .before .before .before .end-at .ensures)
+returns c v seen =
+    let s = c .before .before .before .before .before .before .before .before .before .before .before .before .before .before .before .before .before .before .before .before .before .before .args in
+    planned (s .j) (s .x0) (s .e) (s .t) (s .packet .now) (worldOf (s .d) v (s .table .now))
+    (c .before .before .before .before .before .before .before .before .before .before .before .before .before .before .before .before .before .before .before .before .setup-of .ensures)
+    (c .before .before .before .before .before .before .before .before .before .before .before .before .before .before .before .before .before .before .before .extract-payload .ensures)
+    (c .before .before .before .before .before .before .before .before .before .before .before .before .before .before .before .before .before .end-at .ensures ∙ ap (λ (k : Device). endOf (s .x0) (s .e) (c .before .before .before .before .before .before .before .before .before .before .before .before .before .before .before .before .before .before .before .extract-payload .result) (detailsOf k (entryAt (s .table .now) (s .x0) .address)) (s .d .last) false false) (seen .old))
     (c .before .before .before .before .before .before .before .before .before .before .before .before .before .before .before .before .is-new .ensures)
     (c .before .before .before .before .before .before .before .before .before .before .before .before .before .before .before .start-pid .ensures)
     (c .before .before .before .before .before .before .before .before .before .before .before .before .before .before .entry-ended .ensures)
     (c .before .before .before .before .before .before .before .before .before .before .before .before .before .last-ended .ensures)
     (c .before .before .before .before .before .before .before .before .before .before .before .before .next-row .ensures)
-    (c .before .before .before .before .before .before .before .before .before .before .before .middle-of .ensures)
+    (c .before .before .before .before .before .before .before .before .before .before .before .middle-of .ensures v seen)
     (c .before .before .before .before .before .before .before .is-suspended .ensures)
     (c .before .before .before .before .before .before .resume-of .ensures)
     (c .before .before .before .before .before .is-last .ensures)
@@ -62,13 +68,13 @@ plan-by-spec =
     (tie.spec
     (λ c κs. tt)
     (λ c κs. tt)
-    (λ c κs. (c .before .before .before .pre .0, c .before .before .before .pre .1 .0))
+    (λ c κs. let s = c .before .before .before .before in omega (arith, s .pre .1 .0, s .pre .0 .endpoints))
     (λ c κs. tt)
     (λ c κs. tt)
     entry-ended-requires
     (λ c κs. tt)
-    (λ c κs. c .before .before .before .before .before .before .before .before .pre .0 .transactions)
-    (λ c κs. (c .before .before .before .before .before .before .before .before .before .pre .0, c .before .before .before .before .before .before .before .before .before .pre .1 .0))
+    (λ c κs. c .before .before .before .before .before .before .before .before .before .pre .0 .transactions)
+    (λ c κs. (c .before .before .before .before .before .before .before .before .before .before .pre .0, c .before .before .before .before .before .before .before .before .before .before .pre .1 .0))
     (λ c κs. tt)
     (λ c κs. tt)
     (λ c κs. tt)

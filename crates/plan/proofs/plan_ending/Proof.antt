@@ -1,4 +1,4 @@
--- `plan_ending` meets its contract: the endpoint of the current transaction is there.
+-- `plan_ending` meets its contract: the endpoint of the current transaction is there, and so is its device.
 use Prim.Native.Nat.{_<_}
 use Rattle.steps.specs.Ending.{endingOf}
 use Rattle.plan.proofs.Bounds.{current-there}
@@ -13,12 +13,24 @@ there c = let s = c .before .before in rw (c .current-endpoint .ensures) (curren
 load-requires : tie.Need-load-requires
 load-requires c κs = omega (arith, there c, c .before .before .pre .endpoints)
 
+place-small : (c : tie.After-load) → c .load .result .device < 64
+place-small c =
+    let s = c .before .before .before in
+    let k = s .pre .entries (c .before .current-endpoint .result) (there (c .before)) in
+    rw (c .load .ensures) (omega (arith, k .device, s .pre .devices))
+
+mul-known : tie.Need-mul-known
+mul-known c = omega (arith, place-small c)
+
+array-copy-out-known : tie.Need-array-copy-out-known
+array-copy-out-known c = place-small c
+
 end-at-requires : tie.Need-end-at-requires
-end-at-requires c κs = (c .before .before .before .pre, there (c .before))
+end-at-requires c κs = omega (arith, there (c .before .before), c .before .before .before .before .pre .endpoints)
 
 returns : tie.Need-returns
 unfolding endingOf
-returns c = simp (c .end-at .ensures, c .before .load .ensures, c .before .before .current-endpoint .ensures)
+returns c = simp (c .end-at .ensures, c .before .before .load .ensures, c .before .before .before .current-endpoint .ensures)
 
 pub plan-ending-spec : {M : Type 1} → statement M
 plan-ending-spec =
@@ -26,5 +38,7 @@ plan-ending-spec =
     (tie.spec
     (λ c κs. tt)
     load-requires
+    mul-known
+    array-copy-out-known
     end-at-requires
     returns)

@@ -1,31 +1,14 @@
--- `stand_at` meets its contract: the device of an endpoint that is there is there.
-use Prim.Native.Nat.{_<_}
-use native.Mathlib.Omega.{arith}
-use borrow.Author.Needs.{needs}
+-- `stand_at` meets its contract: the calls in their order.
 use Rattle.plan.proofs.place.stand_at.Statement.{statement}
 use Rattle.plan.proofs.place.stand_at.Tie as tie
 
-place-small : (c : tie.After-load) → c .load .result .device < 64
-place-small c =
-    let s = c .before in
-    let k = s .pre .0 .entries (s .args .i) (s .pre .1) in
-    rw (c .load .ensures) (omega (arith, k .device, s .pre .0 .devices))
-
-mul-known : tie.Need-mul-known
-mul-known c = omega (arith, place-small c)
-
-array-copy-out-known : tie.Need-array-copy-out-known
-array-copy-out-known c = place-small c
-
 returns : tie.Need-returns
-returns c = simp (c .entry-by .ensures, c .before .before .load .ensures)
+returns c = simp (c .entry-by .ensures, c .before .load .ensures)
 
 pub stand-at-spec : {M : Type 1} → statement M
 stand-at-spec =
     tie.close
     (tie.spec
-    (λ c κs. search needs)
-    mul-known
-    array-copy-out-known
+    (λ c κs. c .pre)
     (λ c κs. tt)
     returns)

@@ -1,0 +1,28 @@
+-- What packet_in asks of the devices, which it is not given: the rows that it goes by are taken from devices with which the state is not ill.
+use mathlib.Core.Path.{_≡_}
+use mathlib.Core.Bool.{false}
+use mathlib.Core.List.{List}
+use Prim.Native.Nat.{ℕ}
+use lib.ListN.{length}
+use Rattle.tables.specs.declared.Device.{Device}
+use Rattle.judge.specs.World.{worldOf}
+use Rattle.judge.specs.declared.Decoder.{Decoder}
+use Rattle.steps.specs.Packet.{oldEndpoint}
+use Rattle.outcome.specs.Outcome.{isIll}
+use Rattle.outcome.specs.State.{Logs, state}
+use Rattle.plan.specs.Near.{Seen}
+use Rattle.plan.specs.declared.near.Near.{Near}
+
+pub record Lent (near : Near) (packet : List ℕ) (d : Decoder) (devices : List Device) (table : List ℕ) (l : Logs) : Type 0 where
+  pub ill : isIll (state d devices table l) ≡ false
+  pub many : length devices ≡ 64
+  pub seen : Seen near (oldEndpoint (d .slot) (d .transaction)) packet (worldOf d devices table)
+
+-- there are such devices
+pub record SomeLent (near : Near) (packet : List ℕ) (d : Decoder) (table : List ℕ) (l : Logs) : Type 0 where
+  pub devices : List Device
+  pub lent : Lent near packet d devices table l
+
+-- so it is with any such devices
+abbrev pub ForLent : Near → List ℕ → Decoder → List ℕ → Logs → (List Device → Type 0) → Type 0
+ForLent near packet d table l p = (devices : List Device) → Lent near packet d devices table l → p devices

@@ -1,0 +1,19 @@
+-- `old_device` meets its contract: the endpoint of the transaction that is held is there.
+use native.Mathlib.Omega.{arith}
+use Rattle.plan.proofs.Bounds.{old-there}
+use Rattle.plan.proofs.near.old_device.Statement.{statement}
+use Rattle.plan.proofs.near.old_device.Tie as tie
+
+load-requires : tie.Need-load-requires
+load-requires c κs = let s = c .before .before in rw (c .old-endpoint .ensures) (omega (arith, old-there (s .args .d .transaction) (s .pre .three) (s .args .d .slot) (s .pre .held), s .pre .endpoints))
+
+returns : tie.Need-returns
+returns c = rw (c .load .ensures, c .before .old-endpoint .ensures)
+
+pub old-device-spec : {M : Type 1} → statement M
+old-device-spec =
+    tie.close
+    (tie.spec
+    (λ c κs. tt)
+    load-requires
+    returns)
