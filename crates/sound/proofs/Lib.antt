@@ -1,0 +1,11 @@
+pub mod FitsTame
+pub mod FitsGroups
+pub mod FitsWaits
+pub mod FitsUpdate
+pub mod FitsPlaces
+pub mod Fits
+pub mod PaysGroups
+pub mod Pays
+pub mod Ties
+pub mod Keeps
+pub mod Sums

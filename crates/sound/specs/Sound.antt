@@ -1,0 +1,32 @@
+-- The invariant `sound`: a call is not answered 1, and no endpoint's payloads pass the packet bytes logged even when they are added up.
+use Prim.Native.Nat.{ℕ, _+_, _^_, _<_}
+use mathlib.Core.Bool.{Bool, not, _&&_, _||_}
+use mathlib.Core.List.{List}
+use lib.Dec.{leb}
+use Rattle.tables.specs.Table.{entryAt}
+use Rattle.tables.specs.declared.Device.{Device}
+use Rattle.judge.specs.Formed.{every, wellFormed}
+use Rattle.judge.specs.Room.{long}
+use Rattle.judge.specs.declared.Counts.{Counts}
+use Rattle.judge.specs.declared.Decoder.{Decoder}
+use Rattle.outcome.specs.State.{State, roomOf}
+use Rattle.sound.specs.Fit.{inHand, brings}
+
+-- of endpoint i: what it has in hand, and what the transaction that is held may bring to it
+abbrev pub paying : Decoder → List ℕ → ℕ → ℕ
+paying d table i = inHand (entryAt table i) + brings (d .slot) (d .transaction) i
+
+abbrev pub isPaid : Decoder → List ℕ → ℕ → Bool
+isPaid d table i = leb (paying d table i) (d .counts .bytes)
+
+-- on logs with this room; the first part is answer 1's test (outcome, isIll)
+unfoldable pub soundIn : Decoder → List Device → List ℕ → Counts → Bool
+soundIn d devices table room =
+    not (long room || not (wellFormed d devices table room)) && every (isPaid d table) 0 (d .counts .endpoints)
+
+abbrev pub isSound : State → Bool
+isSound s = soundIn (s .decoder) (s .devices) (s .table) (roomOf (s .logs))
+
+-- what the test adds up are words
+abbrev pub Summable : Decoder → List ℕ → Type 0
+Summable d table = (i : ℕ) → i < d .counts .endpoints → paying d table i < 2 ^ 64
