@@ -1,0 +1,4 @@
+pub mod Turns
+pub mod States
+pub mod Rows
+pub mod Whole

@@ -1,0 +1,99 @@
+-- The rows that are left give the lines that are left.
+-- Assumes nothing.
+use borrow.Author.Needs.{needs}
+use Prim.Native.Nat.{ℕ, _+_, _-_, _≤_}
+use native.Mathlib.Omega.{arith}
+use mathlib.Core.Path.{_≡_, ap}
+use mathlib.Core.List.{List}
+use lib.ListN.{length, take, drop}
+use Rattle.text.specs.Lines.{stateLine}
+use Rattle.text.proofs.Appends.{Left}
+use Rattle.lines.specs.Listing.{each, stateBytes, stateLines}
+use Rattle.lines.proofs.Turns.{begin, turn-room, turn, finished}
+use Rattle.lines.proofs.States.{stops-within, bytes-are}
+use Rattle.lines.proofs.state.state_lines.Statement.{statement}
+use Rattle.lines.proofs.state.state_lines.Tie as tie
+
+abbrev lineAt : ℕ → List ℕ → ℕ → List ℕ → ℕ → List ℕ
+lineAt n states m marks i = stateLine i (stateBytes n states m marks i)
+
+abbrev Inv-loop : tie.InvT-loop
+Inv-loop out₀ at n states m marks next₀ i₀ out next i =
+    (i ≤ n) × Left out₀ at (stateLines n states m marks) out next (each (lineAt n states m marks) i (n - i))
+
+abbrev μ-loop : tie.MeasureT-loop
+μ-loop out₀ at n states m marks next₀ i₀ out next i = n - i
+
+-- where the row's bytes are known
+module _ (c : tie.After-size-of Inv-loop μ-loop) where
+  stops : c .before .before .start-of .result + c .size-of .result ≤ length (c .before .before .before .before .before .before .before .before .args .marks .now)
+  stops = let a = c .before .before .before .before .before .before .before .before .args in omega (arith, stops-within (a .n) (a .states .now) (a .m) (c .before .before .before .before .loop .i) (c .before .before .start-of .ensures) (c .before .end-of .ensures) (c .size-of .ensures), c .before .before .before .before .before .before .before .before .pre .1 .0)
+
+  lines-are :
+      stateLine (c .before .before .before .before .loop .i) (take (c .before .before .start-of .result + c .size-of .result - c .before .before .start-of .result) (drop (c .before .before .start-of .result) (c .before .before .before .before .before .before .before .before .args .marks .now)))
+      ≡ lineAt (c .before .before .before .before .before .before .before .before .args .n) (c .before .before .before .before .before .before .before .before .args .states .now) (c .before .before .before .before .before .before .before .before .args .m) (c .before .before .before .before .before .before .before .before .args .marks .now) (c .before .before .before .before .loop .i)
+  lines-are = let a = c .before .before .before .before .before .before .before .before .args in ap (stateLine (c .before .before .before .before .loop .i)) (bytes-are (a .n) (a .states .now) (a .m) (c .before .before .before .before .loop .i) (c .before .before .start-of .ensures) (c .before .end-of .ensures) (c .size-of .ensures) (a .marks .now))
+
+loop-holds : tie.Need-loop-holds Inv-loop μ-loop
+unfolding stateLines
+loop-holds c = let a = c .before .before .before .args in (search needs, begin (lineAt (a .n) (a .states .now) (a .m) (a .marks .now)) (a .n))
+
+start-of-requires : tie.Need-start-of-requires Inv-loop μ-loop
+start-of-requires c κs = search needs
+
+end-of-requires : tie.Need-end-of-requires Inv-loop μ-loop
+end-of-requires c κs = search needs
+
+size-of-requires : tie.Need-size-of-requires Inv-loop μ-loop
+size-of-requires c κs = search needs
+
+add-stop : tie.Need-add-stop Inv-loop μ-loop
+add-stop c = omega (arith, stops c)
+
+sub-state-line : tie.Need-sub-state-line Inv-loop μ-loop
+sub-state-line c = search needs
+
+part-state-line-start : tie.Need-part-state-line-start Inv-loop μ-loop
+part-state-line-start c = search needs
+
+part-state-line-end : tie.Need-part-state-line-end Inv-loop μ-loop
+part-state-line-end c = omega (arith, stops (c .before))
+
+state-line-requires : tie.Need-state-line-requires Inv-loop μ-loop
+state-line-requires c κs = let l = c .before .before .before .before .before .before in let s = l .before .before .before .before in let a = s .args in turn-room (lineAt (a .n) (a .states .now) (a .m) (a .marks .now)) (l .loop .i) (a .n) (l .loop .inv .1) (c .before .before .before .before .before .loop-test .taken) (lines-are (c .before .before)) (s .pre .1 .1)
+
+add-i : tie.Need-add-i Inv-loop μ-loop
+add-i c = search needs
+
+loop-less : tie.Need-loop-less Inv-loop μ-loop
+loop-less c = search needs
+
+loop-again : tie.Need-loop-again Inv-loop μ-loop
+loop-again c = let l = c .before .before .before .before .before .before .before .before .before in let a = l .before .before .before .before .args in (search needs, turn (lineAt (a .n) (a .states .now) (a .m) (a .marks .now)) (l .loop .i) (a .n) (l .loop .inv .1) (c .before .before .before .before .before .before .before .before .loop-test .taken) (lines-are (c .before .before .before .before .before)) (c .before .before .state-line .ensures))
+
+same-length : tie.Need-same-length Inv-loop μ-loop
+same-length c = c .before .loop .inv .1 .kept
+
+returns : tie.Need-returns Inv-loop μ-loop
+returns c = let a = c .before .before .before .before .before .args in finished (lineAt (a .n) (a .states .now) (a .m) (a .marks .now)) (c .before .loop .i) (a .n) (c .before .loop .inv .1) (c .loop-test .left)
+
+pub state-lines-spec : {M : Type 1} → statement M
+state-lines-spec =
+    tie.close
+    (tie.spec
+    Inv-loop
+    μ-loop
+    loop-holds
+    start-of-requires
+    end-of-requires
+    size-of-requires
+    add-stop
+    sub-state-line
+    part-state-line-start
+    part-state-line-end
+    state-line-requires
+    add-i
+    loop-less
+    loop-again
+    same-length
+    returns)

@@ -1,0 +1,91 @@
+-- What is shown of a run: room for it, and that it is what the specification shows.
+-- Assumes nothing.
+use Prim.Native.Nat.{ℕ, zero, suc, _+_, _*_, _≤_, _<_}
+use native.Mathlib.Omega.{arith}
+use mathlib.Core.List.{List}
+use mathlib.Core.Path.{_≡_, refl, sym, subst}
+use lib.ListN.{length, replicate, length-replicate}
+use Rattle.text.specs.Append.{Room, Appended}
+use Rattle.text.specs.Lengths.{longest, refused-fits}
+use Rattle.text.specs.Lines.{refusedLine}
+use Rattle.text.specs.Words.{tooLong}
+use Rattle.judge.specs.RoomLaws.{Within}
+use Rattle.judge.specs.declared.Counts.{Counts}
+use Rattle.outcome.specs.State.{Logs, State, roomBy, roomOf}
+use Rattle.lines.specs.Listing.{listing}
+use Rattle.lines.specs.ListingLaws.{Counted, counted, rowsOf, listing-fits, listed, listing-listed}
+use Rattle.run.specs.Run.{Ran}
+use Rattle.listing.specs.Prints.{mostInput, noTable, noRows, shown, Prints, Printed, Listable, Shows, textRoom}
+use Rattle.listing.specs.PrintsLaws.{ran-within}
+
+-- by the answer
+pub refusal : (a p : ℕ) (n : Counts) (l : Logs) → (a ≡ 0 → ⊥) → shown a p n l ≡ refusedLine a p
+refusal zero p n l ne = absurd (ne refl)
+refusal (suc a) p n l ne = refl
+
+pub finish : (a p : ℕ) (n : Counts) (l : Logs) → a ≡ 0 → shown a p n l ≡ listing n l
+finish zero p n l e = refl
+finish (suc a) p n l e = absurd (omega arith)
+
+-- as `report` has the logs
+shown-listed : (a p : ℕ) (n : Counts) (l : Logs) → shown a p n (listed l) ≡ shown a p n l
+shown-listed zero p n l = listing-listed n l
+shown-listed (suc a) p n l = refl
+
+rows-within : (n room : Counts) → Within n room → rowsOf n ≤ rowsOf room
+rows-within n room w = omega arith
+
+shown-fits : (a p : ℕ) (n : Counts) (l l₀ : Logs) → (a ≡ 0 → Within n (roomOf l₀)) → length (shown a p n l) ≤ textRoom l₀
+shown-fits zero p n l l₀ h = omega (arith, listing-fits n l, rows-within n (roomOf l₀) (h refl))
+shown-fits (suc a) p n l l₀ h = omega (arith, refused-fits (suc a) p)
+
+module _ {trace t : List ℕ} {l : Logs} {a p : ℕ} {s : State} (ran : Ran trace t l a p s) where
+  pub has-rows : Listable a (s .decoder .counts) (listed (s .logs))
+  has-rows e = counted (s .decoder .counts) (s .logs) (ran-within ran e)
+
+  -- on logs as long as those that the run began with
+  pub text-room : (out : List ℕ) → roomOf (s .logs) ≡ roomOf l → textRoom l ≤ length out → Room out 0 (shown a p (s .decoder .counts) (listed (s .logs)))
+  text-room out k h =
+      omega (arith, shown-fits a p (s .decoder .counts) (listed (s .logs)) l (λ e. subst (Within (s .decoder .counts)) k (ran-within ran e)))
+
+  pub shows :
+      {before after : List ℕ} {end : ℕ}
+      → Room before 0 (shown a p (s .decoder .counts) (listed (s .logs)))
+      → Appended before 0 (shown a p (s .decoder .counts) (listed (s .logs))) after end
+      → Shows trace t l before after end
+  shows {before} {after} {end} r x =
+      record {
+        answer = a;
+        place = p;
+        final = s;
+        ran = ran;
+        appended = rw (shown-listed a p (s .decoder .counts) (s .logs)) at x;
+        within = omega (arith, x .place);
+      }
+
+-- ---- the program's own logs
+
+-- n zeros are as many
+pub zeros : (n : ℕ) → n ≡ length (replicate {A = ℕ} n 0)
+zeros n = sym (length-replicate {A = ℕ} n 0)
+
+pub own-room : textRoom noRows ≡ 419484
+unfolding roomBy
+own-room = refl
+
+pub too-long :
+    {trace before after : List ℕ} {end : ℕ}
+    → mostInput < length trace
+    → textRoom noRows ≤ length before
+    → Appended before 0 tooLong after end
+    → Printed trace before after end
+too-long h r x = record { text = tooLong; prints = Prints.long h; appended = x; within = omega (arith, own-room, x .place) }
+
+pub printed : {trace before after : List ℕ} {end : ℕ} → length trace ≤ mostInput → Shows trace noTable noRows before after end → Printed trace before after end
+printed h x =
+    record {
+      text = shown (x .answer) (x .place) (x .final .decoder .counts) (x .final .logs);
+      prints = Prints.runs h (x .ran);
+      appended = x .appended;
+      within = x .within;
+    }

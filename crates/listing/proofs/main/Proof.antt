@@ -1,0 +1,61 @@
+-- The input is read, its text made and written.
+-- Assumes nothing.
+use borrow.Author.Needs.{needs}
+use Prim.Native.Nat.{ℕ, _≤_}
+use native.Mathlib.Omega.{arith}
+use mathlib.Core.Path.{sym, subst}
+use lib.ListN.{length}
+use lib.Seq.{length-take-le}
+use Rattle.listing.specs.Prints.{noRows, textRoom}
+use Rattle.listing.proofs.Shown.{zeros, own-room}
+use Rattle.listing.proofs.main.Statement.{statement}
+use Rattle.listing.proofs.main.Tie as tie
+
+slice-aggregate-read-full : tie.Need-slice-aggregate-read-full
+slice-aggregate-read-full c = zeros 16385
+
+read-full-requires : tie.Need-read-full-requires
+read-full-requires c κs = tt
+
+array-share-prefix-input : tie.Need-array-share-prefix-input
+array-share-prefix-input c = search needs
+
+slice-aggregate-print : tie.Need-slice-aggregate-print
+slice-aggregate-print c = search needs
+
+slice-aggregate-print-2 : tie.Need-slice-aggregate-print-2
+slice-aggregate-print-2 c = zeros 419484
+
+print-requires : tie.Need-print-requires
+print-requires c κs = subst (λ (k : ℕ). textRoom noRows ≤ k) (zeros 419484) (omega (arith, own-room))
+
+-- the text ends within the buffer
+within : (c : tie.After-print) → c .print .result ≤ length (c .print .last .1 .0)
+within c = omega (arith, c .print .kept .1 .0, c .print .ensures .within)
+
+array-share-prefix-out : tie.Need-array-share-prefix-out
+array-share-prefix-out c = within (c .before)
+
+slice-aggregate-write-all : tie.Need-slice-aggregate-write-all
+slice-aggregate-write-all c = let p = c .before .before in sym (length-take-le (p .print .result) (p .print .last .1 .0) (within p))
+
+write-all-requires : tie.Need-write-all-requires
+write-all-requires c κs = tt
+
+returns : tie.Need-returns
+returns c = tt
+
+pub main-spec : {M : Type 1} → statement M
+main-spec =
+    tie.close
+    (tie.spec
+    slice-aggregate-read-full
+    read-full-requires
+    array-share-prefix-input
+    slice-aggregate-print
+    slice-aggregate-print-2
+    print-requires
+    array-share-prefix-out
+    slice-aggregate-write-all
+    write-all-requires
+    returns)

@@ -1,0 +1,73 @@
+-- What the contract of `print` rules out: any two texts that it permits coincide. And what a run that finished leaves for the listing.
+-- Assumes nothing.
+use Prim.Native.Nat.{ℕ, zero, suc, _+_, _*_, _≤_, _<_}
+use native.Mathlib.Omega.{arith}
+use mathlib.Core.Bool.{Bool, true, false, not, true≢false}
+use mathlib.Core.List.{List}
+use mathlib.Core.Path.{_≡_, refl, sym, ap, _∙_}
+use lib.ListN.{length}
+use lib.Seq.{length-sets}
+use borrow.Author.Tests.{not-false}
+use Rattle.text.specs.Lengths.{longest, refused-fits}
+use Rattle.text.specs.Lines.{refusedLine}
+use Rattle.judge.specs.AnswersLaws.{accepted}
+use Rattle.judge.specs.RoomLaws.{Within, within}
+use Rattle.judge.specs.declared.Counts.{Counts}
+use Rattle.trace.specs.declared.clock.Clock.{Clock}
+use Rattle.rules.specs.Decoder.{finish}
+use Rattle.rules.specs.Rows.{log}
+use Rattle.rules.specs.World.{World}
+use Rattle.outcome.specs.Outcome.{Appends, accepts, countsAfter, decoderOf, isFull, worldAt}
+use Rattle.outcome.specs.State.{Logs, State, roomBy, roomOf}
+use Rattle.events.specs.Call.{FinishCall, finishTestsOf}
+use Rattle.lines.specs.Listing.{listing}
+use Rattle.lines.specs.ListingLaws.{Counted, counted, rowsOf, listing-fits}
+use Rattle.run.specs.Run.{Runs, Ran}
+use Rattle.run.specs.RunLaws.{Same, run-unique}
+use Rattle.listing.specs.Prints.{mostInput, shown, Prints, textRoom}
+
+-- 01: "any two permitted outcomes coincide"
+pub prints-unique : {trace x y : List ℕ} → Prints trace x → Prints trace y → x ≡ y
+prints-unique (Prints.long h) (Prints.long k) = refl
+prints-unique (Prints.long h) (Prints.runs k r) = absurd (omega arith)
+prints-unique (Prints.runs h q) (Prints.long k) = absurd (omega arith)
+prints-unique (Prints.runs h q) (Prints.runs k r) = let e = run-unique q r in λ i. shown (e .answer i) (e .place i) (e .final i .decoder .counts) (e .final i .logs)
+
+-- ---- a run that finished
+
+-- rows behind a log's rows leave its length
+same-room : {w : World} {n : Counts} {l l′ : Logs} → Appends w n l l′ → roomOf l′ ≡ roomOf l
+same-room {w} {n} {l} {l′} a =
+    λ i. roomBy
+    ((ap length (a .bytes) ∙ length-sets (l .bytes) (n .bytes) (log 0 (w .journal))) i)
+    ((ap length (a .devices) ∙ length-sets (l .devices) (n .devices) (log 1 (w .journal))) i)
+    ((ap length (a .endpoints) ∙ length-sets (l .endpoints) (n .endpoints * 3) (log 2 (w .journal))) i)
+    ((ap length (a .packets) ∙ length-sets (l .packets) (n .packets * 2) (log 3 (w .journal))) i)
+    ((ap length (a .events) ∙ length-sets (l .events) (n .events * 2) (log 4 (w .journal))) i)
+    ((ap length (a .transactions) ∙ length-sets (l .transactions) (n .transactions) (log 5 (w .journal))) i)
+    ((ap length (a .groups) ∙ length-sets (l .groups) (n .groups * 3) (log 6 (w .journal))) i)
+    ((ap length (a .marks) ∙ length-sets (l .marks) (n .marks) (log 7 (w .journal))) i)
+    ((ap length (a .states) ∙ length-sets (l .states) (n .states) (log 8 (w .journal))) i)
+    ((ap length (a .items) ∙ length-sets (l .items) (n .items) (log 9 (w .journal))) i)
+    ((ap length (a .links) ∙ length-sets (l .links) (n .links * 4) (log 10 (w .journal))) i)
+    ((ap length (a .requests) ∙ length-sets (l .requests) (n .requests * 3) (log 11 (w .journal))) i)
+
+-- finish answers 0 only where its rows have room
+finish-within : {a : ℕ} {s s′ : State} → FinishCall s a s′ → a ≡ 0 → Within (s′ .decoder .counts) (roomOf (s′ .logs))
+unfolding isFull decoderOf
+finish-within {a} {s} {s′} f e =
+    let w = finish (worldAt s) in
+    let q = accepted (finishTestsOf w s) (sym (f .answer) ∙ e) .0 in
+    let left = f .left (ap accepts (sym (f .answer) ∙ e)) in
+    let h = within (countsAfter (s .decoder .counts) w) (roomOf (s .logs)) (not-false _ (q .full)) in
+    rw (left .decoder, same-room (left .logs)) h
+
+runs-within : {trace : List ℕ} {at a p : ℕ} {c : Clock} {s s′ : State} → Runs trace at c s a p s′ → a ≡ 0 → Within (s′ .decoder .counts) (roomOf (s′ .logs))
+runs-within (Runs.ends k f) e = finish-within f e
+runs-within (Runs.stops g h) e = absurd (true≢false (ap accepts (sym e) ∙ h))
+runs-within (Runs.goes a g h r) e = runs-within r e
+
+pub ran-within : {trace t : List ℕ} {l : Logs} {a p : ℕ} {s : State} → Ran trace t l a p s → a ≡ 0 → Within (s .decoder .counts) (roomOf (s .logs))
+ran-within (Ran.wrong h) e = absurd (h e)
+ran-within (Ran.refused h m n) e = absurd (n e)
+ran-within (Ran.runs h m r) e = runs-within r e

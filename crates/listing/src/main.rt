@@ -1,0 +1,166 @@
+// The program `listing` (01, "Trace and listing"): reads a trace from standard input, and writes its rows, or the line that refuses it, to standard output.
+use judge::Counts;
+use libc::STDIN_FILENO;
+use libc::STDOUT_FILENO;
+use run::run;
+ghost use Prim.Native.Nat.{_≤_};
+ghost use mathlib.Core.List.{[]};
+ghost use lib.ListN.{length};
+ghost use Rattle.text.specs.Append.{Room, Appended};
+ghost use Rattle.outcome.specs.State.{logs};
+ghost use Rattle.listing.specs.Prints.{noRows, shown, Listable, Printed, Shows, textRoom};
+
+// The longest trace (docs/SIZES.md).
+const INPUT: usize = 16384;
+
+// A line of at most 156 bytes (text, Lengths) for each of the 2,688 rows that there is room for, and one more.
+const TEXT: usize = 156 * 2689;
+
+// What is shown of a run that ended with this answer at this place: the listing, or the refusal; gives its length.
+fn report(
+    answer: u8,
+    place: usize,
+    n: Counts,
+    device_rows: &[u64],
+    endpoint_rows: &[u64],
+    packets: &[u64],
+    events: &[u64],
+    transactions: &[u64],
+    groups: &[u64],
+    marks: &[u8],
+    states: &[u64],
+    items: &[u64],
+    links: &[u64],
+    requests: &[u64],
+    out: &mut [u8],
+) -> usize
+    requires { ⌜ Listable answer n (logs [] (now «device_rows») (now «endpoint_rows») (now packets) (now events) (now transactions) (now groups) (now marks) (now states) (now items) (now links) (now requests)) ⌝ }
+    requires { ⌜ Room (now out) 0 (shown answer place n (logs [] (now «device_rows») (now «endpoint_rows») (now packets) (now events) (now transactions) (now groups) (now marks) (now states) (now items) (now links) (now requests))) ⌝ }
+    ensures { λ r. ⌜ Appended (now (out .entry)) 0 (shown answer place n (logs [] (now («device_rows» .entry)) (now («endpoint_rows» .entry)) (now (packets .entry)) (now (events .entry)) (now (transactions .entry)) (now (groups .entry)) (now (marks .entry)) (now (states .entry)) (now (items .entry)) (now (links .entry)) (now (requests .entry)))) (now (out .exit)) r ⌝ }
+{
+    if answer != 0 {
+        return text::refused_line(out, 0, answer as u64, place as u64);
+    }
+    lines::list(
+        n,
+        device_rows,
+        endpoint_rows,
+        packets,
+        events,
+        transactions,
+        groups,
+        marks,
+        states,
+        items,
+        links,
+        requests,
+        out,
+    )
+}
+
+// The text of a trace that is run on the lent table and logs; gives its length.
+fn show(
+    trace: &[u8],
+    table: &mut [u64; 2176],
+    bytes: &mut [u8],
+    device_rows: &mut [u64],
+    endpoint_rows: &mut [u64],
+    packets: &mut [u64],
+    events: &mut [u64],
+    transactions: &mut [u64],
+    groups: &mut [u64],
+    marks: &mut [u8],
+    states: &mut [u64],
+    items: &mut [u64],
+    links: &mut [u64],
+    requests: &mut [u64],
+    out: &mut [u8],
+) -> usize
+    requires { ⌜ textRoom (logs (now bytes) (now «device_rows») (now «endpoint_rows») (now packets) (now events) (now transactions) (now groups) (now marks) (now states) (now items) (now links) (now requests)) ≤ length (now out) ⌝ }
+    ensures { λ r. ⌜ Shows (now (trace .entry)) (now (table .entry)) (logs (now (bytes .entry)) (now («device_rows» .entry)) (now («endpoint_rows» .entry)) (now (packets .entry)) (now (events .entry)) (now (transactions .entry)) (now (groups .entry)) (now (marks .entry)) (now (states .entry)) (now (items .entry)) (now (links .entry)) (now (requests .entry))) (now (out .entry)) (now (out .exit)) r ⌝ }
+{
+    let r = run(
+        trace,
+        table,
+        bytes,
+        device_rows,
+        endpoint_rows,
+        packets,
+        events,
+        transactions,
+        groups,
+        marks,
+        states,
+        items,
+        links,
+        requests,
+    );
+    let d = r.decoder;
+    let n = d.counts;
+    report(
+        r.answer,
+        r.place,
+        n,
+        device_rows,
+        endpoint_rows,
+        packets,
+        events,
+        transactions,
+        groups,
+        marks,
+        states,
+        items,
+        links,
+        requests,
+        out,
+    )
+}
+
+// What is printed for this trace; gives its length.
+fn print(trace: &[u8], out: &mut [u8]) -> usize
+    requires { ⌜ textRoom noRows ≤ length (now out) ⌝ }
+    ensures { λ r. ⌜ Printed (now (trace .entry)) (now (out .entry)) (now (out .exit)) r ⌝ }
+{
+    if INPUT < trace.len() {
+        return text::too_long_line(out, 0);
+    }
+    let mut table = [0u64; 2176];
+    let mut bytes = [0u8; 8192];
+    let mut device_rows = [0u64; 64];
+    let mut endpoint_rows = [0u64; 384];
+    let mut packets = [0u64; 1024];
+    let mut events = [0u64; 256];
+    let mut transactions = [0u64; 384];
+    let mut groups = [0u64; 768];
+    let mut marks = [0u8; 8192];
+    let mut states = [0u64; 256];
+    let mut items = [0u64; 256];
+    let mut links = [0u64; 2560];
+    let mut requests = [0u64; 192];
+    show(
+        trace,
+        &mut table,
+        &mut bytes,
+        &mut device_rows,
+        &mut endpoint_rows,
+        &mut packets,
+        &mut events,
+        &mut transactions,
+        &mut groups,
+        &mut marks,
+        &mut states,
+        &mut items,
+        &mut links,
+        &mut requests,
+        out,
+    )
+}
+
+fn main() {
+    // One byte more tells that the trace is too long.
+    let mut input = [0u8; INPUT + 1];
+    let n = io::read_full(STDIN_FILENO, &mut input);
+    let mut out = [0u8; TEXT];
+    let end = print(&input[..n], &mut out);
+    io::write_all(STDOUT_FILENO, &out[..end]);
+}
