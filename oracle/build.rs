@@ -4,11 +4,16 @@
 use std::fs;
 use std::path::{Path, PathBuf};
 
+#[path = "build/counted.rs"]
+mod counted;
+
 fn main() {
     let out = PathBuf::from(std::env::var("OUT_DIR").expect("cargo sets OUT_DIR"));
     let changes = Path::new("changes");
     let source = Path::new("../docs/src");
     println!("cargo:rerun-if-changed=changes");
+    println!("cargo:rerun-if-changed=build.rs");
+    println!("cargo:rerun-if-changed=build");
     println!("cargo:rerun-if-changed=../docs/src/src");
     if std::env::var_os("CARGO_FEATURE_PORT").is_some() {
         // Where `rt staticlib` leaves the port.
@@ -20,7 +25,11 @@ fn main() {
         let text = made(&fs::read_to_string(changes.join(name).with_extension("txt")).expect(name), source);
         fs::write(out.join(name).with_extension("rs"), &text).expect("OUT_DIR can be written");
         if name == "decoder" {
-            mutants(&text, &changes.join("mutants.txt"), &out);
+            mutants(&text, "mutants", &out);
+            mutants(&text, "slips", &out);
+            let (text, cases) = counted::counted(&text);
+            fs::write(out.join("counted.rs"), text).expect("OUT_DIR can be written");
+            fs::write(out.join("cases.rs"), counted::table(&cases)).expect("OUT_DIR can be written");
         }
     }
 }
@@ -65,9 +74,9 @@ fn changed(mut text: String, script: &str) -> String {
     text
 }
 
-/// A decoder with one deliberate fault for each part of the file that starts with `mutant NAME`.
-fn mutants(decoder: &str, script: &Path, out: &Path) {
-    let script = fs::read_to_string(script).expect("mutants.txt");
+/// A decoder with one deliberate fault for each part of the file that starts with `mutant NAME`, and a list of what `check` finds in each.
+fn mutants(decoder: &str, name: &str, out: &Path) {
+    let script = fs::read_to_string(Path::new("changes").join(name).with_extension("txt")).expect(name);
     let mut names = Vec::new();
     for part in script.split("\nmutant ").skip(1) {
         let (name, body) = part.split_once('\n').expect("mutant NAME");
@@ -81,5 +90,5 @@ fn mutants(decoder: &str, script: &Path, out: &Path) {
         "{modules}\n/// What `check` finds in each decoder with a fault.\npub fn each(seed: u64, calls: u64) -> Vec<(&'static str, Result<u64, String>)> {{\n    \
          let mut found = Vec::new();\n{list}    found\n}}\n"
     );
-    fs::write(out.join("mutants.rs"), all).expect("OUT_DIR can be written");
+    fs::write(out.join(name).with_extension("rs"), all).expect("OUT_DIR can be written");
 }

@@ -42,6 +42,28 @@ pub struct View {
     pub keepalive_item: Option<u64>,
 }
 
+/// Where a decoder stands: what the status of the next packet goes by, and the event state.
+#[derive(Copy, Clone, PartialEq, Eq, PartialOrd, Ord, Debug)]
+pub struct Place {
+    /// The transaction that the next packet finds, and whether it is resumed.
+    pub transaction: Option<Style>,
+    pub resumed: bool,
+    /// The suspended transaction has no endpoint: the next packet drops it (answer 8) and has no status.
+    pub dropped: bool,
+    pub event: u8,
+}
+
+/// A transaction as `transaction_status` sees it. PIDs and types are numbers; a type of 4 is unknown.
+#[derive(Copy, Clone, PartialEq, Eq, PartialOrd, Ord, Debug)]
+pub struct Style {
+    /// Start or complete, and the type, of a split.
+    pub split: Option<(u8, u8)>,
+    /// What it began with; of a split its token, 0 where it has none.
+    pub first: u8,
+    pub last: u8,
+    pub kind: u8,
+}
+
 /// What the calls need of a decoder; each decoder made from the source has it (src/machine.rs).
 pub trait Mechanism: Sized {
     type Saved;
@@ -57,6 +79,7 @@ pub trait Mechanism: Sized {
     fn restore(&mut self, saved: Self::Saved);
     /// Nothing once the decoder has finished.
     fn view(&self) -> Option<View>;
+    fn place(&self) -> Place;
     fn total(&self, endpoint: u64) -> u64;
     /// A trial of answer 9: the totals of the endpoints from a number on.
     fn start_totals(&mut self, from: u64, total: u64);
@@ -80,6 +103,9 @@ pub const LOGS: [&str; 12] = [
     "links",
     "requests",
 ];
+
+/// The words of a row of each log.
+pub const WIDTHS: [usize; 12] = [1, 1, 3, 2, 2, 1, 3, 1, 1, 1, 4, 3];
 
 const BYTES: usize = 0;
 const DEVICES: usize = 1;
@@ -133,6 +159,32 @@ fn count(capture: &CaptureWriter) -> Rows {
         capture.counters.journal.borrow().links as u64,
         capture.shared.requests.borrow().len() as u64,
     ])
+}
+
+/// The words of each log, in the order of `LOGS`.
+pub fn words(c: &CaptureWriter) -> [Vec<u64>; 12] {
+    let links = |mark: &Mark| match *mark {
+        Mark::T(x, transaction) => vec![0, x, transaction, 0],
+        Mark::G(x, transaction) => vec![1, x, transaction, 0],
+        Mark::D(x, transaction, total) => vec![2, x, transaction, total],
+        Mark::E(x, item) => vec![3, x, item, 0],
+        Mark::Packet | Mark::Group(..) | Mark::Item(_) => vec![],
+    };
+    let starts = c.packet_index.stream.rows.iter();
+    [
+        c.packet_data.rows.iter().map(|b| *b as u64).collect(),
+        c.devices.rows.iter().map(|d| d.address.0 as u64).collect(),
+        c.endpoints.rows.iter().flat_map(|e| [e.device_id().value, e.number().0 as u64, e.direction() as u64]).collect(),
+        starts.zip(&c.packet_times.stream.rows).flat_map(|(start, time)| [*start, *time]).collect(),
+        c.event_index.stream.rows.iter().zip(&c.event_codes.rows).flat_map(|(packet, code)| [*packet, *code as u64]).collect(),
+        c.transaction_index.stream.rows.to_vec(),
+        c.group_index.rows.iter().flat_map(|g| [g.endpoint_id().value, g.group_id().value, g.is_start() as u64]).collect(),
+        c.endpoint_states.rows.iter().map(|s| *s as u64).collect(),
+        c.endpoint_state_index.stream.rows.to_vec(),
+        c.item_index.stream.rows.to_vec(),
+        c.counters.journal.borrow().marks.iter().flat_map(links).collect(),
+        c.shared.requests.borrow().iter().flat_map(|r| [r.endpoint, u64::from_le_bytes(r.setup), r.length]).collect(),
+    ]
 }
 
 /// The only error that the Rust gives (docs/src/src/decoder.rs, `endpoint_id`): answer 8.

@@ -5,12 +5,20 @@ use crate::trace::Writer;
 use crate::usb::PID;
 use crate::usb::PID::*;
 
+#[path = "steered.rs"]
+pub mod steered;
+
 /// A small random generator (splitmix64).
 pub struct Random(u64);
 
 impl Random {
     pub fn new(seed: u64) -> Self {
         Random(seed)
+    }
+
+    /// The generator of a number under a seed: those of other numbers and seeds go other ways.
+    pub fn of(seed: u64, number: u64) -> Self {
+        Random(Random(seed).next() ^ number)
     }
 
     pub fn next(&mut self) -> u64 {
@@ -62,9 +70,14 @@ pub const KINDS: [(&str, fn(&mut Bench)); 16] = [
     ("mixed", Bench::mixed),
 ];
 
+/// Kinds that the comparison plays besides, to reach what the scenes above seldom do. They stand apart, since traces/ and the runs of
+/// crates/rules are made of the others.
+pub const EXTRA: [(&str, fn(&mut Bench)); 4] =
+    [("walk", Bench::walk), ("stages", Bench::stages), ("transfers", Bench::transfers), ("crowd", Bench::crowd)];
+
 /// A trace of n records of a kind, or none where there is no such kind.
 pub fn generate(seed: u64, n: u64, kind: &str) -> Option<Vec<u8>> {
-    let (_, scene) = KINDS.iter().find(|(name, _)| *name == kind)?;
+    let (_, scene) = KINDS.iter().chain(&EXTRA).find(|(name, _)| *name == kind)?;
     let mut bench = Bench::new(seed);
     if kind == "mixed" {
         bench.noise = 6;

@@ -2,11 +2,9 @@
 
 use std::fmt::Write;
 
-use crate::calls::{Calls, Mechanism, Rows};
-use crate::capture::CaptureWriter;
+use crate::calls::{Calls, Mechanism, Rows, words};
 use crate::decoder::machine::Machine;
 use crate::generate::{KINDS, generate};
-use crate::storage::Mark;
 use crate::trace::{Clock, Reader, Record, call};
 use crate::traces::{SEQUENCES, written};
 
@@ -66,32 +64,6 @@ fn written_call(record: &Record, time: u64) -> String {
         Record::Event { kind, code, .. } => format!("event {kind} {code} {time}"),
         Record::Detail { address, number, direction, kind, max } => format!("detail {address} {number} {direction} {kind} {max}"),
     }
-}
-
-/// The words of each log, in the order of `calls::LOGS`.
-fn words(c: &CaptureWriter) -> [Vec<u64>; 12] {
-    let links = |mark: &Mark| match *mark {
-        Mark::T(x, transaction) => vec![0, x, transaction, 0],
-        Mark::G(x, transaction) => vec![1, x, transaction, 0],
-        Mark::D(x, transaction, total) => vec![2, x, transaction, total],
-        Mark::E(x, item) => vec![3, x, item, 0],
-        Mark::Packet | Mark::Group(..) | Mark::Item(_) => vec![],
-    };
-    let starts = c.packet_index.stream.rows.iter();
-    [
-        c.packet_data.rows.iter().map(|b| *b as u64).collect(),
-        c.devices.rows.iter().map(|d| d.address.0 as u64).collect(),
-        c.endpoints.rows.iter().flat_map(|e| [e.device_id().value, e.number().0 as u64, e.direction() as u64]).collect(),
-        starts.zip(&c.packet_times.stream.rows).flat_map(|(start, time)| [*start, *time]).collect(),
-        c.event_index.stream.rows.iter().zip(&c.event_codes.rows).flat_map(|(packet, code)| [*packet, *code as u64]).collect(),
-        c.transaction_index.stream.rows.to_vec(),
-        c.group_index.rows.iter().flat_map(|g| [g.endpoint_id().value, g.group_id().value, g.is_start() as u64]).collect(),
-        c.endpoint_states.rows.iter().map(|s| *s as u64).collect(),
-        c.endpoint_state_index.stream.rows.to_vec(),
-        c.item_index.stream.rows.to_vec(),
-        c.counters.journal.borrow().marks.iter().flat_map(links).collect(),
-        c.shared.requests.borrow().iter().flat_map(|r| [r.endpoint, u64::from_le_bytes(r.setup), r.length]).collect(),
-    ]
 }
 
 /// A trace and its finish as one lemma: refused calls are no step, and a long packet is left out.

@@ -7,11 +7,17 @@ pub use crates::{CRC_16_USB, Context, Crc, Error};
 
 pub mod bench;
 pub mod calls;
+pub mod compare;
+pub mod coverage;
 pub mod crates;
+pub mod damage;
 pub mod generate;
 pub mod lemmas;
+pub mod limits;
 pub mod listing;
 pub mod packets;
+pub mod program;
+pub mod report;
 pub mod selfcheck;
 pub mod storage;
 pub mod trace;
@@ -71,3 +77,5 @@ macro_rules! decoder_module {
 }
 
 decoder_module!(decoder, "/decoder.rs");
+// The same with its cases counted (build/counted.rs).
+decoder_module!(counted, "/counted.rs");

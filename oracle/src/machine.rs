@@ -2,7 +2,7 @@
 // private state.
 
 use super::*;
-use crate::calls::{EndpointView, Mechanism, TransactionView, View};
+use crate::calls::{EndpointView, Mechanism, Place, Style, TransactionView, View};
 use crate::capture::{DeviceData, create_capture};
 use crate::storage::Journal;
 
@@ -102,6 +102,14 @@ fn transaction_view(t: &TransactionState) -> TransactionView {
         link: t.ep_transaction_id.map(|x| x.value),
         payload: t.payload.as_ref().map(|p| p.len() as u64),
     }
+}
+
+fn style(t: &TransactionState) -> Style {
+    let (split, first) = match t.style {
+        TransactionStyle::Simple(first) => (None, first),
+        TransactionStyle::Split(sc, kind, token) => (Some((sc as u8, kind as u8)), token.unwrap_or(PID::Malformed)),
+    };
+    Style { split, first: first as u8, last: t.last as u8, kind: t.endpoint_type.map_or(4, |kind| kind as u8) }
 }
 
 fn endpoint_view(e: &EndpointData) -> EndpointView {
@@ -212,6 +220,13 @@ impl Mechanism for Machine {
             last_item_endpoint: d.last_item_endpoint.map(|x| x.value),
             keepalive_item: d.ls_keepalive_item.map(|x| x.value),
         })
+    }
+
+    fn place(&self) -> Place {
+        let d = self.decoder();
+        let transaction = d.suspended_transaction.as_ref().or(d.transaction_state.as_ref()).map(style);
+        let dropped = d.suspended_transaction.as_ref().is_some_and(|t| t.endpoint_id.is_none());
+        Place { transaction, resumed: d.suspended_transaction.is_some(), dropped, event: d.event_state as u8 }
     }
 
     fn total(&self, endpoint: u64) -> u64 {

@@ -4,9 +4,10 @@ use std::io::{Read, Write};
 use std::process::ExitCode;
 
 use oracle::calls::{LOGS, Rows};
+use oracle::compare::Rust;
 use oracle::decoder::machine::Machine;
-use oracle::generate::{KINDS, download, generate};
-use oracle::{bench, lemmas, listing, selfcheck, trace, traces};
+use oracle::generate::{EXTRA, KINDS, download, generate};
+use oracle::{bench, compare, lemmas, listing, report, selfcheck, trace, traces};
 
 const USAGE: &str = "usage: oracle COMMAND
   listing [OPTION..]     a UTL trace on standard input; prints the listing of document 01
@@ -15,6 +16,7 @@ const USAGE: &str = "usage: oracle COMMAND
   gen64                  writes the 64 MiB trace of change request 11
   bench FILE             the time of the raw Rust decoder on a trace, median of five runs
   selfcheck N            N random calls, 01's well-formed list and demand 3 after each; then the mutants
+  coverage N SEED        plays the traces of `compare traces N SEED` by the Rust alone: which cases of decoder.rs they meet
   traces DIR             writes the traces of the repository and the listings that they must give
   traces --check DIR     compares them with what stands in DIR
   lemmas SEED RUNS CALLS writes the sequences of `traces` and RUNS random runs of CALLS records as lemmas of crates/rules (proofs/Oracle.antt)
@@ -90,7 +92,7 @@ fn run(words: &[String]) -> Result<bool, String> {
             output(answers(&input()?, &o).as_bytes())?;
         }
         ("gen", [kinds]) if kinds == "kinds" => {
-            let names: String = KINDS.iter().map(|(name, _)| format!("{name}\n")).collect();
+            let names: String = KINDS.iter().chain(&EXTRA).map(|(name, _)| format!("{name}\n")).collect();
             output(names.as_bytes())?;
         }
         ("gen", [seed, n, kind]) => {
@@ -103,6 +105,10 @@ fn run(words: &[String]) -> Result<bool, String> {
             bench::bench::<Machine>(&bytes)?;
         }
         ("selfcheck", [n]) => return Ok(selfcheck::report(number(n)?)),
+        ("coverage", [n, seed]) => {
+            let (mut port, mut lister) = (Rust::<Machine>::default(), Rust::<Machine>::default());
+            return Ok(report::traces(&compare::traces(&mut port, &mut lister, number(n)?, number(seed)?), true));
+        }
         ("traces", [folder]) => traces::write(folder)?,
         ("lemmas", [seed, runs, calls]) => output(lemmas::lemmas(number(seed)?, number(runs)?, number(calls)?).as_bytes())?,
         ("traces", [flag, folder]) if flag == "--check" => traces::check(folder)?,

@@ -95,26 +95,68 @@ pub fn call<M: Mechanism>(calls: &mut Calls<M>, clock: &mut Clock, record: &Reco
     }
 }
 
-/// A whole trace and its finish, up to the first refusal; 8 is none.
-pub fn run<M: Mechanism>(trace: &[u8], room: Rows, total: u64) -> Result<Calls<M>, Refused> {
-    header(trace)?;
-    let mut calls = Calls::new(room, total, false);
-    if calls.fresh != 0 {
-        return Err(Refused { answer: calls.fresh, at: 0 });
+/// What a trace left: the calls, and the refusal that ended it. A wrong header is refused before there is a decoder.
+pub struct Played<M: Mechanism> {
+    pub calls: Option<Calls<M>>,
+    pub refused: Option<Refused>,
+}
+
+/// A whole trace and its finish, up to the first refusal; 8 is none. `see` is shown the decoder before each record, and the answers:
+/// that of fresh, of each record and of finish.
+pub fn play<M: Mechanism>(trace: &[u8], room: Rows, total: u64, see: &mut impl Watch<M>) -> Played<M> {
+    if let Err(refused) = header(trace) {
+        return Played { calls: None, refused: Some(refused) };
     }
+    let mut calls = Calls::new(room, total, false);
+    see.answer(calls.fresh);
+    if calls.fresh != 0 {
+        return Played { refused: Some(Refused { answer: calls.fresh, at: 0 }), calls: Some(calls) };
+    }
+    let refused = records(trace, &mut calls, see);
+    Played { calls: Some(calls), refused }
+}
+
+/// Who looks on while a trace is played.
+pub trait Watch<M> {
+    fn before(&mut self, machine: &M, record: &Record);
+    fn answer(&mut self, answer: u8);
+}
+
+/// Nobody.
+impl<M> Watch<M> for () {
+    fn before(&mut self, _: &M, _: &Record) {}
+    fn answer(&mut self, _: u8) {}
+}
+
+fn records<M: Mechanism>(trace: &[u8], calls: &mut Calls<M>, see: &mut impl Watch<M>) -> Option<Refused> {
     let mut reader = Reader::new(trace);
     let mut clock = Clock::default();
     loop {
         let at = reader.at;
-        let Some(record) = reader.next() else { break };
-        let answer = call(&mut calls, &mut clock, &record?);
+        let record = match reader.next() {
+            None => break,
+            Some(Err(refused)) => return Some(refused),
+            Some(Ok(record)) => record,
+        };
+        see.before(&calls.machine, &record);
+        let answer = call(calls, &mut clock, &record);
+        see.answer(answer);
         if answer != 0 && answer != 8 {
-            return Err(Refused { answer, at });
+            return Some(Refused { answer, at });
         }
     }
-    match calls.finish() {
-        0 => Ok(calls),
-        answer => Err(Refused { answer, at: trace.len() }),
+    let answer = calls.finish();
+    see.answer(answer);
+    (answer != 0).then_some(Refused { answer, at: trace.len() })
+}
+
+/// The same where only a whole trace is wanted.
+pub fn run<M: Mechanism>(trace: &[u8], room: Rows, total: u64) -> Result<Calls<M>, Refused> {
+    let played = play::<M>(trace, room, total, &mut ());
+    match (played.refused, played.calls) {
+        (None, Some(calls)) => Ok(calls),
+        (Some(refused), _) => Err(refused),
+        (None, None) => unreachable!("a trace with no decoder is refused"),
     }
 }
 

@@ -1,13 +1,18 @@
-//! The proved port, linked as a static library, beside the Rust: `compare packets N` runs N random packets through both packet checks,
-//! `compare groups N` N random states through both `group_status`.
+//! The proved port, linked as a static library, beside the Rust: packets through both packet checks, states through both `group_status`,
+//! whole traces through the library and through the program.
+
+mod port;
 
 use std::process::ExitCode;
 
 use oracle::decoder::machine::{State, group_status_words};
 use oracle::generate::Random;
 use oracle::packets::{data, handshake, sof, split, token};
+use oracle::program::Program;
 use oracle::usb::PID::{self, *};
 use oracle::usb::validate_packet;
+use oracle::{compare, report};
+use port::Library;
 
 #[link(name = "capi", kind = "static")]
 #[link(name = "group_c", kind = "static")]
@@ -182,21 +187,45 @@ fn groups(count: u64) -> bool {
     differences == 0
 }
 
+fn number(text: &str) -> Result<u64, String> {
+    text.parse().map_err(|_| format!("{text} is no number"))
+}
+
+/// Where `rt check listing` leaves the program.
+const LISTING: &str = "target/bin/listing";
+
+const USAGE: &str = "usage: compare COMMAND
+  packets N               N packets through both packet checks
+  groups N                N states through both group_status
+  traces N SEED [PROGRAM] N traces through the library with several rooms and through the program: all rows and bytes, every listing
+  table N SEED [PROGRAM]  the same, with a table of how often each case of decoder.rs was met
+  inputs N SEED [PROGRAM] N inputs to the program, most of them damaged
+PROGRAM is the program `listing` (target/bin/listing)";
+
+fn run(words: &[&str]) -> Result<bool, String> {
+    match *words {
+        ["packets", n] => Ok(packets(number(n)?)),
+        ["groups", n] => Ok(groups(number(n)?)),
+        [command @ ("traces" | "table"), n, seed, ref rest @ ..] if rest.len() < 2 => {
+            let mut program = Program::new(rest.first().unwrap_or(&LISTING))?;
+            let tally = compare::traces(&mut Library::default(), &mut program, number(n)?, number(seed)?);
+            Ok(report::traces(&tally, command == "table"))
+        }
+        ["inputs", n, seed, ref rest @ ..] if rest.len() < 2 => {
+            let mut program = Program::new(rest.first().unwrap_or(&LISTING))?;
+            Ok(report::inputs(&compare::inputs(&mut program, number(n)?, number(seed)?)))
+        }
+        _ => Err(USAGE.to_string()),
+    }
+}
+
 fn main() -> ExitCode {
     let words: Vec<String> = std::env::args().skip(1).collect();
-    let good = match words.iter().map(String::as_str).collect::<Vec<_>>()[..] {
-        ["packets", n] => n.parse().map(packets),
-        ["groups", n] => n.parse().map(groups),
-        _ => {
-            eprintln!("usage: compare packets N | compare groups N");
-            return ExitCode::FAILURE;
-        }
-    };
-    match good {
+    match run(&words.iter().map(String::as_str).collect::<Vec<_>>()) {
         Ok(true) => ExitCode::SUCCESS,
         Ok(false) => ExitCode::FAILURE,
-        Err(_) => {
-            eprintln!("{} is no number", words[1]);
+        Err(message) => {
+            eprintln!("{message}");
             ExitCode::FAILURE
         }
     }

@@ -1,0 +1,300 @@
+//! The comparison at scale: traces of every kind are played by the Rust and by a port, with room for each log that is enough, just enough
+//! or one row short, and every row and byte that they leave is compared.
+
+use std::collections::BTreeMap;
+use std::marker::PhantomData;
+
+use crate::calls::{LOGS, Mechanism, Rows, WIDTHS, words};
+use crate::counted::machine::Machine as Counted;
+use crate::coverage::Seen;
+use crate::damage::{DAMAGES, INPUTS, Made, made};
+use crate::decoder::machine::Machine;
+use crate::generate::Random;
+use crate::generate::steered::every_pair;
+use crate::limits::limits;
+use crate::listing::{BUFFER, listing};
+use crate::trace::{Played, play};
+use crate::traces::{all, written};
+
+/// What playing a trace leaves: its answer and offset (0 and the trace's length where it finished), and of each log the rows and their words.
+#[derive(PartialEq)]
+pub struct Left {
+    pub answer: u8,
+    pub at: u64,
+    pub rows: [u64; 12],
+    pub words: [Vec<u64>; 12],
+}
+
+/// Whatever plays a trace on logs of a given room. An error is a fault that no row shows, such as a byte written beyond the rows.
+pub trait Port {
+    fn play(&mut self, trace: &[u8], room: &Rows) -> Result<Left, String>;
+}
+
+/// Whatever lists a trace as the program does.
+pub trait Lister {
+    fn list(&mut self, trace: &[u8]) -> Result<Vec<u8>, String>;
+}
+
+/// A decoder made from the source, as a port.
+pub struct Rust<M>(PhantomData<M>);
+
+impl<M> Default for Rust<M> {
+    fn default() -> Self {
+        Rust(PhantomData)
+    }
+}
+
+impl<M: Mechanism> Port for Rust<M> {
+    fn play(&mut self, trace: &[u8], room: &Rows) -> Result<Left, String> {
+        Ok(left(trace, play::<M>(trace, *room, 0, &mut ())))
+    }
+}
+
+impl<M: Mechanism> Lister for Rust<M> {
+    fn list(&mut self, trace: &[u8]) -> Result<Vec<u8>, String> {
+        Ok(listing::<M>(trace, BUFFER, Rows::PROGRAM, 0).into_bytes())
+    }
+}
+
+fn left<M: Mechanism>(trace: &[u8], played: Played<M>) -> Left {
+    let (answer, at) = played.refused.map_or((0, trace.len()), |r| (r.answer, r.at));
+    // A decoder that could not be made has no row, and wrote none.
+    let (rows, words) = match played.calls {
+        Some(calls) if calls.fresh == 0 => (calls.rows().0, words(calls.machine.capture())),
+        _ => Default::default(),
+    };
+    Left { answer, at: at as u64, rows, words }
+}
+
+/// How the two outcomes differ, if they do.
+fn difference(rust: &Left, port: &Left) -> Option<String> {
+    if (rust.answer, rust.at) != (port.answer, port.at) {
+        return Some(format!("the Rust {} at {}, the port {} at {}", rust.answer, rust.at, port.answer, port.at));
+    }
+    let log = (0..12).find(|i| rust.rows[*i] != port.rows[*i] || rust.words[*i] != port.words[*i])?;
+    let (a, b) = (&rust.words[log], &port.words[log]);
+    let word = a.iter().zip(b).position(|(x, y)| x != y).unwrap_or(a.len().min(b.len()));
+    let (name, row) = (LOGS[log], word / WIDTHS[log]);
+    let rows = (rust.rows[log], port.rows[log]);
+    Some(format!("{name}: rows {} and {}, row {row}: the Rust {:?}, the port {:?}", rows.0, rows.1, a.get(word), b.get(word)))
+}
+
+/// What was compared, and what came of it.
+#[derive(Default)]
+pub struct Tally {
+    pub traces: u64,
+    pub kinds: BTreeMap<&'static str, u64>,
+    pub damages: [u64; DAMAGES.len()],
+    /// Traces played through the port, and the answers that ended them.
+    pub runs: u64,
+    pub ends: [u64; 14],
+    /// Rows compared of each log, and link rows of each kind.
+    pub rows: [u64; 12],
+    pub links: [u64; 4],
+    /// Runs with just the rows that a trace wants, and for each log those that had one row fewer and were refused with 7.
+    pub enough: u64,
+    pub short: [u64; 12],
+    /// Traces refused for want of a 65th device, and of a 129th endpoint.
+    pub full: [u64; 2],
+    /// Of which logs the program ran out.
+    pub wanting: [u64; 12],
+    /// Listings compared by their first word (a listing, `refused` with its number, `too long`).
+    pub listings: BTreeMap<String, u64>,
+    pub seen: Seen,
+    pub differences: u64,
+}
+
+/// Where no more differences are told.
+const TOLD: u64 = 20;
+
+impl Tally {
+    fn differ(&mut self, text: String) {
+        self.differences += 1;
+        if self.differences <= TOLD {
+            println!("differs: {text}");
+        }
+    }
+
+    /// One trace with one room: the Rust, the counting Rust and the port.
+    fn run(&mut self, port: &mut dyn Port, trace: &[u8], room: &Rows, what: &str) -> Left {
+        let rust = left(trace, play::<Machine>(trace, *room, 0, &mut ()));
+        let counted = left(trace, play::<Counted>(trace, *room, 0, &mut self.seen));
+        if let Some(text) = difference(&rust, &counted) {
+            self.differ(format!("{what}: counting changes what the Rust does: {text}"));
+        }
+        match port.play(trace, room).map(|port| difference(&rust, &port)) {
+            Ok(None) => {}
+            Ok(Some(text)) | Err(text) => self.differ(format!("{what}, room {:?}: {text}", room.0)),
+        }
+        self.runs += 1;
+        self.ends[rust.answer as usize] += 1;
+        for (sum, rows) in self.rows.iter_mut().zip(rust.rows) {
+            *sum += rows;
+        }
+        for row in rust.words[10].chunks(4) {
+            self.links[row[0] as usize] += 1;
+        }
+        rust
+    }
+
+    /// A trace with several rooms: just enough, one row short in one log, some more than enough, and much less in one log.
+    fn rooms(&mut self, port: &mut dyn Port, trace: &[u8], what: &str, random: &mut Random) {
+        let (answer, enough) = wanted(trace);
+        if answer == 7 {
+            self.full[(enough.0[2] == 128) as usize] += 1;
+        }
+        self.run(port, trace, &enough, what);
+        self.enough += 1;
+        let log = (0..12).map(|i| (self.traces as usize + i) % 12).find(|i| enough.0[*i] > 0).expect("a log with rows");
+        self.one_short(port, trace, &enough, log, what);
+        let more = Rows(enough.0.map(|rows| rows + random.below(5)));
+        self.run(port, trace, &more, what);
+        let mut less = more;
+        let log = random.below(12) as usize;
+        less.0[log] = random.below(less.0[log] + 1);
+        self.run(port, trace, &less, what);
+    }
+
+    fn one_short(&mut self, port: &mut dyn Port, trace: &[u8], enough: &Rows, log: usize, what: &str) {
+        let mut short = *enough;
+        short.0[log] -= 1;
+        if self.run(port, trace, &short, what).answer == 7 {
+            self.short[log] += 1;
+        }
+    }
+
+    fn trace(&mut self, port: &mut dyn Port, lister: &mut dyn Lister, made: Made, what: &str, random: &mut Random) {
+        *self.kinds.entry(made.kind).or_default() += 1;
+        if let Some(damage) = made.damage {
+            self.damages[damage] += 1;
+        }
+        self.rooms(port, &made.bytes, what, random);
+        self.listed(lister, &made.bytes, what);
+        self.program_limit(lister, &made.bytes, what);
+        self.traces += 1;
+    }
+
+    /// Where the program runs out of room: of which log, and what it prints of the trace before that.
+    fn program_limit(&mut self, lister: &mut dyn Lister, trace: &[u8], what: &str) {
+        let refusal = |room| play::<Machine>(trace, room, 0, &mut ()).refused.filter(|r| r.answer == 7);
+        let Some(refused) = refusal(Rows::PROGRAM).filter(|_| trace.len() <= BUFFER) else { return };
+        for log in 0..12 {
+            let mut room = Rows::LARGEST;
+            room.0[log] = Rows::PROGRAM.0[log];
+            self.wanting[log] += (refusal(room) == Some(refused)) as u64;
+        }
+        self.listed(lister, &trace[..refused.at], what);
+    }
+
+    /// What the program prints.
+    fn listed(&mut self, lister: &mut dyn Lister, trace: &[u8], what: &str) {
+        let rust = listing::<Machine>(trace, BUFFER, Rows::PROGRAM, 0);
+        let words: Vec<&str> = rust.split(' ').take(2).collect();
+        let key = if words[0] == "refused" { words.join(" ") } else { rust.lines().next().unwrap_or("").to_string() };
+        *self.listings.entry(key).or_default() += 1;
+        match lister.list(trace) {
+            Ok(port) if port == rust.as_bytes() => {}
+            Ok(port) => self.differ(format!("{what}: {}", line_difference(&rust, &String::from_utf8_lossy(&port)))),
+            Err(text) => self.differ(format!("{what}: {text}")),
+        }
+    }
+}
+
+/// The answer of a trace and the rows that it leaves where there is all the room that may be; the program's room where it leaves none.
+fn wanted(trace: &[u8]) -> (u8, Rows) {
+    let whole = left(trace, play::<Machine>(trace, Rows::LARGEST, 0, &mut ()));
+    (whole.answer, if whole.rows[1] == 0 { Rows::PROGRAM } else { Rows(whole.rows) })
+}
+
+fn line_difference(rust: &str, port: &str) -> String {
+    let line = rust.lines().zip(port.lines()).position(|(a, b)| a != b);
+    let line = line.unwrap_or(rust.lines().count().min(port.lines().count()));
+    format!("line {line}: the Rust {:?}, the program {:?}", rust.lines().nth(line), port.lines().nth(line))
+}
+
+/// The traces of `systematic`, then so many at random, each through the port with several rooms and through the program; then each log at
+/// its limits.
+pub fn traces(port: &mut dyn Port, lister: &mut dyn Lister, count: u64, seed: u64) -> Tally {
+    let mut tally = Tally::default();
+    for (kind, name, bytes) in systematic() {
+        tally.trace(port, lister, Made { bytes, kind, damage: None }, &format!("{kind}: {name}"), &mut Random::new(seed));
+    }
+    for i in 0..count {
+        let mut random = Random::of(seed, i);
+        let made = made(&mut random);
+        let damage = made.damage.map_or("whole", |d| DAMAGES[d].0);
+        let what = format!("trace {i} of seed {seed} ({}, {damage})", made.kind);
+        tally.trace(port, lister, made, &what, &mut random);
+    }
+    shortest(port, &mut tally);
+    largest(port, &mut tally);
+    tally
+}
+
+/// Traces that are the same under every seed: each packet to each transaction, each log of the program filled, and those of traces/.
+fn systematic() -> Vec<(&'static str, String, Vec<u8>)> {
+    let pairs = every_pair().into_iter().enumerate().map(|(i, bytes)| ("every pair", i.to_string(), bytes));
+    let limits = limits().into_iter().map(|(log, bytes)| ("one too many", log.to_string(), bytes));
+    let named = all().into_iter().map(|(name, bytes)| ("traces/", name, bytes));
+    pairs.chain(limits).chain(named).collect()
+}
+
+/// The traces that fill a log, with one row short in each log that they write to.
+fn shortest(port: &mut dyn Port, tally: &mut Tally) {
+    for (name, trace) in limits() {
+        let (_, enough) = wanted(&trace);
+        for log in (0..12).filter(|log| enough.0[*log] > 0) {
+            tally.one_short(port, &trace, &enough, log, &format!("{name}, and one row short of {}", LOGS[log]));
+        }
+    }
+}
+
+/// Each log with the most rows that may be lent, and with one more (answer 1).
+fn largest(port: &mut dyn Port, tally: &mut Tally) {
+    let trace = written("IN 0 1; DATA0 *8; ACK; SETUP 0 0; event 1");
+    for log in 0..12 {
+        for more in 0..2 {
+            let mut room = Rows::PROGRAM;
+            room.0[log] = Rows::LARGEST.0[log] + more;
+            tally.run(port, &trace, &room, &format!("{} with {} rows", LOGS[log], room.0[log]));
+        }
+    }
+}
+
+/// So many inputs to the program, each kind in turn.
+pub fn inputs(lister: &mut dyn Lister, count: u64, seed: u64) -> Tally {
+    let mut tally = Tally::default();
+    for i in 0..count {
+        let mut random = Random::of(seed, i);
+        let (kind, input) = INPUTS[i as usize % INPUTS.len()];
+        tally.listed(lister, &input(&mut random), &format!("input {i} of seed {seed} ({kind})"));
+        *tally.kinds.entry(kind).or_default() += 1;
+        tally.traces += 1;
+    }
+    tally
+}
+
+/// That the comparison finds a slip, and nothing where there is none.
+#[cfg(test)]
+mod slips {
+    use std::panic::{AssertUnwindSafe, catch_unwind};
+
+    use super::*;
+
+    include!(concat!(env!("OUT_DIR"), "/slips.rs"));
+
+    /// The differences of a decoder on so many traces, or a panic of it.
+    fn check<M: Mechanism>(seed: u64, count: u64) -> Result<u64, String> {
+        let (mut port, mut lister) = (Rust::<M>::default(), Rust::<M>::default());
+        let played = catch_unwind(AssertUnwindSafe(|| traces(&mut port, &mut lister, count, seed)));
+        Ok(played.map_or(u64::MAX, |tally| tally.differences))
+    }
+
+    #[test]
+    fn each_is_found() {
+        assert_eq!(check::<Machine>(1, 50), Ok(0));
+        for (name, differences) in each(1, 50) {
+            assert_ne!(differences, Ok(0), "{name} is not found");
+        }
+    }
+}

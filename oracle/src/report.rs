@@ -1,0 +1,232 @@
+//! What a comparison says: what was compared, and how often each case of the source was met.
+
+use crate::calls::{LOGS, Style};
+use crate::compare::Tally;
+use crate::coverage::{CASES, Case, NEXT, count};
+use crate::damage::DAMAGES;
+
+/// Ways that no call can take: the function, the case, the way, and why. Any other way that is not met is a fault of the comparison, and
+/// one of these that is met is a fault here.
+const NEVER: &[(&str, &str, &str, &str)] = &[
+    ("transaction_status", "Malformed => New", "Malformed", MALFORMED),
+    ("transaction_status", "(_, Malformed, Malformed) => Continue", "(_, Malformed, Malformed)", MALFORMED),
+    ("transaction_status", "(.., SOF | Malformed) => New", "(.., Malformed)", MALFORMED),
+    ("transaction_status", "(Bulk, Complete, SETUP, ACK) => Done", "(Bulk, Complete, SETUP, ACK)", BULK_SETUP),
+    ("transaction_status", "(Bulk, Complete, SETUP, NYET) => Retry", "(Bulk, Complete, SETUP, NYET)", BULK_SETUP),
+    ("start_pid", "_ => ..", "_", "a split without its token is never handed to group_status"),
+    (
+        "group_status",
+        "if split_sc == Some(Start) && next == OUT (2)",
+        "not next == OUT",
+        "in a group that began with IN: only number 0 has both directions, and an active group there is a control transfer's",
+    ),
+    (
+        "packet_endpoint",
+        "if map.get(dev_addr).is_none()",
+        "yes",
+        "add_endpoint has just added the device, and add_device its map",
+    ),
+    (
+        "transaction_append",
+        "if let Some(state) = &mut self.transaction_state",
+        "no",
+        "no status that appends comes without a transaction",
+    ),
+    ("group_end", "if let Some(group) = ep_data.active.take()", "no", "a start or an append of a group comes just before it"),
+];
+
+const MALFORMED: &str = "a packet that is not valid is judged before the table is looked up";
+const BULK_SETUP: &str = "no row lets a SETUP continue a bulk split";
+
+fn never(case: &Case, way: &str) -> Option<&'static str> {
+    NEVER.iter().find(|(f, c, w, _)| *f == case.function && *c == case.what && *w == way).map(|(.., why)| *why)
+}
+
+/// Numbers with the names that they go by.
+fn named<'a>(names: impl IntoIterator<Item = &'a str>, numbers: &[u64]) -> String {
+    names.into_iter().zip(numbers).map(|(name, n)| format!("{name} {n}")).collect::<Vec<_>>().join(", ")
+}
+
+/// What came of inputs to the program; false where something differs.
+pub fn inputs(t: &Tally) -> bool {
+    let kinds: Vec<String> = t.kinds.iter().map(|(kind, n)| format!("{kind} {n}")).collect();
+    println!("inputs {}: {}", t.traces, kinds.join(", "));
+    listings(t);
+    let outputs = OUTPUTS.map(|first| t.listings.get(first).copied().unwrap_or(0));
+    let good = all_met("output", OUTPUTS, &outputs);
+    println!("{} differences", t.differences);
+    good && t.differences == 0
+}
+
+/// How the outputs of the program begin. Refusals 1, 2, 8 and 9 are none of them: its logs are not too long, it finishes last, 8 is no
+/// refusal, and no total comes so far.
+const OUTPUTS: [&str; 11] = [
+    "UTL 1",
+    "refused 3",
+    "refused 4",
+    "refused 5",
+    "refused 6",
+    "refused 7",
+    "refused 10",
+    "refused 11",
+    "refused 12",
+    "refused 13",
+    "too long",
+];
+
+fn listings(t: &Tally) {
+    let listings: Vec<String> = t.listings.iter().map(|(first, n)| format!("{first}: {n}")).collect();
+    println!("listings compared {}: {}", t.listings.values().sum::<u64>(), listings.join(", "));
+}
+
+/// Prints what was compared and, with the table, how often each case was met; false where something differs, or where something that can
+/// be met was not.
+pub fn traces(tally: &Tally, table: bool) -> bool {
+    what_was_compared(tally);
+    let good = [answers(tally), limits(tally), cases(table), pairs(tally), events(tally, table)];
+    println!("{} differences", tally.differences);
+    good == [true; 5] && tally.differences == 0
+}
+
+fn what_was_compared(t: &Tally) {
+    let kinds: Vec<String> = t.kinds.iter().map(|(kind, n)| format!("{kind} {n}")).collect();
+    println!("traces {}: {}", t.traces, kinds.join(", "));
+    println!("damaged {}: {}", t.damages.iter().sum::<u64>(), named(DAMAGES.iter().map(|d| d.0), &t.damages));
+    println!("played {} times, {} calls", t.runs, t.seen.calls);
+    println!("rows compared: {}; links: {}", named(LOGS, &t.rows), named(["T", "G", "D", "E"], &t.links));
+    listings(t);
+}
+
+/// False where one of them is 0.
+fn all_met<'a>(what: &str, names: impl IntoIterator<Item = &'a str>, numbers: &[u64]) -> bool {
+    let missing: Vec<&str> = names.into_iter().zip(numbers).filter(|(_, n)| **n == 0).map(|(name, _)| name).collect();
+    if !missing.is_empty() {
+        println!("    NOT MET: {what} {}", missing.join(", "));
+    }
+    missing.is_empty()
+}
+
+/// Answers of calls and of the reader. 2 wants a call behind finish and 9 a total past 2^64 - 1: no trace comes to either.
+fn answers(t: &Tally) -> bool {
+    let numbers: Vec<String> = (0..14).map(|i| i.to_string()).collect();
+    let names = || numbers.iter().map(String::as_str);
+    println!("answers of calls: {}", named(names(), &t.seen.answers));
+    println!("answers that ended a trace: {}", named(names(), &t.ends));
+    let mut met = t.ends;
+    met[8] = t.seen.answers[8];
+    (met[2], met[9]) = (1, 1);
+    let too_long = t.listings.get("too long").copied().unwrap_or(0);
+    all_met("answer", names(), &met) & all_met("listing", ["too long"], &[too_long])
+}
+
+fn limits(t: &Tally) -> bool {
+    println!("room just enough: {}; one row short and so refused with 7: {}", t.enough, named(LOGS, &t.short));
+    println!("a 65th device refused: {}; a 129th endpoint: {}", t.full[0], t.full[1]);
+    println!("logs that the program ran out of: {}", named(LOGS, &t.wanting));
+    let full = all_met("one too many:", ["devices", "endpoints"], &t.full);
+    all_met("one row short:", LOGS, &t.short) & all_met("the program's room:", LOGS, &t.wanting) & full
+}
+
+/// In the table a line for each case: how often it was met, and the way of it that was met least.
+fn cases(table: bool) -> bool {
+    let (mut ways, mut met, mut good) = (0, 0, true);
+    let mut heading = ("", "");
+    for case in CASES {
+        let counts: Vec<u64> = (0..case.ways.len()).map(|i| count(case.first + i)).collect();
+        if table {
+            headings(case, &mut heading);
+            println!("{:>12}  {}{}", counts.iter().sum::<u64>(), case.what, least(case, &counts));
+        }
+        ways += counts.len();
+        met += counts.iter().filter(|n| **n > 0).count();
+        for (way, n) in case.ways.iter().zip(&counts) {
+            good &= way_holds(case, way, *n, table);
+        }
+    }
+    println!("decoder.rs: {} cases with {ways} ways: {met} met, {} that no call can take", CASES.len(), NEVER.len());
+    good
+}
+
+/// The function and the match, where they are others than before.
+fn headings(case: &Case, (function, of): &mut (&'static str, &'static str)) {
+    if case.function != *function {
+        (*function, *of) = (case.function, "");
+        println!("{function}");
+    }
+    if case.of != *of {
+        *of = case.of;
+        println!("    {of}");
+    }
+}
+
+/// Of several ways the one that was met least.
+fn least(case: &Case, counts: &[u64]) -> String {
+    let can = (0..counts.len()).filter(|i| never(case, case.ways[*i]).is_none());
+    match can.min_by_key(|i| counts[*i]) {
+        Some(i) if counts.len() > 1 => format!("; least {}: {}", case.ways[i], counts[i]),
+        _ => String::new(),
+    }
+}
+
+fn way_holds(case: &Case, way: &str, n: u64, table: bool) -> bool {
+    let place = format!("{}, {}: {way}", case.function, case.what);
+    match (never(case, way), n) {
+        (None, 0) => println!("    NOT MET: {place}"),
+        (Some(_), 1..) => println!("    MET, and said to be never: {place}"),
+        (Some(why), 0) if table => println!("              never: {way}: {why}"),
+        _ => {}
+    }
+    never(case, way).is_some() == (n == 0)
+}
+
+/// The transactions that packets found, and whether each kind of packet came to each.
+fn pairs(t: &Tally) -> bool {
+    let met: usize = t.seen.pairs.values().map(|row| row.iter().filter(|n| **n > 0).count()).sum();
+    let states = t.seen.pairs.len();
+    let resumed = t.seen.pairs.keys().filter(|(resumed, _)| *resumed).count();
+    println!(
+        "transactions that a packet found: {}, resumed {resumed}; with the packet: {met} of {} pairs",
+        states - resumed,
+        states * NEXT.len()
+    );
+    for ((resumed, style), row) in &t.seen.pairs {
+        let missing: Vec<&str> = NEXT.iter().zip(row).filter(|(_, n)| **n == 0).map(|(name, _)| *name).collect();
+        if !missing.is_empty() {
+            let resumed = if *resumed { ", resumed" } else { "" };
+            println!("    NOT MET: {}{resumed}: {}", style_name(style), missing.join(", "));
+        }
+    }
+    met == states * NEXT.len()
+}
+
+fn style_name(style: &Option<Style>) -> String {
+    let Some(s) = style else { return "none".to_string() };
+    let kind = |k: u8| ["control", "isochronous", "bulk", "interrupt", "unknown"][k as usize];
+    match s.split {
+        None => format!("{:02X} then {:02X}, {}", s.first, s.last, kind(s.kind)),
+        Some((sc, k)) => {
+            format!("split {} {}, token {:02X}, last {:02X}", ["start", "complete"][sc as usize], kind(k), s.first, s.last)
+        }
+    }
+}
+
+const EVENT_STATES: [&str; 8] = [
+    "Idle",
+    "LsKeepaliveGroup",
+    "AwaitDeviceChirp",
+    "PartialDeviceChirp",
+    "ValidDeviceChirp",
+    "AwaitHostChirp",
+    "PartialHostChirp",
+    "ValidHostChirp",
+];
+
+/// Each event state with each kind of event.
+fn events(t: &Tally, table: bool) -> bool {
+    let met = t.seen.events.iter().flatten().filter(|n| **n > 0).count();
+    println!("event states with the event: {met} of {} pairs", 8 * 8);
+    for (name, row) in EVENT_STATES.iter().zip(&t.seen.events).filter(|_| table) {
+        println!("    {name}: {row:?}");
+    }
+    met == 8 * 8
+}
