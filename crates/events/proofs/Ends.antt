@@ -21,7 +21,9 @@ use Rattle.outcome.specs.State.{State}
 use Rattle.steps.specs.Sound.{EndFits}
 use Rattle.steps.specs.Step.{ended}
 use Rattle.steps.specs.declared.End.{End}
-use Rattle.steps.proofs.Devices.{placed, addsDevice, addedDevice, ended-devices}
+use Rattle.tables.specs.Details.{fresh}
+use Rattle.steps.specs.Devices.{addsDevice, addressOf}
+use Rattle.steps.proofs.Devices.{placed, ended-devices}
 use Rattle.steps.proofs.Frame.{Rest, act-rest, act-log}
 use Rattle.steps.proofs.Played.{event-untouched, keepalive-untouched, ended-keeps, ended-tied}
 use Rattle.eventdo.specs.EndedLaws.{over-log, ended-holds as all-holds}
@@ -44,7 +46,7 @@ module _ (s : State) (b : Bool) (w : World) (m : Memory) (h : Reached s b w m) w
             subst (λ (v : World). HoldsAt s v after) (sym (quiet x e w q))
             (holds-carried few byte x there (e .update) (holds-altered (h .holds) x (becomes (e .entry)) there few (λ a b. f .bytes)));
         table = carried-tabled few byte x there (e .update) (s .decoder .transaction .id) _ (tabled-store (h .table) few x (e .entry) there (f .bytes));
-        devices = λ j. ended-devices x e w j ∙ ap (λ (g : Effect). placed (addsDevice g) (w .deviceCount) (addedDevice g) j (w .devices j)) q ∙ h .devices j;
+        devices = λ j. ended-devices x e w j ∙ ap (λ (g : Effect). placed (addsDevice g) (w .deviceCount) (fresh (addressOf g)) j (w .devices j)) q ∙ h .devices j;
         transaction = ended-tied (s .decoder .transaction) x e w (h .transaction);
         event = ended-keeps _ event-untouched x e w ∙ h .event;
         keepalive = ended-keeps _ keepalive-untouched x e w ∙ h .keepalive;

@@ -44,13 +44,14 @@ use Rattle.reckon.proofs.Totals.{totalled-over}
 use Rattle.perform.specs.Asked.{PlanAsks}
 use Rattle.perform.specs.Desk.{Desk, desk, performed}
 use Rattle.perform.specs.declared.Hand.{Hand}
-use Rattle.packet.specs.After.{sumBy, sumOf, sumPlan, sumDropped, tallyOf, tallyDropped, handOf, droppedDecoder, decoderBy, noChange, changeOf, changed, Placed}
+use Rattle.packet.specs.After.{sumBy, sumOf, sumPlan, sumDropped, tallyOf, tallyDropped, handOf, droppedDecoder, decoderBy, keeping, changeBy, changed, Placed}
 use Rattle.packet.specs.After as after
 use Rattle.packet.specs.Call.{testsOf, PacketCall}
 use Rattle.packet.specs.Dropped.{fitsDropped, Drops}
 use Rattle.packet.specs.declared.change.Change.{Change}
 use Rattle.packet.specs.declared.inner.Inner.{Inner}
 use Rattle.packet.specs.declared.sum.Sum.{Sum}
+use Rattle.packet.proofs.Changes.{changed-none}
 use Rattle.packet.proofs.Left.{Begins, entryDesk, bytes-fit, packets-fit, asks, change-placed, left}
 
 -- ---- the answer, once the first tests are passed
@@ -81,16 +82,6 @@ totalled : (s : State) → Known (s .table) → Totalled (worldAt s)
 unfolding entryAt
 totalled s k i h = let e = k .words (i * word.width + word.total) in omega (arith, e)
 
--- a row stored as it was
-set-back : (v : List Device) (i : ℕ) → set v i (getD v i blank) ≡ v
-set-back [] i = refl
-set-back (x ∷ xs) zero = refl
-set-back (x ∷ xs) (suc i) = ap (λ (l : List Device). x ∷ l) (set-back xs i)
-
-changed-none : (v : List Device) → changed (noChange v) v ≡ v
-unfolding changed
-changed-none v = ap (λ (l : List Device). set l 0 (getD v 0 blank)) (set-back v 0) ∙ set-back v 0
-
 -- ---- a packet that is not dropped
 
 module _ (packet : List ℕ) (time : ℕ) (s : State) (h : Passes packet s) (known : Known (s .table)) (live : isDropped (s .decoder .slot) (s .decoder .transaction) ≡ false) where
@@ -115,17 +106,17 @@ module _ (packet : List ℕ) (time : ℕ) (s : State) (h : Passes packet s) (kno
 
   -- a refused call leaves all as it was
   pub refused-call : (a : ℕ) → a ≡ sumPlan (s .decoder) p (length packet) (roomOf (s .logs)) .answer → accepts a ≡ false
-      → PacketCall packet time s a (state (s .decoder) (changed (noChange (s .devices)) (s .devices)) (s .table) (s .logs))
-  refused-call a e r = subst (λ (v : List Device). PacketCall packet time s a (state (s .decoder) v (s .table) (s .logs))) (sym (changed-none (s .devices))) (refused a (e ∙ sum-answer) r)
+      → PacketCall packet time s a (state (s .decoder) (changed keeping (s .devices)) (s .table) (s .logs))
+  refused-call a e r = subst (λ (v : List Device). PacketCall packet time s a (state (s .decoder) v (s .table) (s .logs))) (sym (changed-none keeping (s .devices) refl)) (refused a (e ∙ sum-answer) r)
 
   pub accepted-call : (b : Begins packet s) (k : Desk) → k ≡ performed p (worldAt s .packets) (entryDesk s) → (y z : List ℕ) → y ≡ sets (s .logs .bytes) (s .decoder .counts .bytes) packet → z ≡ sets (s .logs .packets) (s .decoder .counts .packets * 2) (s .decoder .counts .bytes ∷ time ∷ [])
-      → PacketCall packet time s 0 (state (decoderBy (s .decoder) p (sumPlan (s .decoder) p (length packet) (roomOf (s .logs))) (k .hand)) (changed (changeOf p (s .devices) (s .decoder .counts .devices)) (s .devices)) (k .table) (logs y (k .devices) (k .endpoints) z (s .logs .events) (k .transactions) (k .groups) (k .marks) (k .states) (k .items) (k .links) (k .requests)))
+      → PacketCall packet time s 0 (state (decoderBy (s .decoder) p (sumPlan (s .decoder) p (length packet) (roomOf (s .logs))) (k .hand)) (changed (changeBy p (s .decoder .counts .devices)) (s .devices)) (k .table) (logs y (k .devices) (k .endpoints) z (s .logs .events) (k .transactions) (k .groups) (k .marks) (k .states) (k .items) (k .links) (k .requests)))
   accepted-call b k e y z f g = accepted 0 (sym (b .sum) ∙ sum-answer) refl (left packet time s b k e y z f g)
 
 -- ---- the same, of what the code has: each part with its equation
 
-none-placed : (v : List Device) {c : Change} → c ≡ noChange v → Placed c
-none-placed v e = subst Placed (sym e) (record { place = omega arith; at = omega arith })
+none-placed : {c : Change} → c ≡ keeping → Placed c
+none-placed e = subst Placed (sym e) (record { place = omega arith; at = omega arith })
 
 -- the desk at the call's entry, with this hand
 abbrev pub deskBy : Hand → State → Desk
@@ -157,9 +148,9 @@ module _ (packet : List ℕ) (time : ℕ) (s : State) {plan : Plan} {room : Coun
       by true false h = absurd (h refl)
       by false o h = refl
 
-  pub refused-by : (sum .answer ≡ 0 → ⊥) → {c : Change} → c ≡ noChange (s .devices) → Placed c × PacketCall packet time s (sum .answer) (state (s .decoder) (changed c (s .devices)) (s .table) (s .logs))
+  pub refused-by : (sum .answer ≡ 0 → ⊥) → {c : Change} → c ≡ keeping → Placed c × PacketCall packet time s (sum .answer) (state (s .decoder) (changed c (s .devices)) (s .table) (s .logs))
   refused-by ne {c} e = (
-    none-placed (s .devices) e,
+    none-placed e,
     subst (λ (x : Change). PacketCall packet time s (sum .answer) (state (s .decoder) (changed x (s .devices)) (s .table) (s .logs))) (sym e)
         (refused-call packet time s (q .passes) (q .known) (q .live) (sum .answer) (ap (λ (z : Sum). z .answer) sum-at) (not-accepted ne)),
   )
@@ -180,17 +171,17 @@ module _ (packet : List ℕ) (time : ℕ) (s : State) {plan : Plan} {room : Coun
         subst (λ (x : Plan). PlanAsks x (s .decoder .counts .packets) (deskBy h s)) (sym (q .plan))
         (subst (λ (x : Hand). PlanAsks (planOf packet (worldAt s)) (s .decoder .counts .packets) (deskBy x s)) (sym e) (asks packet time s begins))
 
-    pub placed-by : {c : Change} → c ≡ changeOf plan (s .devices) (s .decoder .counts .devices) → Placed c
-    placed-by e = subst Placed (sym (e ∙ λ i. changeOf (q .plan i) (s .devices) (s .decoder .counts .devices))) (change-placed packet time s begins)
+    pub placed-by : {c : Change} → c ≡ changeBy plan (s .decoder .counts .devices) → Placed c
+    placed-by e = subst Placed (sym (e ∙ λ i. changeBy (q .plan i) (s .decoder .counts .devices))) (change-placed packet time s begins)
 
     pub accepted-by : {h : Hand} {k : Desk} {x : Decoder} {c : Change} {y z : List ℕ} → h ≡ handOf (s .decoder) → k ≡ performed plan (s .decoder .counts .packets) (deskBy h s)
         → y ≡ sets (s .logs .bytes) (s .decoder .counts .bytes) packet → z ≡ sets (s .logs .packets) (s .decoder .counts .packets * 2) (s .decoder .counts .bytes ∷ time ∷ [])
-        → x ≡ decoderBy (s .decoder) plan sum (k .hand) → c ≡ changeOf plan (s .devices) (s .decoder .counts .devices)
+        → x ≡ decoderBy (s .decoder) plan sum (k .hand) → c ≡ changeBy plan (s .decoder .counts .devices)
         → PacketCall packet time s 0 (state x (changed c (s .devices)) (k .table) (logs y (k .devices) (k .endpoints) z (s .logs .events) (k .transactions) (k .groups) (k .marks) (k .states) (k .items) (k .links) (k .requests)))
     accepted-by {h} {k} {x} {c} {y} {z} e1 e2 f g e3 e4 =
         let k1 : k ≡ performed (planOf packet (worldAt s)) (s .decoder .counts .packets) (entryDesk s) = e2 ∙ λ i. performed (q .plan i) (s .decoder .counts .packets) (deskBy (e1 i) s) in
         let x1 : x ≡ decoderBy (s .decoder) (planOf packet (worldAt s)) (sumPlan (s .decoder) (planOf packet (worldAt s)) (length packet) (roomOf (s .logs))) (k .hand) = e3 ∙ λ i. decoderBy (s .decoder) (q .plan i) (sum-at i) (k .hand) in
-        let c1 : c ≡ changeOf (planOf packet (worldAt s)) (s .devices) (s .decoder .counts .devices) = e4 ∙ λ i. changeOf (q .plan i) (s .devices) (s .decoder .counts .devices) in
+        let c1 : c ≡ changeBy (planOf packet (worldAt s)) (s .decoder .counts .devices) = e4 ∙ λ i. changeBy (q .plan i) (s .decoder .counts .devices) in
         subst (λ (a : Decoder). PacketCall packet time s 0 (state a (changed c (s .devices)) (k .table) (logs y (k .devices) (k .endpoints) z (s .logs .events) (k .transactions) (k .groups) (k .marks) (k .states) (k .items) (k .links) (k .requests)))) (sym x1)
         (subst (λ (a : Change). PacketCall packet time s 0 (state (decoderBy (s .decoder) (planOf packet (worldAt s)) (sumPlan (s .decoder) (planOf packet (worldAt s)) (length packet) (roomOf (s .logs))) (k .hand)) (changed a (s .devices)) (k .table) (logs y (k .devices) (k .endpoints) z (s .logs .events) (k .transactions) (k .groups) (k .marks) (k .states) (k .items) (k .links) (k .requests)))) (sym c1)
         (accepted-call packet time s (q .passes) (q .known) (q .live) begins k k1 y z f g))
@@ -265,11 +256,11 @@ module _ (packet : List ℕ) (time : ℕ) (s : State) (h : Passes packet s) (kno
   abbrev stateBy : Decoder → List ℕ → List ℕ → State
   stateBy x y z = state x (s .devices) (s .table) (logs y (s .logs .devices) (s .logs .endpoints) z (s .logs .events) (s .logs .transactions) (s .logs .groups) (s .logs .marks) (s .logs .states) (s .logs .items) (s .logs .links) (s .logs .requests))
 
-  pub dropped-call : (r : Inner) (y z : List ℕ) → Drops d (noChange (s .devices)) packet time (roomOf (s .logs)) (s .logs .bytes) (s .logs .packets) r y z
+  pub dropped-call : (r : Inner) (y z : List ℕ) → Drops d keeping packet time (roomOf (s .logs)) (s .logs .bytes) (s .logs .packets) r y z
       → PacketCall packet time s (r .answer) (state (r .decoder) (changed (r .change) (s .devices)) (s .table) (logs y (s .logs .devices) (s .logs .endpoints) z (s .logs .events) (s .logs .transactions) (s .logs .groups) (s .logs .marks) (s .logs .states) (s .logs .items) (s .logs .links) (s .logs .requests)))
   dropped-call r y z q =
       subst (λ (v : List Device). PacketCall packet time s (r .answer) (state (r .decoder) v (s .table) (logs y (s .logs .devices) (s .logs .endpoints) z (s .logs .events) (s .logs .transactions) (s .logs .groups) (s .logs .marks) (s .logs .states) (s .logs .items) (s .logs .links) (s .logs .requests))))
-      (sym (ap (λ (c : Change). changed c (s .devices)) (q .change) ∙ changed-none (s .devices)))
+      (sym (ap (λ (c : Change). changed c (s .devices)) (q .change) ∙ changed-none keeping (s .devices) refl))
       (by (fitting (addCounts (d .counts) t) (roomOf (s .logs))) refl)
     where
       by : (b : Bool) → fitting (addCounts (d .counts) t) (roomOf (s .logs)) ≡ b → PacketCall packet time s (r .answer) (state (r .decoder) (s .devices) (s .table) (logs y (s .logs .devices) (s .logs .endpoints) z (s .logs .events) (s .logs .transactions) (s .logs .groups) (s .logs .marks) (s .logs .states) (s .logs .items) (s .logs .links) (s .logs .requests)))
@@ -290,10 +281,10 @@ module _ (packet : List ℕ) (time : ℕ) (s : State) (h : Passes packet s) (kno
           let v = q .packets ∙ ap (λ (z : Sum). cond (eqb (z .answer) 0) (sets (s .logs .packets) (d .counts .packets * 2) (d .counts .bytes ∷ time ∷ [])) (s .logs .packets)) q1 in
           subst (λ (x : State). PacketCall packet time s (r .answer) x) (λ i. stateBy (sym c i) (sym u i) (sym v i)) (refused (r .answer) (a ∙ sym (sum-by false e)) (ap accepts a))
 
-  pub dropped-by : {none : Change} {room : Counts} (r : Inner) (y z : List ℕ) → none ≡ noChange (s .devices) → room ≡ roomOf (s .logs) → Drops d none packet time room (s .logs .bytes) (s .logs .packets) r y z
+  pub dropped-by : {none : Change} {room : Counts} (r : Inner) (y z : List ℕ) → none ≡ keeping → room ≡ roomOf (s .logs) → Drops d none packet time room (s .logs .bytes) (s .logs .packets) r y z
       → Placed (r .change) × PacketCall packet time s (r .answer) (state (r .decoder) (changed (r .change) (s .devices)) (s .table) (logs y (s .logs .devices) (s .logs .endpoints) z (s .logs .events) (s .logs .transactions) (s .logs .groups) (s .logs .marks) (s .logs .states) (s .logs .items) (s .logs .links) (s .logs .requests)))
   dropped-by {none} {room} r y z e f q = (
-    none-placed (s .devices) (q .change ∙ e),
+    none-placed (q .change ∙ e),
     dropped-call r y z
         (subst (λ (c : Change). Drops d c packet time (roomOf (s .logs)) (s .logs .bytes) (s .logs .packets) r y z) e
         (subst (λ (n : Counts). Drops d none packet time n (s .logs .bytes) (s .logs .packets) r y z) f q)),

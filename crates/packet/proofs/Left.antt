@@ -38,7 +38,8 @@ use Rattle.steps.specs.Sound.{world1, world2, PlanFits}
 use Rattle.steps.specs.declared.Plan.{Plan}
 use Rattle.steps.proofs.Packet.{packet-is}
 use Rattle.steps.proofs.Played.{played-log, played-event, played-keepalive, played-slot, tiedTo, Tied, played-tied}
-use Rattle.steps.proofs.Devices.{changes, addsDevice, placed, deviceBegun, played-devices, played-device-count, plan-knows, resume-device}
+use Rattle.steps.specs.Devices.{changes, addsDevice}
+use Rattle.steps.proofs.Devices.{played-devices, played-device-count, plan-behind}
 use Rattle.steps.proofs.Sound.{Sane, fits-packet, played-count}
 use Rattle.outcome.specs.Outcome.{countsAfter, decoderOf, DevicesOf, TableOf, Appends, Left, isIll, worldAt}
 use Rattle.outcome.specs.OutcomeLaws.{sound}
@@ -55,10 +56,10 @@ use Rattle.perform.specs.Desk.{Desk, desk, performed}
 use Rattle.perform.specs.Held.{HoldsAll, Matches, SpaceAll, Brought}
 use Rattle.perform.specs.PlanLaws.{all-start, room-all, played-holds, ready}
 use Rattle.perform.specs.declared.Hand.{Hand}
-use Rattle.packet.specs.After.{sumBy, sumOf, sumPlan, tallyOf, accepted, handOf, tied, decoderBy, changeOf, changed, Placed}
+use Rattle.packet.specs.After.{sumBy, sumOf, sumPlan, tallyOf, accepted, handOf, tied, decoderBy, changeBy, changed, Placed}
 use Rattle.packet.specs.declared.change.Change.{Change}
 use Rattle.packet.specs.declared.sum.Sum.{Sum}
-use Rattle.packet.proofs.Changes.{changed-at, changed-length, changed-beyond, change-told, change-in}
+use Rattle.packet.proofs.Changes.{changed-length, changed-beyond, change-told, change-in}
 use Rattle.packet.proofs.Places.{plan-place}
 
 -- the desk at the call's entry
@@ -287,8 +288,8 @@ module _ (packet : List ℕ) (time : ℕ) (s : State) (b : Begins packet s) wher
   unfolding addCounts
   many-are = let e = adds .devices in let f = roomy .fewDevices in omega (arith, e, f)
 
-  placed-in : (changeOf p (s .devices) (d .counts .devices) .place < after .deviceCount) × (changeOf p (s .devices) (d .counts .devices) .at < after .deviceCount)
-  placed-in = change-in p (s .devices) (d .counts .devices) (after .deviceCount) some begun added
+  placed-in : (changeBy p (d .counts .devices) .place < after .deviceCount) × (changeBy p (d .counts .devices) .at < after .deviceCount)
+  placed-in = change-in p (d .counts .devices) (after .deviceCount) some begun added
     where
       count : after .deviceCount ≡ w .deviceCount + one (p .begin .device) + one (p .closes && addsDevice (p .close .effect))
       count = played-device-count packet time w
@@ -297,7 +298,7 @@ module _ (packet : List ℕ) (time : ℕ) (s : State) (b : Begins packet s) wher
       some = let f = well .specials .some in let c = count in omega (arith, f, c)
 
       begun-by : (v : Bool) → p .begin .device ≡ v → changes (p .begin) ≡ true → p .begin .place < after .deviceCount
-      begun-by true e h = let q = plan-knows w packet .place e in let c = count ∙ ap (λ (z : Bool). w .deviceCount + one z + one (p .closes && addsDevice (p .close .effect))) e in omega (arith, q, c)
+      begun-by true e h = let q = plan-behind w packet e in let c = count ∙ ap (λ (z : Bool). w .deviceCount + one z + one (p .closes && addsDevice (p .close .effect))) e in omega (arith, q, c)
       begun-by false e h = let q = plan-place w (let f = three well in omega (arith, f)) owned packet h e in let c = count in omega (arith, q, c)
 
       begun : changes (p .begin) ≡ true → p .begin .place < after .deviceCount
@@ -306,17 +307,17 @@ module _ (packet : List ℕ) (time : ℕ) (s : State) (b : Begins packet s) wher
       added : (p .closes && addsDevice (p .close .effect)) ≡ true → d .counts .devices + one (p .begin .device) < after .deviceCount
       added h = let c = count ∙ ap (λ (z : Bool). w .deviceCount + one (p .begin .device) + one z) h in omega (arith, c)
 
-  pub change-placed : Placed (changeOf p (s .devices) (d .counts .devices))
+  pub change-placed : Placed (changeBy p (d .counts .devices))
   change-placed = record { place = let a = placed-in .0 in let m = many-are in omega (arith, a, m); at = let a = placed-in .1 in let m = many-are in omega (arith, a, m) }
 
-  devices-are : DevicesOf after (s .devices) (changed (changeOf p (s .devices) (d .counts .devices)) (s .devices))
+  devices-are : DevicesOf after (s .devices) (changed (changeBy p (d .counts .devices)) (s .devices))
   devices-are =
-      let c = changeOf p (s .devices) (d .counts .devices) in
+      let c = changeBy p (d .counts .devices) in
       let v = s .devices in
       let inside : (m : ℕ) → m < 64 → m < length v = λ m h. let q = b .many in omega (arith, q, h) in
       record {
         size = changed-length c v;
-        there = λ i h. changed-at c v i (inside (c .place) (change-placed .place)) (inside (c .at) (change-placed .at)) ∙ (change-told p v (d .counts .devices) i ∙ sym (played-devices packet time w i));
+        there = λ i h. change-told p v (d .counts .devices) i (inside (c .place) (change-placed .place)) (inside (c .at) (change-placed .at)) ∙ sym (played-devices packet time w i);
         beyond = λ i h. changed-beyond c v i (let a = placed-in .0 in λ e. omega (arith, a, h, e)) (let a = placed-in .1 in λ e. omega (arith, a, h, e));
       }
 
@@ -343,8 +344,8 @@ module _ (packet : List ℕ) (time : ℕ) (s : State) (b : Begins packet s) wher
         }
 
     pub left : Left (handleRawPacket packet time w) (d .finished) s
-        (state (decoderBy d p sum (k .hand)) (changed (changeOf p (s .devices) (d .counts .devices)) (s .devices)) (k .table) (logs y (k .devices) (k .endpoints) z (s .logs .events) (k .transactions) (k .groups) (k .marks) (k .states) (k .items) (k .links) (k .requests)))
+        (state (decoderBy d p sum (k .hand)) (changed (changeBy p (d .counts .devices)) (s .devices)) (k .table) (logs y (k .devices) (k .endpoints) z (s .logs .events) (k .transactions) (k .groups) (k .marks) (k .states) (k .items) (k .links) (k .requests)))
     left =
-        subst (λ (v : World). Left v (d .finished) s (state (decoderBy d p sum (k .hand)) (changed (changeOf p (s .devices) (d .counts .devices)) (s .devices)) (k .table) (logs y (k .devices) (k .endpoints) z (s .logs .events) (k .transactions) (k .groups) (k .marks) (k .states) (k .items) (k .links) (k .requests))))
+        subst (λ (v : World). Left v (d .finished) s (state (decoderBy d p sum (k .hand)) (changed (changeBy p (d .counts .devices)) (s .devices)) (k .table) (logs y (k .devices) (k .endpoints) z (s .logs .events) (k .transactions) (k .groups) (k .marks) (k .states) (k .items) (k .links) (k .requests))))
         (sym (packet-is packet time w (b .live)))
         (record { decoder = decoder-is k e; devices = devices-are; table = table-is k e; logs = logs-are })

@@ -30,7 +30,7 @@ use Rattle.steps.specs.Packet.{resumes, slotThen, oldEndpoint, transactionThen,
 use Rattle.steps.specs.declared.Middle.{Middle}
 use Rattle.steps.specs.declared.Place.{Place}
 use Rattle.steps.proofs.Bounded.{Within, device-within, found-within}
-use Rattle.steps.proofs.Devices.{changes}
+use Rattle.steps.specs.Devices.{changes}
 
 module _ (w : World) (three : 3 ≤ w .count) (owned : (i : ℕ) → i < w .count → w .endpoints i .device < w .deviceCount) where
   -- of a place whose device is not new

@@ -6,15 +6,14 @@ use lib.ListN.{getD, set}
 use Rattle.rows.specs.Sets.{one}
 use Rattle.transaction.specs.Table.{pick}
 use Rattle.transaction.specs.declared.Transaction.{Transaction}
-use Rattle.tables.specs.Details.{fresh}
+use Rattle.tables.specs.Details.{withType, fresh}
 use Rattle.tables.specs.Search.{blank}
 use Rattle.tables.specs.declared.Device.{Device}
-use Rattle.group.specs.declared.Effect.{Effect}
-use Rattle.group.specs.declared.Effect.the-variants.{NoEffect, NewDevice, Request, PendingData, IndexData}
 use Rattle.rules.specs.declared.EventState.the-variants.{Idle}
 use Rattle.rules.specs.declared.Slot.the-variants.{Empty}
 use Rattle.rules.specs.World.{_▷_}
 use Rattle.update.specs.Tally.{none, addPacket}
+use Rattle.update.specs.Update.{when}
 use Rattle.update.specs.declared.tally.Tally.{Tally}
 use Rattle.judge.specs.Room.{fitting}
 use Rattle.judge.specs.declared.Counts.{Counts}
@@ -23,6 +22,7 @@ use Rattle.write.specs.declared.Tally.{Tally as Written}
 use Rattle.perform.specs.declared.Hand.{Hand}
 use Rattle.reckon.specs.Tallies.{tallyPlan, addCounts}
 use Rattle.reckon.specs.Passes.{planPasses}
+use Rattle.steps.specs.Devices.{changes, addsDevice, addressOf}
 use Rattle.steps.specs.declared.Plan.{Plan}
 use Rattle.packet.specs.declared.change.Change.{Change}
 use Rattle.packet.specs.declared.sum.Sum.{Sum}
@@ -95,40 +95,43 @@ decoderBy d p s h =
 
 -- ---- the devices
 
--- nothing changes: a row, the first, becomes what it was
-abbrev pub keeping : Device → Change
-keeping first = record { place = 0; row = first; at = 0; added = first }
+-- what a packet changes of them (src/change.rt); nothing
+abbrev pub keeping : Change
+keeping = record { device = false; types = false; place = 0; owner = 0; number = 0; kind = 0; adds = false; at = 0; address = 0 }
 
-abbrev pub noChange : List Device → Change
-noChange v = keeping (getD v 0 blank)
+-- by its steps, where there are n devices
+abbrev pub changeBy : Plan → ℕ → Change
+changeBy p n =
+    let s = p .begin in
+    let adds = p .closes && addsDevice (p .close .effect) in
+    record {
+      device = s .device;
+      types = s .types;
+      place = pick (changes s) (s .place) 0;
+      owner = s .owner;
+      number = s .number;
+      kind = s .kind;
+      adds = adds;
+      at = pick adds (n + one (s .device)) 0;
+      address = addressOf (p .close .effect);
+    }
 
-abbrev pub begunBy : Plan → Device → Change
-begunBy p first =
-    pick (p .begin .device || p .begin .types) (record { place = p .begin .place; row = p .known; at = p .begin .place; added = p .known }) (keeping first)
+-- the two rows then, by what they were
+abbrev pub rowBy : Change → Device → Device
+rowBy c d = when (c .types) (λ x. withType x (c .number) (c .kind)) (pick (c .device) (fresh (c .owner)) d)
 
-abbrev pub begunChange : Plan → List Device → Change
-begunChange p v = begunBy p (getD v 0 blank)
+abbrev pub addedBy : Change → Device → Device
+addedBy c d = pick (c .adds) (fresh (c .address)) d
 
-abbrev pub adding : ℕ → ℕ → Change → Change
-adding address at c = record { place = c .place; row = c .row; at = at; added = fresh address }
-
-abbrev pub withAdded : Effect → ℕ → Change → Change
-withAdded NoEffect at c = c
-withAdded (NewDevice address) at c = adding address at c
-withAdded (Request n) at c = c
-withAdded (PendingData n) at c = c
-withAdded (IndexData n waited i) at c = c
-
--- behind n devices, and perhaps a new one
-abbrev pub changeBy : Plan → Device → ℕ → Change
-changeBy p first n = pick (p .closes) (withAdded (p .close .effect) (n + one (p .begin .device)) (begunBy p first)) (begunBy p first)
-
-abbrev pub changeOf : Plan → List Device → ℕ → Change
-changeOf p v n = changeBy p (getD v 0 blank) n
+abbrev pub isChange : Change → Bool
+isChange c = c .device || (c .types || c .adds)
 
 -- what the caller does with it
+abbrev pub rowPut : Change → List Device → List Device
+rowPut c v = set v (c .place) (rowBy c (getD v (c .place) blank))
+
 unfoldable pub changed : Change → List Device → List Device
-changed c v = set (set v (c .place) (c .row)) (c .at) (c .added)
+changed c v = set (rowPut c v) (c .at) (addedBy c (getD (rowPut c v) (c .at) blank))
 
 pub record Placed (c : Change) : Type 0 where
   pub place : c .place < 64

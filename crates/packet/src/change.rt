@@ -1,86 +1,132 @@
-// Which device rows a packet changes: that of its endpoint's device perhaps, and one that is added at the end perhaps.
+// What a packet changes of the devices, as flags and numbers: the rows are the caller's, who makes the change.
 use group::Effect;
 use steps::Plan;
 use tables::Device;
 use tables::details::fresh_device;
+use tables::details::set_endpoint_type;
 use tables::entry::flag_word;
 ghost use mathlib.Core.Path.{_≡_};
 ghost use Prim.Native.Nat.{_≤_};
-ghost use Rattle.packet.specs.After.{keeping, begunBy, adding, withAdded, changeBy};
+ghost use Rattle.transaction.specs.Table.{pick};
+ghost use Rattle.tables.specs.Details.{fresh};
+ghost use Rattle.steps.specs.Devices.{addsDevice, addressOf};
+ghost use Rattle.packet.specs.After.{keeping, changeBy, rowBy, addedBy, isChange};
 
-// Row `place` becomes `row`, then row `at` becomes `added`; where nothing changes, a row becomes what it was.
+// First row `place`, then row `at`; where neither changes, both are 0.
 pub struct Change {
+    // It becomes that of a new device at the address `owner`.
+    pub device: bool,
+    // A split's type, `kind`, is stored in it for the endpoint `number`.
+    pub types: bool,
     pub place: usize,
-    pub row: Device,
+    pub owner: u8,
+    pub number: u8,
+    pub kind: u8,
+    // It becomes that of a new device at this address.
+    pub adds: bool,
     pub at: usize,
-    pub added: Device,
+    pub address: u8,
 }
 
-// Where nothing changes; first is the first row.
-pub fn no_change(first: Device) -> Change
-    ensures { λ r. ⌜ r ≡ keeping first ⌝ }
+pub fn no_change() -> Change
+    ensures { λ r. ⌜ r ≡ keeping ⌝ }
 {
     Change {
+        device: false,
+        types: false,
         place: 0,
-        row: first,
+        owner: 0,
+        number: 0,
+        kind: 0,
+        adds: false,
         at: 0,
-        added: first,
+        address: 0,
     }
 }
 
-// That of the step that begins.
-fn begun_change(plan: Plan, first: Device) -> Change
-    ensures { λ r. ⌜ r ≡ begunBy plan first ⌝ }
-{
-    let begin = plan.begin;
-    let known = plan.known;
-    let place = begin.place;
-    if begin.device | begin.types {
-        Change {
-            place,
-            row: known,
-            at: place,
-            added: known,
-        }
-    } else {
-        no_change(first)
-    }
-}
-
-// And the device that the end adds, in this row.
-fn with_added(effect: Effect, at: usize, c: Change) -> Change
-    ensures { λ r. ⌜ r ≡ withAdded effect at c ⌝ }
+fn adds_device(effect: Effect) -> bool
+    ensures { λ r. ⌜ r ≡ addsDevice effect ⌝ }
 {
     match effect {
-        Effect::NoEffect => c,
-        Effect::NewDevice(address) => {
-            let place = c.place;
-            let row = c.row;
-            Change {
-                place,
-                row,
-                at,
-                added: fresh_device(address),
-            }
-        }
-        Effect::Request(_) => c,
-        Effect::PendingData(_) => c,
-        Effect::IndexData(_, _, _) => c,
+        Effect::NoEffect => false,
+        Effect::NewDevice(_) => true,
+        Effect::Request(_) => false,
+        Effect::PendingData(_) => false,
+        Effect::IndexData(_, _, _) => false,
+    }
+}
+
+fn address_of(effect: Effect) -> u8
+    ensures { λ r. ⌜ r ≡ addressOf effect ⌝ }
+{
+    match effect {
+        Effect::NoEffect => 0,
+        Effect::NewDevice(address) => address,
+        Effect::Request(_) => 0,
+        Effect::PendingData(_) => 0,
+        Effect::IndexData(_, _, _) => 0,
     }
 }
 
 // Of a packet with these steps, where there are n devices.
-pub fn change_of(plan: Plan, first: Device, n: usize) -> Change
+pub fn change_of(plan: Plan, n: usize) -> Change
     requires { ⌜ n ≤ 64 ⌝ }
-    ensures { λ r. ⌜ r ≡ changeBy plan first n ⌝ }
+    ensures { λ r. ⌜ r ≡ changeBy plan n ⌝ }
 {
     let begin = plan.begin;
     let close = plan.close;
     let effect = close.effect;
-    let begun = begun_change(plan, first);
-    if plan.closes {
-        with_added(effect, n + flag_word(begin.device) as usize, begun)
-    } else {
-        begun
+    let adds = plan.closes & adds_device(effect);
+    let behind = n + flag_word(begin.device) as usize;
+    Change {
+        device: begin.device,
+        types: begin.types,
+        place: row_if(begin.device | begin.types, begin.place),
+        owner: begin.owner,
+        number: begin.number,
+        kind: begin.kind,
+        adds,
+        at: row_if(adds, behind),
+        address: address_of(effect),
     }
+}
+
+// A row that is changed, else the first.
+fn row_if(on: bool, i: usize) -> usize
+    ensures { λ r. ⌜ r ≡ pick on i 0 ⌝ }
+{
+    if on { i } else { 0 }
+}
+
+// Whether there is anything to do.
+pub fn is_change(c: Change) -> bool
+    ensures { λ r. ⌜ r ≡ isChange c ⌝ }
+{
+    c.device | (c.types | c.adds)
+}
+
+// Row `place` then, by what it was.
+pub fn row_by(c: Change, row: Device) -> Device
+    ensures { λ r. ⌜ r ≡ rowBy c row ⌝ }
+{
+    let row = device_if(c.device, c.owner, row);
+    if c.types {
+        set_endpoint_type(row, c.number, c.kind)
+    } else {
+        row
+    }
+}
+
+// Row `at` then, by what it was.
+pub fn added_by(c: Change, row: Device) -> Device
+    ensures { λ r. ⌜ r ≡ addedBy c row ⌝ }
+{
+    device_if(c.adds, c.address, row)
+}
+
+// A new device's row, or the row that there is.
+fn device_if(new: bool, address: u8, row: Device) -> Device
+    ensures { λ r. ⌜ r ≡ pick new (fresh address) row ⌝ }
+{
+    if new { fresh_device(address) } else { row }
 }

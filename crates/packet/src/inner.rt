@@ -171,7 +171,7 @@ fn drop_packet(
     }
 }
 
-// The packet of these bytes at this time; of the devices it is given the rows that it goes by.
+// The packet of these bytes at this time; of the devices it is given what it goes by.
 pub fn packet_in(
     d: Decoder,
     near: Near,
@@ -219,8 +219,7 @@ pub fn packet_in(
     bytes_known(packet);
     let style = held.style;
     let _token = start_pid(style);
-    let first = near.first;
-    let none = no_change(first);
+    let none = no_change();
     if is_dropped(slot, held) {
         return drop_packet(d, none, packet, time, room, bytes, packets);
     }
@@ -233,7 +232,7 @@ pub fn packet_in(
             change: none,
         };
     }
-    let change = change_of(plan, first, n.devices);
+    let change = change_of(plan, n.devices);
     put_packet(n, packet, time, bytes, packets);
     let hand = perform(
         plan,

@@ -3,6 +3,9 @@ pub mod change;
 pub mod inner;
 mod sum;
 
+use crate::change::added_by;
+use crate::change::is_change;
+use crate::change::row_by;
 use crate::inner::packet_in;
 use judge::Counts;
 use judge::Decoder;
@@ -109,10 +112,12 @@ pub fn packet(
     let place = c.place;
     let at = c.at;
     let mut devices = devices;
-    let row = c.row;
-    let added = c.added;
-    devices[place] = row;
-    devices[at] = added;
+    if is_change(c) {
+        let row = devices[place];
+        devices[place] = row_by(c, row);
+        let row = devices[at];
+        devices[at] = added_by(c, row);
+    }
     Called {
         answer: r.answer,
         decoder,

@@ -33,7 +33,7 @@ use Rattle.judge.specs.Formed.{holds}
 use Rattle.judge.specs.World.{worldOf}
 use Rattle.judge.specs.declared.Decoder.{Decoder}
 use Rattle.steps.specs.Step.{endOf}
-use Rattle.steps.specs.Packet.{oldEndpoint, entryThen, entryBy, standing, newOn, placeAt, placeOf, startOn, startSplit, startPlain, starting, appendingAt, appending, middleOf, entryEnded}
+use Rattle.steps.specs.Packet.{oldEndpoint, entryThen, entryBy, standing, newOn, placeAt, placeOf, startOn, startSplit, startPlain, starting, appendingAt, appending, middleOf, entryEnded, endIf}
 use Rattle.steps.specs.Ending.{currentEndpoint}
 use Rattle.steps.specs.declared.End.{End}
 use Rattle.steps.specs.declared.Middle.{Middle}
@@ -82,6 +82,10 @@ after-small {k} u pid h =
     let a = kept (kept h (u .over) overEntry refl refl) (u .cut) endEntry refl refl in
     let b = become-small (started (linked a (u .link)) (u .start)) (u .group) pid in
     wider (kept (kept b (u .end) endedEntry refl refl) (u .item) closeEntry refl refl) (k + 2) (omega arith)
+
+pub if-small : {k : ℕ} (b : Bool) (s : End) (e : Endpoint) → Small k (s .entry) → Small k e → Small k (endIf b s e .entry)
+if-small true s e h g = h
+if-small false s e h g = g
 
 pub ended-small : {k : ℕ} {e : Endpoint} (b : Bool) (s : End) (pid : ℕ) → Small k (s .entry) → Small k e → Small (k + 2) (entryEnded b s pid e)
 ended-small true s pid h g = after-small (s .update) pid h

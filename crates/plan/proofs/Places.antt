@@ -1,19 +1,21 @@
--- What the searches find is there, a token's number is small, and the endpoint of a packet by the rows of its devices (Near).
-use Prim.Native.Nat.{ℕ, zero, suc, _<_, _≤_}
+-- What the searches find is there, a token's number is small, and the endpoint of a packet by what was taken of the devices (Near).
+use Prim.Native.Nat.{ℕ, _+_, _<_, _≤_}
 use native.Mathlib.Nat.{mod-lt}
 use native.Mathlib.Omega.{arith}
 use mathlib.Core.Path.{_≡_, refl, sym, ap, subst, _∙_}
-use mathlib.Core.Bool.{Bool, true, false, _&&_}
+use mathlib.Core.Bool.{Bool, true, false, _&&_, not}
 use mathlib.Core.List.{List, []}
-use mathlib.Core.Logic.{_⊎_, inl, inr}
-use lib.Dec.{eqb, ltb}
-use borrow.Author.Tests.{eqb-true, ltb-true, ltb-false}
+use lib.Dec.{eqb}
+use borrow.Author.Tests.{eqb-true}
 use Rattle.usb.specs.Pid.{SETUP, IN, OUT, PING, SOF}
 use Rattle.usb.specs.Fields.{tokenOf}
 use Rattle.usb.specs.declared.fields.Token.{Token}
 use Rattle.transaction.specs.Table.{pick, only, _or_}
 use Rattle.tables.specs.Search.{firstFrom, lastOf, foundDevice}
 use Rattle.tables.specs.SearchLaws.{First, Last, first-is, last-is}
+use Rattle.tables.specs.Details.{bare, detailsOf}
+use Rattle.tables.specs.Kind.{Invalid, Framing}
+use Rattle.tables.specs.declared.Detail.{Detail}
 use Rattle.tables.specs.declared.Device.{Device}
 use Rattle.tables.specs.declared.Found.{Found}
 use Rattle.tables.specs.declared.Found.the-variants.{At, Nothing}
@@ -21,8 +23,8 @@ use Rattle.tables.specs.Table.{entryAt}
 use Rattle.tables.specs.declared.Endpoint.{Endpoint}
 use Rattle.transaction.specs.declared.Status.{Status}
 use Rattle.transaction.specs.declared.Transaction.{Transaction}
-use Rattle.rules.specs.World.{World, invalidEp}
-use Rattle.rules.specs.Endpoints.{addressFor, endpointLookup}
+use Rattle.rules.specs.World.{World, invalidEp, framingEp}
+use Rattle.rules.specs.Endpoints.{deviceFor, addressFor, endpointLookup, detailOf}
 use Rattle.judge.specs.Bools.{both}
 use Rattle.judge.specs.World.{worldOf}
 use Rattle.judge.specs.declared.Decoder.{Decoder}
@@ -30,7 +32,7 @@ use Rattle.steps.specs.Packet.{standing, newOn, placeAt, placeOf, goingOn}
 use Rattle.steps.specs.declared.Middle.{Middle}
 use Rattle.steps.specs.declared.Place.{Place}
 use Rattle.plan.specs.Ready.{Ready}
-use Rattle.plan.specs.Near.{Seen, placeIn, foundOn, standingOn, newBy, rowFor, goingBy}
+use Rattle.plan.specs.Near.{Seen, placeIn, nearBy, foundOn, detailBy, standingOn, newBy, goingBy}
 use Rattle.plan.specs.declared.near.Near.{Near}
 
 pub number-small : (packet : List ℕ) {t : Token} → t ≡ tokenOf packet → t .number < 16
@@ -83,85 +85,130 @@ module _ (w : World) (h : 3 ≤ w .count) where
       (either-below (eqb pid SOF) ((SETUP or IN or OUT or only PING) pid) _ (lookup-below device (addressFor pid (tokenOf packet .number))))
       (sym e ∙ g)
 
--- ---- the device of an endpoint that was found
+-- ---- what was taken of the devices
+
+pub seen-by : {near : Near} {x0 : ℕ} {packet : List ℕ} {w : World} {found : Found} {number : ℕ} {row : Device} {old : Detail} → near ≡ nearBy found number row old
+    → found ≡ deviceFor (tokenOf packet .address) w → number ≡ tokenOf packet .number → row ≡ w .devices (placeIn found) → old ≡ detailOf x0 w → Seen near x0 packet w
+seen-by {near} {packet = packet} {w = w} e f n r o =
+    let same = sym (ap (λ (a : Near). a .found) e) in
+    record {
+      found = ap (λ (a : Near). a .found) e ∙ f;
+      inward = ap (λ (a : Near). a .inward) e ∙ ((λ i. detailsOf (r i) (addressFor IN (n i))) ∙ ap (λ (g : Found). detailsOf (w .devices (placeIn g)) (addressFor IN (tokenOf packet .number))) same);
+      outward = ap (λ (a : Near). a .outward) e ∙ ((λ i. detailsOf (r i) (n i)) ∙ ap (λ (g : Found). detailsOf (w .devices (placeIn g)) (tokenOf packet .number)) same);
+      old = ap (λ (a : Near). a .old) e ∙ o;
+    }
+
+-- ---- the details of an endpoint that was found
 
 module _ (w : World) where
-  -- it is a special endpoint, or one of the device that was looked on
-  abbrev Owned : Found → Found → Type 0
-  Owned f (At i) = (i < 3) ⊎ (w .endpoints i .device ≡ placeIn f)
-  Owned f Nothing = Unit {0}
+  -- an endpoint that was looked up is on that device, and has that address
+  abbrev Owned : Found → ℕ → Found → Type 0
+  Owned f address (At i) = (w .endpoints i .device ≡ placeIn f) × (w .endpoints i .address ≡ address)
+  Owned f address Nothing = Unit {0}
 
   abbrev matching : ℕ → ℕ → ℕ → Bool
   matching d address i = eqb (w .endpoints i .device) d && eqb (w .endpoints i .address) address
 
-  lookup-owned : (f : Found) (address : ℕ) → Owned f (endpointLookup f address w)
+  lookup-owned : (f : Found) (address : ℕ) → Owned f address (endpointLookup f address w)
   lookup-owned (At d) address = by (firstFrom (matching d address) 0 (w .count)) (first-is (matching d address) (w .count) 0)
     where
-      by : (g : Found) → First (matching d address) 0 (w .count) g → Owned (At d) g
-      by (At i) l = inr (eqb-true _ _ (both _ _ (l .1 .1 .0) .0))
+      by : (g : Found) → First (matching d address) 0 (w .count) g → Owned (At d) address g
+      by (At i) l = let h = both _ _ (l .1 .1 .0) in (eqb-true _ _ (h .0), eqb-true _ _ (h .1))
       by Nothing l = tt
   lookup-owned Nothing address = tt
 
-  either-owned : (a b : Bool) (f g : Found) → Owned f g → Owned f (pick a (At 2) (pick b g (At 1)))
-  either-owned true b f g l = inl (omega arith)
-  either-owned false true f g l = l
-  either-owned false false f g l = inl (omega arith)
+-- the special endpoints that packets are on
+framing-detail : (k : Device) → detailsOf k 0x12 ≡ bare Framing
+unfolding detailsOf
+framing-detail k = refl
 
-  found-owned : (f : Found) (pid : ℕ) (packet : List ℕ) → Owned f (foundOn f pid packet w)
-  found-owned f pid packet = either-owned (eqb pid SOF) ((SETUP or IN or OUT or only PING) pid) f _ (lookup-owned f (addressFor pid (tokenOf packet .number)))
+invalid-detail : (k : Device) → detailsOf k 0x11 ≡ bare Invalid
+unfolding detailsOf
+invalid-detail k = refl
 
-module _ (d : Decoder) (table : List ℕ) (r : Ready d table) where
-  special : (i : ℕ) → i < 3 → entryAt table i .device ≡ 0
-  special zero h = r .event
-  special (suc zero) h = r .invalid
-  special (suc (suc zero)) h = r .framing
-  special (suc (suc (suc i))) h = absurd (omega (arith, h))
+nothing-found : {P : Type 0} {i : ℕ} → At i ≡ Nothing → P
+nothing-found h = absurd (let z : _≡_ {A = ℕ} 0 1 = cc in omega arith)
 
-  module _ (near : Near) (x0 : ℕ) (e0 : Endpoint) (packet : List ℕ) (v : List Device) (s : Seen near x0 packet (worldOf d v table)) where
-    abbrev w : World
-    w = worldOf d v table
+module _ (d : Decoder) (table : List ℕ) (r : Ready d table) (near : Near) (x0 : ℕ) (e0 : Endpoint) (packet : List ℕ) (v : List Device) (s : Seen near x0 packet (worldOf d v table)) where
+  abbrev w : World
+  w = worldOf d v table
 
-    row-by : (i : ℕ) (b : Bool) → ltb i 3 ≡ b → Owned w (near .found) (At i) → pick b (near .first) (near .row) ≡ w .devices (w .endpoints i .device)
-    row-by i true e o = s .first ∙ ap (w .devices) (sym (special i (ltb-true i 3 e)))
-    row-by i false e (inl h) = absurd (let g : 3 ≤ i = ltb-false i 3 e in omega (arith, g, h))
-    row-by i false e (inr h) = s .row ∙ ap (w .devices) (sym h)
+  abbrev number : ℕ
+  number = tokenOf packet .number
 
-    -- a lookup goes by the endpoints alone
-    lookup-by : (f : Found) (address : ℕ) → endpointLookup f address (worldOf d [] table) ≡ endpointLookup f address w
-    lookup-by (At i) address = refl
-    lookup-by Nothing address = refl
+  framing-is : bare Framing ≡ detailOf framingEp w
+  framing-is = sym (ap (detailsOf (w .devices (w .endpoints 2 .device))) (r .framing) ∙ framing-detail (w .devices (w .endpoints 2 .device)))
 
-    found-is : (pid : ℕ) {f : Found} → f ≡ foundOn (near .found) pid packet (worldOf d [] table) → f ≡ foundOn (near .found) pid packet w
-    found-is pid e = e ∙ ap (λ (g : Found). pick (eqb pid SOF) (At 2) (pick ((SETUP or IN or OUT or only PING) pid) g (At 1))) (lookup-by (near .found) (addressFor pid (tokenOf packet .number)))
+  invalid-is : bare Invalid ≡ detailOf invalidEp w
+  invalid-is = sym (ap (detailsOf (w .devices (w .endpoints 1 .device))) (r .invalid) ∙ invalid-detail (w .devices (w .endpoints 1 .device)))
 
-    place-is : (pid : ℕ) {f : Found} → f ≡ foundOn (near .found) pid packet (worldOf d [] table) → placeAt f x0 e0 pid packet w ≡ placeOf x0 e0 pid packet w
-    unfolding placeOf
-    place-is pid e = ap (λ (g : Found). placeAt g x0 e0 pid packet w) (found-is pid e ∙ ap (λ (g : Found). foundOn g pid packet w) (s .found))
+  -- on the device that was found, by the direction
+  direction-is : (pid : ℕ) → pick (eqb pid IN) (near .inward) (near .outward) ≡ detailsOf (w .devices (placeIn (near .found))) (addressFor pid number)
+  direction-is pid = by (eqb pid IN)
+    where
+      by : (b : Bool) → pick b (near .inward) (near .outward) ≡ detailsOf (w .devices (placeIn (near .found))) (pick (b && not (eqb number 0)) (number + 128) number)
+      by true = s .inward
+      by false = s .outward
 
-    pub place-found : (pid : ℕ) {f : Found} {row : Device} {p : Place} (i : ℕ) → f ≡ foundOn (near .found) pid packet (worldOf d [] table) → f ≡ At i
-        → row ≡ rowFor i near → p ≡ standingOn x0 e0 i row (entryAt table i) → p ≡ placeOf x0 e0 pid packet w
-    place-found pid i e q k h =
-        let o : Owned w (near .found) (At i) = subst (λ (g : Found). Owned w (near .found) g) (sym (found-is pid e) ∙ q) (found-owned w (near .found) pid packet) in
-        h
-        ∙ (ap (λ (a : Device). standingOn x0 e0 i a (entryAt table i)) (k ∙ row-by i (ltb i 3) refl o)
-        ∙ (ap (λ (g : Found). placeAt g x0 e0 pid packet w) (sym q) ∙ place-is pid e))
+  abbrev looked : ℕ → Found
+  looked pid = endpointLookup (near .found) (addressFor pid number) w
 
-    new-is : (f : Found) (row : Device) (owner address : ℕ) → row ≡ w .devices (placeIn f) → newBy f row owner address (d .counts) ≡ newOn f owner address w
-    new-is (At i) row owner address e = ap (λ (a : Device). newBy (At i) a owner address (d .counts)) e
-    new-is Nothing row owner address e = refl
+  detail-is : (pid i : ℕ) → foundOn (near .found) pid packet w ≡ At i → detailBy pid near ≡ detailOf i w
+  detail-is pid i = by (eqb pid SOF) ((SETUP or IN or OUT or only PING) pid)
+    where
+      by : (a b : Bool) → pick a (At framingEp) (pick b (looked pid) (At invalidEp)) ≡ At i
+          → pick a (bare Framing) (pick b (pick (eqb pid IN) (near .inward) (near .outward)) (bare Invalid)) ≡ detailOf i w
+      by true b h = let q : framingEp ≡ i = cc in framing-is ∙ ap (λ (j : ℕ). detailOf j w) q
+      by false true h =
+          let o : Owned w (near .found) (addressFor pid number) (At i) = subst (λ (g : Found). Owned w (near .found) (addressFor pid number) g) h (lookup-owned w (near .found) (addressFor pid number)) in
+          direction-is pid ∙ (λ k. detailsOf (w .devices (sym (o .0) k)) (sym (o .1) k))
+      by false false h = let q : invalidEp ≡ i = cc in invalid-is ∙ ap (λ (j : ℕ). detailOf j w) q
 
-    pub place-new : (pid : ℕ) {f : Found} {p : Place} {owner address : ℕ} → f ≡ foundOn (near .found) pid packet (worldOf d [] table) → f ≡ Nothing
-        → owner ≡ tokenOf packet .address → address ≡ addressFor pid (tokenOf packet .number)
-        → p ≡ newBy (near .found) (near .row) owner address (d .counts) → p ≡ placeOf x0 e0 pid packet w
-    place-new pid {f} {p} {owner} {address} e q a b h =
-        h
-        ∙ (new-is (near .found) (near .row) owner address (s .row)
-        ∙ ((λ i. newOn (s .found i) (a i) (b i) w)
-        ∙ (ap (λ (g : Found). placeAt g x0 e0 pid packet w) (sym q) ∙ place-is pid e)))
+  -- none is found of a token only
+  token-is : (pid : ℕ) → foundOn (near .found) pid packet w ≡ Nothing → detailBy pid near ≡ pick (eqb pid IN) (near .inward) (near .outward)
+  token-is pid = by (eqb pid SOF) ((SETUP or IN or OUT or only PING) pid)
+    where
+      by : (a b : Bool) → pick a (At framingEp) (pick b (looked pid) (At invalidEp)) ≡ Nothing
+          → pick a (bare Framing) (pick b (pick (eqb pid IN) (near .inward) (near .outward)) (bare Invalid)) ≡ pick (eqb pid IN) (near .inward) (near .outward)
+      by true b h = nothing-found h
+      by false true h = refl
+      by false false h = nothing-found h
 
-    -- the invalid endpoint, and that of the old transaction
-    pub stand-invalid : {p : Place} → p ≡ standingOn x0 e0 1 (near .first) (entryAt table 1) → p ≡ standing x0 e0 invalidEp w
-    stand-invalid h = h ∙ ap (λ (a : Device). standingOn x0 e0 1 a (entryAt table 1)) (s .first ∙ ap (w .devices) (sym (r .invalid)))
+  -- a lookup goes by the endpoints alone
+  lookup-by : (f : Found) (address : ℕ) → endpointLookup f address (worldOf d [] table) ≡ endpointLookup f address w
+  lookup-by (At i) address = refl
+  lookup-by Nothing address = refl
 
-    pub going-is : {m : Middle} (status : Status) (pid : ℕ) (b : Transaction) → m ≡ goingBy status (standingOn x0 e0 x0 (near .old) (entryAt table x0)) pid b → m ≡ goingOn status x0 e0 pid b w
-    going-is status pid b h = h ∙ ap (λ (a : Device). goingBy status (standingOn x0 e0 x0 a (entryAt table x0)) pid b) (s .old)
+  found-is : (pid : ℕ) {f : Found} → f ≡ foundOn (near .found) pid packet (worldOf d [] table) → f ≡ foundOn (near .found) pid packet w
+  found-is pid e = e ∙ ap (λ (g : Found). pick (eqb pid SOF) (At 2) (pick ((SETUP or IN or OUT or only PING) pid) g (At 1))) (lookup-by (near .found) (addressFor pid number))
+
+  place-is : (pid : ℕ) {f : Found} → f ≡ foundOn (near .found) pid packet (worldOf d [] table) → placeAt f x0 e0 pid packet w ≡ placeOf x0 e0 pid packet w
+  unfolding placeOf
+  place-is pid e = ap (λ (g : Found). placeAt g x0 e0 pid packet w) (found-is pid e ∙ ap (λ (g : Found). foundOn g pid packet w) (s .found))
+
+  pub place-found : (pid : ℕ) {f : Found} {detail : Detail} {p : Place} (i : ℕ) → f ≡ foundOn (near .found) pid packet (worldOf d [] table) → f ≡ At i
+      → detail ≡ detailBy pid near → p ≡ standingOn x0 e0 i detail (entryAt table i) → p ≡ placeOf x0 e0 pid packet w
+  place-found pid i e q k h =
+      h
+      ∙ (ap (λ (a : Detail). standingOn x0 e0 i a (entryAt table i)) (k ∙ detail-is pid i (sym (found-is pid e) ∙ q))
+      ∙ (ap (λ (g : Found). placeAt g x0 e0 pid packet w) (sym q) ∙ place-is pid e))
+
+  new-is : (f : Found) (detail : Detail) (owner address : ℕ) → detail ≡ detailsOf (w .devices (placeIn f)) address → newBy f detail owner address (d .counts) ≡ newOn f owner address w
+  new-is (At i) detail owner address e = ap (λ (a : Detail). newBy (At i) a owner address (d .counts)) e
+  new-is Nothing detail owner address e = refl
+
+  pub place-new : (pid : ℕ) {f : Found} {detail : Detail} {p : Place} {owner address : ℕ} → f ≡ foundOn (near .found) pid packet (worldOf d [] table) → f ≡ Nothing
+      → detail ≡ detailBy pid near → owner ≡ tokenOf packet .address → address ≡ addressFor pid number
+      → p ≡ newBy (near .found) detail owner address (d .counts) → p ≡ placeOf x0 e0 pid packet w
+  place-new pid {detail = detail} {owner = owner} {address = address} e q k a b h =
+      h
+      ∙ (new-is (near .found) detail owner address (k ∙ (token-is pid (sym (found-is pid e) ∙ q) ∙ (direction-is pid ∙ ap (detailsOf (w .devices (placeIn (near .found)))) (sym b))))
+      ∙ ((λ i. newOn (s .found i) (a i) (b i) w)
+      ∙ (ap (λ (g : Found). placeAt g x0 e0 pid packet w) (sym q) ∙ place-is pid e)))
+
+  -- the invalid endpoint, and that of the old transaction
+  pub stand-invalid : {p : Place} → p ≡ standingOn x0 e0 1 (bare Invalid) (entryAt table 1) → p ≡ standing x0 e0 invalidEp w
+  stand-invalid h = h ∙ ap (λ (a : Detail). standingOn x0 e0 1 a (entryAt table 1)) invalid-is
+
+  pub going-is : {m : Middle} (status : Status) (pid : ℕ) (b : Transaction) → m ≡ goingBy status (standingOn x0 e0 x0 (near .old) (entryAt table x0)) pid b → m ≡ goingOn status x0 e0 pid b w
+  going-is status pid b h = h ∙ ap (λ (a : Detail). goingBy status (standingOn x0 e0 x0 a (entryAt table x0)) pid b) (s .old)

@@ -26,10 +26,9 @@ pub record Ready (d : Decoder) (table : List ℕ) : Type 0 where
   pub transactions : d .counts .transactions < 2 ^ 60
   pub entries : (i : ℕ) → i < d .counts .endpoints → Known (d .counts) (entryAt table i)
   pub held : holds (d .slot) ≡ true → d .transaction .endpoint < d .counts .endpoints
-  -- the special endpoints are on the first device
-  pub event : entryAt table 0 .device ≡ 0
-  pub invalid : entryAt table 1 .device ≡ 0
-  pub framing : entryAt table 2 .device ≡ 0
+  -- the special endpoints that packets are on have their addresses
+  pub invalid : entryAt table 1 .address ≡ 0x11
+  pub framing : entryAt table 2 .address ≡ 0x12
 
 -- an entry on the way: its counts are far from overflow
 pub record Small (k : ℕ) (e : Endpoint) : Type 0 where
@@ -46,7 +45,6 @@ ready d devices table room w s =
       transactions = omega (arith, n .transactions, s .transactions);
       entries = λ i h. let e = w .endpoints i h .entry in record { device = e .device; transactions = omega (arith, e .transactions, n .links, s .links); groups = omega (arith, e .groups, n .links, s .links) };
       held = λ h. w .held h .endpoint;
-      event = w .specials .event .device;
-      invalid = w .specials .invalid .device;
-      framing = w .specials .framing .device;
+      invalid = w .specials .invalid .address;
+      framing = w .specials .framing .address;
     }

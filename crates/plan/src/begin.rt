@@ -11,10 +11,8 @@ use judge::Decoder;
 use steps::Begin;
 use steps::Middle;
 use steps::Place;
-use tables::Device;
+use tables::Detail;
 use tables::Endpoint;
-use tables::details::endpoint_details;
-use tables::details::set_endpoint_type;
 use tables::kind;
 use transaction::Status;
 use transaction::Style;
@@ -29,11 +27,11 @@ ghost use mathlib.Core.Path.{_≡_};
 ghost use Prim.Native.Nat.{_<_};
 ghost use Rattle.tables.specs.Table.{entryAt};
 ghost use Rattle.rules.specs.World.{withPid, withToken};
-ghost use Rattle.steps.specs.Packet.{none, going, startBy, updateFor, typeBy, startOn, startSplit, startPlain, starting, withTokenOn, appending, middleOf};
+ghost use Rattle.steps.specs.Packet.{none, going, startBy, updateFor, typeBy, startOn, startSplit, startPlain, starting, typedDetail, withTokenOn, appending, middleOf};
 ghost use Rattle.plan.specs.Ready.{Ready};
 ghost use Rattle.plan.specs.Near.{ForSeen, standingOn, goingBy};
 
-fn no_update() -> Update
+pub fn no_update() -> Update
     ensures { λ r. ⌜ r ≡ none ⌝ }
 {
     Update {
@@ -108,7 +106,7 @@ fn start_on(status: Status, p: Place, kind: u8, owner: u8, pid: u8, n: u64) -> M
     ensures { λ r. ⌜ r ≡ startOn status p kind owner pid n ⌝ }
 {
     let entry = p.entry;
-    let known = p.known;
+    let detail = p.detail;
     let t = new_transaction(Style::Simple(pid), n, pid, p.x, kind);
     let update = update_for(status, pid, t, entry);
     let begin = Begin {
@@ -126,8 +124,7 @@ fn start_on(status: Status, p: Place, kind: u8, owner: u8, pid: u8, n: u64) -> M
     Middle {
         begin,
         entry,
-        known,
-        number: p.number,
+        detail,
     }
 }
 
@@ -136,7 +133,7 @@ fn start_split(packet: &[u8], pid: u8, n: u64, p: Place) -> Middle
     ensures { λ r. ⌜ r ≡ startSplit (now (packet .entry)) pid n p ⌝ }
 {
     let entry = p.entry;
-    let known = p.known;
+    let detail = p.detail;
     let sc = split_sc(packet);
     let kind = split_kind(packet);
     let t = new_transaction(Style::Split(sc, kind), n, pid, 0, kind);
@@ -144,16 +141,14 @@ fn start_split(packet: &[u8], pid: u8, n: u64, p: Place) -> Middle
     Middle {
         begin,
         entry,
-        known,
-        number: p.number,
+        detail,
     }
 }
 
 fn start_plain(status: Status, p: Place, pid: u8, packet: &[u8], n: u64) -> Middle
     ensures { λ r. ⌜ r ≡ startPlain status p pid (now (packet .entry)) n ⌝ }
 {
-    let known = p.known;
-    let detail = endpoint_details(known, p.number);
+    let detail = p.detail;
     let kind = type_by(detail.kind);
     let token = token_of(packet);
     start_on(status, p, kind, token.address, pid, n)
@@ -174,14 +169,17 @@ fn transaction_start(
     requires { ⌜ Ready d (now table) ⌝ }
     ensures { λ r. ⌜ ForSeen near x0 (now (packet .entry)) d (now (table .entry)) (λ w. r ≡ starting status x0 e0 pid (now (packet .entry)) n w) ⌝ }
 {
-    let first = near.first;
+    let invalid = Detail {
+        kind: kind::INVALID,
+        max: 0,
+    };
     match pid {
         MALFORMED => {
-            let p = stand_at(x0, e0, INVALID_EP_ID, first, table);
+            let p = stand_at(x0, e0, INVALID_EP_ID, invalid, table);
             start_on(status, p, kind::UNKNOWN, 0, pid, n)
         }
         SPLIT => {
-            let p = stand_at(x0, e0, INVALID_EP_ID, first, table);
+            let p = stand_at(x0, e0, INVALID_EP_ID, invalid, table);
             start_split(packet, pid, n, p)
         }
         _ => {
@@ -218,6 +216,21 @@ fn with_token(style: Style, x: usize, t: Transaction) -> Transaction
     }
 }
 
+// An endpoint's details once a split's type is stored for it: an ordinary number whose type is not known takes it.
+fn typed_detail(address: u8, kind: u8, detail: Detail) -> Detail
+    ensures { λ r. ⌜ r ≡ typedDetail address kind detail ⌝ }
+{
+    let number = address % 128;
+    if (number != 0) & ((number < 16) & (detail.kind == kind::UNKNOWN)) {
+        Detail {
+            kind,
+            max: detail.max,
+        }
+    } else {
+        detail
+    }
+}
+
 // The split with the token pid, on the endpoint p, whose type is then known.
 fn with_token_on(
     status: Status,
@@ -231,10 +244,9 @@ fn with_token_on(
     ensures { λ r. ⌜ r ≡ withTokenOn status p sc kind owner pid b ⌝ }
 {
     let entry = p.entry;
-    let device = p.known;
     let t = with_pid(pid, with_token(Style::Token(sc, kind, pid), p.x, b));
     let update = update_for(status, pid, t, entry);
-    let known = set_endpoint_type(device, p.number, kind);
+    let detail = typed_detail(p.number, kind, p.detail);
     let begin = Begin {
         row: false,
         device: p.device,
@@ -250,35 +262,33 @@ fn with_token_on(
     Middle {
         begin,
         entry,
-        known,
-        number: p.number,
+        detail,
     }
 }
 
-// Any other packet: the transaction stays on its endpoint, whose device's row is known.
+// Any other packet: the transaction stays on its endpoint, whose details are known.
 fn append_on(
     status: Status,
     x0: usize,
     e0: Endpoint,
     pid: u8,
     b: Transaction,
-    known: Device,
+    detail: Detail,
     table: &[u64; 2176],
 ) -> Middle
     requires { ⌜ x0 < 128 ⌝ }
-    ensures { λ r. ⌜ r ≡ goingBy status (standingOn x0 e0 x0 known (entryAt (now (table .entry)) x0)) pid b ⌝ }
+    ensures { λ r. ⌜ r ≡ goingBy status (standingOn x0 e0 x0 detail (entryAt (now (table .entry)) x0)) pid b ⌝ }
 {
-    let p = stand_at(x0, e0, x0, known, table);
+    let p = stand_at(x0, e0, x0, detail, table);
     let entry = p.entry;
-    let known = p.known;
+    let detail = p.detail;
     let t = with_pid(pid, b);
     let update = update_for(status, pid, t, entry);
     let begin = go_on(false, t, update);
     Middle {
         begin,
         entry,
-        known,
-        number: p.number,
+        detail,
     }
 }
 

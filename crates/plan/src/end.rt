@@ -1,12 +1,11 @@
 // The end of a transaction (group_update), and what it leaves of the endpoint's entry.
+use crate::begin::no_update;
+use group::Effect;
 use group::group_status;
 use steps::End;
 use steps::Middle;
 use tables::Detail;
-use tables::Device;
 use tables::Endpoint;
-use tables::details::endpoint_details;
-use tables::entry::load;
 use transaction::Transaction;
 use transaction::payload::start_pid;
 use update::Update;
@@ -16,15 +15,13 @@ use update::entry::transaction_update;
 ghost use mathlib.Core.Path.{_≡_};
 ghost use mathlib.Core.Bool.{false};
 ghost use Prim.Native.Nat.{_<_, _^_};
-ghost use Rattle.tables.specs.Details.{detailsOf};
-ghost use Rattle.tables.specs.Table.{entryAt};
 ghost use Rattle.update.specs.Entry.{itemAfter};
 ghost use Rattle.steps.specs.Step.{endOf};
-ghost use Rattle.steps.specs.Packet.{closeOf, entryEnded, lastEnded};
+ghost use Rattle.steps.specs.Packet.{resting, endIf, closeOf, entryEnded, lastEnded};
 ghost use Rattle.plan.specs.Ready.{Small};
 
 // Of a transaction t on the endpoint x with the entry e; last is the last item's endpoint.
-fn end_of(
+pub fn end_of(
     x: usize,
     e: Endpoint,
     t: Transaction,
@@ -48,21 +45,26 @@ fn end_of(
     }
 }
 
-// The end of the old transaction, neither with success nor complete; known is the row of its endpoint's device.
-pub fn end_at(
-    x: usize,
-    e: Endpoint,
-    t: Transaction,
-    last: usize,
-    known: Device,
-    table: &[u64; 2176],
-) -> End
-    requires { ⌜ x < 128 ⌝ }
-    ensures { λ r. ⌜ r ≡ endOf x e t (detailsOf known (entryAt (now (table .entry)) x .address)) last false false ⌝ }
+// Where it does not end, its entry stays, and nothing is done.
+fn resting_end(e: Endpoint) -> End
+    ensures { λ r. ⌜ r ≡ resting e ⌝ }
 {
-    let stored = load(table, x);
-    let detail = endpoint_details(known, stored.address);
-    end_of(x, e, t, detail, last, false, false)
+    End {
+        entry: e,
+        update: no_update(),
+        effect: Effect::NoEffect,
+    }
+}
+
+// The end of the old transaction, neither with success nor complete, where it ends; detail is that of its endpoint.
+pub fn end_if(ends: bool, x: usize, e: Endpoint, t: Transaction, last: usize, detail: Detail) -> End
+    ensures { λ r. ⌜ r ≡ endIf ends (endOf x e t detail last false false) e ⌝ }
+{
+    if ends {
+        end_of(x, e, t, detail, last, false, false)
+    } else {
+        resting_end(e)
+    }
 }
 
 // The last item's endpoint after an update of endpoint x.
@@ -105,12 +107,12 @@ pub fn last_ended(ends: bool, end: End, x: usize, last: usize) -> usize
 }
 
 // The end of the packet's own transaction.
-pub fn close_of(m: Middle, last: usize, success: bool, complete: bool) -> End
+fn close_of(m: Middle, last: usize, success: bool, complete: bool) -> End
     requires { ⌜ Small (2 ^ 62) (m .entry) ⌝ }
     ensures { λ r. ⌜ r ≡ closeOf m last success complete ⌝ }
 {
     let begin = m.begin;
-    let known = m.known;
+    let detail = m.detail;
     let entry = m.entry;
     let u = begin.update;
     let t = begin.transaction;
@@ -118,7 +120,19 @@ pub fn close_of(m: Middle, last: usize, success: bool, complete: bool) -> End
     let x = t.endpoint;
     let e = entry_update(u, start_pid(style), entry);
     let t = transaction_update(u, t, entry.transactions);
-    let detail = endpoint_details(known, m.number);
     let last = item_after(u, x, last);
     end_of(x, e, t, detail, last, success, complete)
+}
+
+// And where it ends.
+pub fn close_if(closes: bool, m: Middle, last: usize, success: bool, complete: bool) -> End
+    requires { ⌜ Small (2 ^ 62) (m .entry) ⌝ }
+    ensures { λ r. ⌜ r ≡ endIf closes (closeOf m last success complete) (m .entry) ⌝ }
+{
+    if closes {
+        close_of(m, last, success, complete)
+    } else {
+        let entry = m.entry;
+        resting_end(entry)
+    }
 }

@@ -1,6 +1,6 @@
 // The steps of a call, decided from values alone before anything is written: nothing here writes.
 mod begin;
-mod bytes;
+pub mod bytes;
 mod end;
 pub mod near;
 mod place;
@@ -10,8 +10,9 @@ mod status;
 use crate::begin::go_on;
 use crate::begin::middle_of;
 use crate::bytes::setup_of;
-use crate::end::close_of;
-use crate::end::end_at;
+use crate::end::close_if;
+use crate::end::end_if;
+use crate::end::end_of;
 use crate::end::entry_ended;
 use crate::end::last_ended;
 use crate::near::Near;
@@ -35,6 +36,7 @@ use steps::Ending;
 use steps::Plan;
 use tables::Device;
 use tables::Endpoint;
+use tables::details::endpoint_details;
 use tables::entry::flag_word;
 use tables::entry::load;
 use transaction::Judged;
@@ -99,15 +101,15 @@ fn plan_by(
     let brought = extract_payload(t, pid, packet.len(), setup_of(packet));
     let token = brought.style;
     let old = near.old;
-    let end = end_at(x0, e, brought, d.last, old, table);
     let ends = is_new(status) & (x0 != 0);
+    let end = end_if(ends, x0, e, brought, d.last, old);
     let e0 = entry_ended(ends, end, start_pid(token), e);
     let last = last_ended(ends, end, x0, d.last);
     let n = next_row(d);
     let m = middle_of(status, x0, e0, pid, packet, n, brought, d, near, table);
     let begin = m.begin;
-    let known = m.known;
     let own = begin.transaction;
+    let closes = is_last(status) & (own.endpoint != 0);
     Plan {
         resumes: is_suspended(slot),
         resume: resume_of(d),
@@ -116,14 +118,19 @@ fn plan_by(
         brought,
         end,
         begin,
-        closes: is_last(status) & (own.endpoint != 0),
-        close: close_of(m, last, is_success(status), completes_by(status, style)),
-        known,
+        closes,
+        close: close_if(
+            closes,
+            m,
+            last,
+            is_success(status),
+            completes_by(status, style),
+        ),
         slot: slot_after(status, slot),
     }
 }
 
-// The steps of a packet, by the rows that were taken for it.
+// The steps of a packet, by what was taken of the devices for it.
 pub fn plan_near(d: Decoder, near: Near, table: &[u64; 2176], packet: &[u8]) -> Plan
     requires { ⌜ Ready d (now table) ⌝ }
     requires { ⌜ Taken near (oldEndpoint (d .slot) (d .transaction)) (now packet) d (now table) ⌝ }
@@ -160,7 +167,8 @@ pub fn plan_ending(d: Decoder, devices: [Device; 64], table: &[u64; 2176]) -> En
     let e = load(table, x);
     let place = e.device as usize;
     let known = devices[place];
-    let end = end_at(x, e, t, d.last, known, table);
+    let detail = endpoint_details(known, e.address);
+    let end = end_of(x, e, t, detail, d.last, false, false);
     Ending {
         ends: x != 0,
         old: x,

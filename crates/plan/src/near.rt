@@ -1,28 +1,34 @@
-// The rows of the devices that a packet's steps go by, taken once, so that the devices need not be handed on.
+// What a packet's steps go by of the devices, taken once, so that neither the devices nor a row of them need be handed on.
 use crate::bytes::token_of;
+use crate::place::address_for;
 use crate::slot::old_endpoint;
 use judge::Decoder;
+use tables::Detail;
 use tables::Device;
+use tables::Endpoint;
 use tables::Found;
+use tables::details::endpoint_details;
 use tables::entry::load;
 use tables::find::find_device;
+use usb::pid::IN;
 ghost use mathlib.Core.Path.{_≡_};
+ghost use Prim.Native.Nat.{_<_};
 ghost use Rattle.tables.specs.Table.{entryAt};
 ghost use Rattle.judge.specs.World.{worldOf};
 ghost use Rattle.steps.specs.Packet.{oldEndpoint};
 ghost use Rattle.plan.specs.Ready.{Ready};
-ghost use Rattle.plan.specs.Near.{Seen, placeIn};
+ghost use Rattle.plan.specs.Near.{Seen, placeIn, nearBy};
 
-// The device that stands for the packet's address, its row, that of the old transaction's endpoint, and the first.
+// The device that stands for the packet's address; the details of the packet's endpoint there, in either direction; those of the old transaction's.
 pub struct Near {
     pub found: Found,
-    pub row: Device,
-    pub old: Device,
-    pub first: Device,
+    pub inward: Detail,
+    pub outward: Detail,
+    pub old: Detail,
 }
 
 // The place of a device that was found, else the first.
-fn place_in(found: Found) -> usize
+pub fn place_in(found: Found) -> usize
     ensures { λ r. ⌜ r ≡ placeIn found ⌝ }
 {
     match found {
@@ -31,15 +37,29 @@ fn place_in(found: Found) -> usize
     }
 }
 
-// The device of the endpoint of the transaction that is held.
-fn old_device(d: Decoder, table: &[u64; 2176]) -> usize
+// The entry of the endpoint of the transaction that is held.
+pub fn old_entry(d: Decoder, table: &[u64; 2176]) -> Endpoint
     requires { ⌜ Ready d (now table) ⌝ }
-    ensures { λ r. ⌜ r ≡ entryAt (now (table .entry)) (oldEndpoint (d .slot) (d .transaction)) .device ⌝ }
+    ensures { λ r. ⌜ r ≡ entryAt (now (table .entry)) (oldEndpoint (d .slot) (d .transaction)) ⌝ }
 {
     let slot = d.slot;
     let held = d.transaction;
-    let stored = load(table, old_endpoint(slot, held));
-    stored.device as usize
+    load(table, old_endpoint(slot, held))
+}
+
+// By the row of the device that was found, and that of the device that the old transaction's endpoint is on.
+pub fn near_of(found: Found, number: u8, row: Device, old: Detail) -> Near
+    requires { ⌜ number < 16 ⌝ }
+    ensures { λ r. ⌜ r ≡ nearBy found number row old ⌝ }
+{
+    let inward = endpoint_details(row, address_for(IN, number));
+    let outward = endpoint_details(row, number);
+    Near {
+        found,
+        inward,
+        outward,
+        old,
+    }
 }
 
 pub fn look(d: Decoder, devices: [Device; 64], table: &[u64; 2176], packet: &[u8]) -> Near
@@ -50,14 +70,10 @@ pub fn look(d: Decoder, devices: [Device; 64], table: &[u64; 2176], packet: &[u8
     let token = token_of(packet);
     let found = find_device(devices, counts.devices, token.address);
     let place = place_in(found);
-    let owner = old_device(d, table);
+    let e = old_entry(d, table);
+    let owner = e.device as usize;
     let row = devices[place];
-    let old = devices[owner];
-    let first = devices[0];
-    Near {
-        found,
-        row,
-        old,
-        first,
-    }
+    let held = devices[owner];
+    let old = endpoint_details(held, e.address);
+    near_of(found, token.number, row, old)
 }

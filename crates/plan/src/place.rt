@@ -3,13 +3,15 @@ use crate::bytes::token_of;
 use crate::near::Near;
 use judge::Decoder;
 use steps::Place;
-use tables::Device;
+use tables::Detail;
 use tables::Endpoint;
 use tables::Found;
 use tables::Phase;
+use tables::details::endpoint_details;
 use tables::details::fresh_device;
 use tables::entry::load;
 use tables::find::find_endpoint;
+use tables::kind;
 use usb::pid::IN;
 use usb::pid::OUT;
 use usb::pid::PING;
@@ -26,7 +28,7 @@ ghost use Rattle.rules.specs.Endpoints.{addressFor, endpointLookup};
 ghost use Rattle.judge.specs.World.{worldOf};
 ghost use Rattle.steps.specs.Packet.{placeOf};
 ghost use Rattle.plan.specs.Ready.{Ready};
-ghost use Rattle.plan.specs.Near.{ForSeen, foundOn, standingOn, newBy, rowFor};
+ghost use Rattle.plan.specs.Near.{ForSeen, foundOn, detailBy, standingOn, newBy};
 ghost use lib.Dec.{eqb};
 
 // INVALID_EP_ID and FRAMING_EP_ID of the Rust.
@@ -35,7 +37,7 @@ pub const INVALID_EP_ID: usize = 1;
 const FRAMING_EP_ID: usize = 2;
 
 // The address of an endpoint: its number, and 128 more where the direction is In.
-fn address_for(pid: u8, number: u8) -> u8
+pub fn address_for(pid: u8, number: u8) -> u8
     requires { ⌜ number < 16 ⌝ }
     ensures { λ r. ⌜ r ≡ addressFor pid number ⌝ }
 {
@@ -90,10 +92,10 @@ fn entry_by(x0: usize, e0: Endpoint, i: usize, e: Endpoint) -> Endpoint
     if i == x0 { e0 } else { e }
 }
 
-// An endpoint that is there, with its device's row.
-pub fn stand_at(x0: usize, e0: Endpoint, i: usize, known: Device, table: &[u64; 2176]) -> Place
+// An endpoint that is there, with its details.
+pub fn stand_at(x0: usize, e0: Endpoint, i: usize, detail: Detail, table: &[u64; 2176]) -> Place
     requires { ⌜ i < 128 ⌝ }
-    ensures { λ r. ⌜ r ≡ standingOn x0 e0 i known (entryAt (now (table .entry)) i) ⌝ }
+    ensures { λ r. ⌜ r ≡ standingOn x0 e0 i detail (entryAt (now (table .entry)) i) ⌝ }
 {
     let e = load(table, i);
     let place = e.device as usize;
@@ -104,8 +106,8 @@ pub fn stand_at(x0: usize, e0: Endpoint, i: usize, known: Device, table: &[u64; 
         new: false,
         device: false,
         place,
-        known,
         number,
+        detail,
         entry,
     }
 }
@@ -136,48 +138,59 @@ fn new_endpoint(device: u64, address: u8) -> Endpoint
 }
 
 // A new endpoint (add_endpoint), with a new device where the address has none.
-fn new_on(owner: u8, address: u8, d: Decoder, near: Near) -> Place
-    ensures { λ r. ⌜ r ≡ newBy (near .found) (near .row) owner address (d .counts) ⌝ }
+fn new_on(owner: u8, address: u8, d: Decoder, found: Found, detail: Detail) -> Place
+    ensures { λ r. ⌜ r ≡ newBy found detail owner address (d .counts) ⌝ }
 {
     let counts = d.counts;
     let x = counts.endpoints;
-    let found = near.found;
     match found {
         Found::At(place) => {
-            let known = near.row;
             let entry = new_endpoint(place as u64, address);
             Place {
                 x,
                 new: true,
                 device: false,
                 place,
-                known,
                 number: address,
+                detail,
                 entry,
             }
         }
         Found::Nothing => {
             let place = counts.devices;
-            let known = fresh_device(owner);
+            let detail = endpoint_details(fresh_device(owner), address);
             let entry = new_endpoint(place as u64, address);
             Place {
                 x,
                 new: true,
                 device: true,
                 place,
-                known,
                 number: address,
+                detail,
                 entry,
             }
         }
     }
 }
 
-// The row of the device of an endpoint that was found: the special endpoints are on the first.
-fn row_for(i: usize, near: Near) -> Device
-    ensures { λ r. ⌜ r ≡ rowFor i near ⌝ }
+// The details of a packet's endpoint: a special one has a kind of its own.
+fn detail_by(pid: u8, near: Near) -> Detail
+    ensures { λ r. ⌜ r ≡ detailBy pid near ⌝ }
 {
-    if i < 3 { near.first } else { near.row }
+    if pid == SOF {
+        return Detail {
+            kind: kind::FRAMING,
+            max: 0,
+        };
+    }
+    if is_token(pid) {
+        if pid == IN { near.inward } else { near.outward }
+    } else {
+        Detail {
+            kind: kind::INVALID,
+            max: 0,
+        }
+    }
 }
 
 // packet_endpoint.
@@ -194,15 +207,14 @@ pub fn packet_endpoint(
     ensures { λ r. ⌜ ForSeen near x0 (now (packet .entry)) d (now (table .entry)) (λ w. r ≡ placeOf x0 e0 pid (now (packet .entry)) w) ⌝ }
 {
     let found = find_place(pid, packet, d, near, table);
+    let detail = detail_by(pid, near);
     match found {
-        Found::At(i) => {
-            let row = row_for(i, near);
-            stand_at(x0, e0, i, row, table)
-        }
+        Found::At(i) => stand_at(x0, e0, i, detail, table),
         Found::Nothing => {
             let token = token_of(packet);
             let address = address_for(pid, token.number);
-            new_on(token.address, address, d, near)
+            let device = near.found;
+            new_on(token.address, address, d, device, detail)
         }
     }
 }

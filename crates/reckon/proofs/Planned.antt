@@ -31,7 +31,7 @@ use Rattle.tables.specs.declared.Phase.{Phase}
 use Rattle.tables.specs.declared.Phase.the-variants.{None}
 use Rattle.group.proofs.Laws.{group-keeps}
 use Rattle.group.specs.Group.{groupStatus}
-use Rattle.rules.specs.Endpoints.{deviceFor, addressFor, found}
+use Rattle.rules.specs.Endpoints.{deviceFor, addressFor, found, detailOf}
 use Rattle.rules.specs.Groups.{closePhase}
 use Rattle.rules.specs.Transactions.{stateAt}
 use Rattle.rules.specs.World.{World, phase, withTransaction, withId, invalidEp, newEndpoint}
@@ -43,9 +43,9 @@ use Rattle.update.specs.declared.Update.{Update}
 use Rattle.update.proofs.Suited.{suits-links, suits-update, suits-early-start}
 use Rattle.judge.specs.Bools.{both}
 use Rattle.steps.specs.Ending.{currentEndpoint, endingOf}
-use Rattle.steps.specs.Packet.{resumes, going, startPlain, oldEndpoint, slotThen, transactionThen, entryThen, entryBy, standing, newOn, placeAt, placeOf, updateFor, startOn, startSplit, starting, withTokenOn, goingOn, appendingAt, appending, middleOf, isNew, isLast, succeeds, closeOf, entryEnded, planBy, planOf}
+use Rattle.steps.specs.Packet.{resumes, going, startPlain, oldEndpoint, slotThen, transactionThen, entryThen, entryBy, standing, newOn, placeAt, placeOf, updateFor, startOn, startSplit, starting, withTokenOn, goingOn, appendingAt, appending, middleOf, isNew, isLast, succeeds, completesBy, closeOf, entryEnded, lastEnded, endIf, planBy, planOf}
 use Rattle.steps.specs.declared.Middle.{Middle}
-use Rattle.steps.specs.Sound.{world1, world4}
+use Rattle.steps.specs.Sound.{world1, world2, world4}
 use Rattle.steps.specs.Step.{opened, begun, ended, endOf}
 use Rattle.steps.specs.declared.Begin.{Begin}
 use Rattle.steps.specs.declared.End.{End}
@@ -222,10 +222,10 @@ module _ (s : Status) (pid x0 : ℕ) (e : Endpoint) (b : Transaction) (packet : 
   v2 = when (resumes (w .slot)) (begun (w .packets) resume) v1
 
   abbrev end : End
-  end = endOf x0 e b (detailsOf (w .devices (w .endpoints x0 .device)) (w .endpoints x0 .address)) (w .lastItem) false false
+  end = endOf x0 e b (detailOf x0 w) (w .lastItem) false false
 
   abbrev v3 : Bool → World
-  v3 z = when z (λ v. ended x0 end (withTransaction b v)) v2
+  v3 z = when z (λ v. ended x0 (endIf z end e) (withTransaction b v)) v2
 
   abbrev e0 : Bool → Endpoint
   e0 z = entryEnded z end (startPid (b .style)) e
@@ -237,7 +237,7 @@ module _ (s : Status) (pid x0 : ℕ) (e : Endpoint) (b : Transaction) (packet : 
   number2 = begun-still (resumes (w .slot)) (w .packets) resume v1 refl
 
   number3 : (z : Bool) → v3 z .count ≡ w .count
-  number3 z = brought-count z x0 end b v2 ∙ number2
+  number3 z = brought-count z x0 (endIf z end e) b v2 ∙ number2
 
   ended-suits : EndSuits x0 end (withTransaction b v2)
   ended-suits = end-suits x0 e b _ (w .lastItem) false false (withTransaction b v2) (subst (λ (n : ℕ). x0 < n) (sym number2) there) (same ∙ sym (phase2 x0))
@@ -319,7 +319,7 @@ plan-by-suits j x0 e t packet time w three there held same old =
     record {
       still = refl;
       resume = λ r. record { there = let c = opened-count (w .packets) (resume′) (world1 packet time w) in let l = held r in omega (arith, c, l); suits = suits-links true _ };
-      end = λ r. ended-suits s pid x0 e b packet time w three there same;
+      end = λ r. subst (λ (z : Bool). EndSuits x0 (endIf z end′ e) (withTransaction b (world2 (planBy j x0 e t packet w) packet time w))) (sym r) (ended-suits s pid x0 e b packet time w three there same);
       begin = begin-suits s pid x0 e b packet time w three there same ends m good;
       close = closing;
     }
@@ -333,6 +333,9 @@ plan-by-suits j x0 e t packet time w three there held same old =
     b : Transaction
     b = extractPayload t pid (length packet) (setupDataOf packet)
 
+    end′ : End
+    end′ = end s pid x0 e b packet time w three there same
+
     resume′ : Begin
     resume′ = resume s pid x0 e b packet time w three there same
 
@@ -345,10 +348,14 @@ plan-by-suits j x0 e t packet time w three there held same old =
     good : Good x0 (e0 s pid x0 e b packet time w three there same ends) w m
     good = middle-good s x0 _ pid packet _ b w three there (λ h. extract-keeps t pid (length packet) (setupDataOf packet) .endpoint ∙ old h)
 
+    close′ : End
+    close′ = closeOf m (lastEnded ends end′ x0 (w .lastItem)) (succeeds s) (completesBy s (t .style))
+
     closing : planBy j x0 e t packet w .closes ≡ true → EndSuits (m .begin .transaction .endpoint) (planBy j x0 e t packet w .close) (world4 (planBy j x0 e t packet w) packet time w)
     closing h =
         let q = both (isLast s) _ h in
-        closing-suits s pid x0 e b packet time w three there same ends (ap (λ (y : Bool). y && not (eqb x0 0)) (last-not-new s (q .0))) m _ (succeeds s) _ good (not-zero (m .begin .transaction .endpoint) (q .1))
+        subst (λ (z : Bool). EndSuits (m .begin .transaction .endpoint) (endIf z close′ (m .entry)) (world4 (planBy j x0 e t packet w) packet time w)) (sym h)
+        (closing-suits s pid x0 e b packet time w three there same ends (ap (λ (y : Bool). y && not (eqb x0 0)) (last-not-new s (q .0))) m _ (succeeds s) _ good (not-zero (m .begin .transaction .endpoint) (q .1)))
 
 -- with no transaction a packet starts one, or is invalid
 pub held-endpoint : (s : Slot) (id : ℕ) (e : Endpoint) (t : Transaction) (packet : List ℕ) → starts (transactionStatus (stateAt (slotThen s) (transactionThen s id e t)) packet .status) ≡ false → transactionThen s id e t .endpoint ≡ oldEndpoint s t

@@ -21,6 +21,7 @@ use Rattle.tables.specs.declared.Detail.{Detail}
 use Rattle.tables.specs.declared.Endpoint.{Endpoint}
 use Rattle.group.proofs.Laws.{group-keeps}
 use Rattle.group.specs.declared.Effect.the-variants.{NoEffect}
+use Rattle.rules.specs.Endpoints.{detailOf}
 use Rattle.rules.specs.Transactions.{stateAt}
 use Rattle.rules.specs.World.{World, withId}
 use Rattle.rules.specs.declared.Slot.{Slot}
@@ -28,7 +29,7 @@ use Rattle.rules.specs.declared.Slot.the-variants.{Empty, Current, Suspended}
 use Rattle.update.specs.Update.{when, decideResume}
 use Rattle.judge.specs.Bools.{both}
 use Rattle.steps.specs.Ending.{currentEndpoint, endingOf}
-use Rattle.steps.specs.Packet.{resumes, going, oldEndpoint, slotThen, transactionThen, entryThen, entryBy, middleOf, isNew, isLast, succeeds, closeOf, entryEnded, planBy, planOf}
+use Rattle.steps.specs.Packet.{resumes, going, oldEndpoint, slotThen, transactionThen, entryThen, entryBy, middleOf, isNew, isLast, succeeds, closeOf, entryEnded, planBy, planOf, endIf, lastEnded, completesBy}
 use Rattle.steps.specs.declared.Middle.{Middle}
 use Rattle.steps.specs.Sound.{world1, world2, world4}
 use Rattle.steps.specs.Step.{opened, begun, endOf}
@@ -95,8 +96,8 @@ plan-by-totals : (j : Judged) (x0 : ℕ) (e : Endpoint) (t : Transaction) (packe
 unfolding planBy
 plan-by-totals j x0 e t packet time w three there same old suits =
     record {
-      quiet = λ r. end-quiet x0 e b _ (w .lastItem) false;
-      end = λ r. end-total x0 e b _ (w .lastItem) false false ∙ (same ∙ sym (total2 x0));
+      quiet = λ r. subst (λ (z : Bool). endIf z end′ e .effect ≡ NoEffect) (sym r) (end-quiet x0 e b _ (w .lastItem) false);
+      end = λ r. subst (λ (z : Bool). endIf z end′ e .entry .total ≡ world2 (planBy j x0 e t packet w) packet time w .endpoints x0 .total) (sym r) (end-total x0 e b _ (w .lastItem) false false ∙ (same ∙ sym (total2 x0)));
       there = λ r. suits .close r .there;
       close = closing;
     }
@@ -111,7 +112,7 @@ plan-by-totals j x0 e t packet time w three there same old suits =
     b = extractPayload t pid (length packet) (setupDataOf packet)
 
     end′ : End
-    end′ = endOf x0 e b (detailsOf (w .devices (w .endpoints x0 .device)) (w .endpoints x0 .address)) (w .lastItem) false false
+    end′ = endOf x0 e b (detailOf x0 w) (w .lastItem) false false
 
     ends : Bool
     ends = isNew s && not (eqb x0 0)
@@ -119,17 +120,22 @@ plan-by-totals j x0 e t packet time w three there same old suits =
     m : Middle
     m = middleOf s x0 (entryEnded ends end′ (startPid (b .style)) e) pid packet (w .transactions + one (resumes (w .slot))) b w
 
+    close′ : End
+    close′ = closeOf m (lastEnded ends end′ x0 (w .lastItem)) (succeeds s) (completesBy s (t .style))
+
     total2 : (i : ℕ) → world2 (planBy j x0 e t packet w) packet time w .endpoints i .total ≡ w .endpoints i .total
     total2 i = resumed-total (resumes (w .slot)) (w .packets) (withId (w .transactions) (w .transaction)) i (world1 packet time w)
 
     closing : planBy j x0 e t packet w .closes ≡ true → planBy j x0 e t packet w .close .entry .total ≡ world4 (planBy j x0 e t packet w) packet time w .endpoints (m .begin .transaction .endpoint) .total
     closing h =
         let q = both (isLast s) _ h in
-        closing-total ends (ap (λ (y : Bool). y && not (eqb x0 0)) (last-not-new s (q .0))) x0 e end′ (startPid (b .style)) m _ (succeeds s) _ (w .packets) w (world2 (planBy j x0 e t packet w) packet time w) _ same
+        let x = m .begin .transaction .endpoint in
+        subst (λ (z : Bool). endIf z close′ (m .entry) .entry .total ≡ world4 (planBy j x0 e t packet w) packet time w .endpoints x .total) (sym h)
+        (closing-total ends (ap (λ (y : Bool). y && not (eqb x0 0)) (last-not-new s (q .0))) x0 e end′ (startPid (b .style)) m _ (succeeds s) _ (w .packets) w (world2 (planBy j x0 e t packet w) packet time w) _ same
         (middle-good s x0 _ pid packet _ b w three there (λ h. extract-keeps t pid (length packet) (setupDataOf packet) .endpoint ∙ old h))
         (not-zero (m .begin .transaction .endpoint) (q .1))
         (count2 (planBy j x0 e t packet w) packet time w refl)
-        total2
+        total2)
 
 then-total : (s : Slot) (e : Endpoint) → entryThen s e .total ≡ e .total
 then-total Empty e = refl

@@ -14,12 +14,12 @@ use Rattle.transaction.specs.declared.Transaction.{Transaction}
 use Rattle.tables.specs.Kind.{Unknown}
 use Rattle.tables.specs.Details.{detailsOf, fresh}
 use Rattle.tables.specs.Search.{firstFrom, lastOf}
-use Rattle.tables.specs.declared.Device.{Device}
+use Rattle.tables.specs.declared.Detail.{Detail}
 use Rattle.tables.specs.declared.Endpoint.{Endpoint}
 use Rattle.tables.specs.declared.Found.{Found}
 use Rattle.tables.specs.declared.Found.the-variants.{At, Nothing as Missing}
 use Rattle.rules.specs.World.{World, invalidEp, framingEp, newTransaction, newEndpoint, withPid}
-use Rattle.rules.specs.Endpoints.{deviceFor, addressFor, endpointLookup, found}
+use Rattle.rules.specs.Endpoints.{deviceFor, addressFor, endpointLookup, found, detailOf}
 use Rattle.steps.specs.Packet.{going, entryBy, standing, newOn, placeAt, placeOf, updateFor, typeBy, startOn, startSplit, startPlain, starting, withTokenOn, goingOn, appendingAt, appending}
 use Rattle.steps.specs.declared.Place.{Place}
 
@@ -48,20 +48,19 @@ module _ {w v : World} (a : Alike w v) where
       ap (λ (f : Found). pick (eqb pid SOF) (At framingEp) (pick ((SETUP or IN or OUT or only PING) pid) f (At invalidEp)))
       (ap (λ (f : Found). endpointLookup f (addressFor pid (tokenOf packet .number)) v) (same-device (tokenOf packet .address)) ∙ same-lookup (deviceFor (tokenOf packet .address) w) (addressFor pid (tokenOf packet .number)))
 
-  -- the known device of an endpoint
-  pub same-known : (j : ℕ) → v .devices (v .endpoints j .device) ≡ w .devices (w .endpoints j .device)
-  same-known j i = a .devices i (a .device j i)
+  pub same-detail : (j : ℕ) → detailOf j v ≡ detailOf j w
+  same-detail j i = detailsOf (a .devices i (a .device j i)) (a .address j i)
 
   same-new : (g : Found) (owner address : ℕ) → newOn g owner address v ≡ newOn g owner address w
   same-new (At d) owner address =
-      λ i. record { x = a .count i; new = true; device = false; place = d; known = a .devices i d; number = address; entry = newEndpoint d address }
+      λ i. record { x = a .count i; new = true; device = false; place = d; number = address; detail = detailsOf (a .devices i d) address; entry = newEndpoint d address }
   same-new Missing owner address =
-      λ i. record { x = a .count i; new = true; device = true; place = a .deviceCount i; known = fresh owner; number = address; entry = newEndpoint (a .deviceCount i) address }
+      λ i. record { x = a .count i; new = true; device = true; place = a .deviceCount i; number = address; detail = detailsOf (fresh owner) address; entry = newEndpoint (a .deviceCount i) address }
 
   -- the endpoint of a packet, where its entry is the same too
   module _ (x0 : ℕ) (e0 : Endpoint) (same : (j : ℕ) → entryBy x0 e0 j v ≡ entryBy x0 e0 j w) where
     pub same-standing : (j : ℕ) → standing x0 e0 j v ≡ standing x0 e0 j w
-    same-standing j i = record { x = j; new = false; device = false; place = a .device j i; known = same-known j i; number = a .address j i; entry = same j i }
+    same-standing j i = record { x = j; new = false; device = false; place = a .device j i; number = a .address j i; detail = same-detail j i; entry = same j i }
 
     same-place : (pid : ℕ) (packet : List ℕ) → placeOf x0 e0 pid packet v ≡ placeOf x0 e0 pid packet w
     unfolding placeOf
@@ -87,7 +86,7 @@ module _ {w v : World} (a : Alike w v) where
         goes : goingOn s x0 e0 pid b v ≡ goingOn s x0 e0 pid b w
         goes i =
             let p = same-standing x0 i in
-            record { begin = going false (withPid pid b) (updateFor s pid (withPid pid b) (p .entry)); entry = p .entry; known = p .known; number = p .number }
+            record { begin = going false (withPid pid b) (updateFor s pid (withPid pid b) (p .entry)); entry = p .entry; detail = p .detail }
 
         by : (t : Style) → appendingAt t s x0 e0 pid packet b v ≡ appendingAt t s x0 e0 pid packet b w
         by Nothing = goes
@@ -97,17 +96,17 @@ module _ {w v : World} (a : Alike w v) where
 
   -- the step that begins, where the entries differ, but not in what is decided from them
   module _ (x0 : ℕ) (e0 : Endpoint) (s : Status) (pid : ℕ) (near : (j : ℕ) (t : Transaction) → updateFor s pid t (entryBy x0 e0 j v) ≡ updateFor s pid t (entryBy x0 e0 j w)) (packet : List ℕ) (n : ℕ) where
-    near-standing : (kindOf : Device → ℕ → ℕ) (owner j : ℕ)
-        → startOn s (standing x0 e0 j v) (kindOf (v .devices (v .endpoints j .device)) (v .endpoints j .address)) owner pid n .begin
-        ≡ startOn s (standing x0 e0 j w) (kindOf (w .devices (w .endpoints j .device)) (w .endpoints j .address)) owner pid n .begin
+    near-standing : (kindOf : Detail → ℕ) (owner j : ℕ)
+        → startOn s (standing x0 e0 j v) (kindOf (detailOf j v)) owner pid n .begin
+        ≡ startOn s (standing x0 e0 j w) (kindOf (detailOf j w)) owner pid n .begin
     near-standing kindOf owner j =
-        (λ i. let t = newTransaction (Simple pid) n pid j (kindOf (same-known j i) (a .address j i)) in
+        (λ i. let t = newTransaction (Simple pid) n pid j (kindOf (same-detail j i)) in
         record { row = true; device = false; endpoint = false; types = false; owner = owner; place = a .device j i; number = a .address j i; kind = 0; transaction = t; update = updateFor s pid t (entryBy x0 e0 j v) })
-        ∙ (λ i. let t = newTransaction (Simple pid) n pid j (kindOf (w .devices (w .endpoints j .device)) (w .endpoints j .address)) in
+        ∙ (λ i. let t = newTransaction (Simple pid) n pid j (kindOf (detailOf j w)) in
         record { row = true; device = false; endpoint = false; types = false; owner = owner; place = w .endpoints j .device; number = w .endpoints j .address; kind = 0; transaction = t; update = near j t i })
 
     near-plain : (f : Found) → startPlain s (placeAt f x0 e0 pid packet v) pid packet n .begin ≡ startPlain s (placeAt f x0 e0 pid packet w) pid packet n .begin
-    near-plain (At j) = near-standing (λ d k. typeBy (detailsOf d k .kind)) (tokenOf packet .address) j
+    near-plain (At j) = near-standing (λ d. typeBy (d .kind)) (tokenOf packet .address) j
     near-plain Missing =
         let address = addressFor pid (tokenOf packet .number) in
         ap (λ (p : Place). startPlain s p pid packet n .begin)
@@ -122,6 +121,6 @@ module _ {w v : World} (a : Alike w v) where
         by : (b c : Bool)
             → pick b (startOn s (standing x0 e0 invalidEp v) Unknown 0 pid n) (pick c (startSplit packet pid n (standing x0 e0 invalidEp v)) (startPlain s (placeAt (found pid packet w) x0 e0 pid packet v) pid packet n)) .begin
             ≡ pick b (startOn s (standing x0 e0 invalidEp w) Unknown 0 pid n) (pick c (startSplit packet pid n (standing x0 e0 invalidEp w)) (startPlain s (placeAt (found pid packet w) x0 e0 pid packet w) pid packet n)) .begin
-        by true c = near-standing (λ d k. Unknown) 0 invalidEp
+        by true c = near-standing (λ d. Unknown) 0 invalidEp
         by false true = refl
         by false false = near-plain (found pid packet w)

@@ -19,7 +19,7 @@ use Rattle.transaction.specs.declared.Status.the-variants.{New, Continue, Retry
 use Rattle.transaction.specs.declared.Style.{Style}
 use Rattle.transaction.specs.declared.Style.the-variants.{Nothing, Simple, Split, Token}
 use Rattle.transaction.specs.declared.Transaction.{Transaction}
-use Rattle.tables.specs.Details.{detailsOf, withType, fresh}
+use Rattle.tables.specs.Details.{withType, fresh}
 use Rattle.tables.specs.Kind.{Unknown}
 use Rattle.tables.specs.declared.Device.{Device}
 use Rattle.tables.specs.declared.Endpoint.{Endpoint}
@@ -28,13 +28,14 @@ use Rattle.tables.specs.declared.Found.the-variants.{At, Nothing as Missing}
 use Rattle.group.specs.declared.Effect.{Effect}
 use Rattle.group.specs.declared.Effect.the-variants.{NoEffect, NewDevice, Request, PendingData, IndexData}
 use Rattle.rules.specs.World.{World, _▷_, invalidEp, withTransaction, change, changeDevice}
-use Rattle.rules.specs.Endpoints.{addDevice, pushEndpoint, typed, deviceFor, addressFor, found}
+use Rattle.rules.specs.Endpoints.{addDevice, pushEndpoint, typed, deviceFor, addressFor, found, detailOf}
 use Rattle.rules.specs.Groups.{becomes, effectStep}
 use Rattle.rules.specs.Transactions.{stateAt, pushTransaction}
 use Rattle.update.specs.Update.{when, act}
 use Rattle.update.specs.declared.Update.{Update}
+use Rattle.steps.specs.Devices.{changes, rowAfter, addsDevice, addressOf}
 use Rattle.steps.specs.Step.{opened, begun, ended, endOf}
-use Rattle.steps.specs.Packet.{resumes, slotThen, oldEndpoint, transactionThen, entryThen, going, standing, newOn, placeAt, placeOf, updateFor, startOn, startSplit, startPlain, starting, withTokenOn, goingOn, appendingAt, appending, middleOf, isNew, entryEnded, planBy, planOf, played}
+use Rattle.steps.specs.Packet.{resumes, slotThen, oldEndpoint, transactionThen, entryThen, going, standing, newOn, placeAt, placeOf, updateFor, startOn, startSplit, startPlain, starting, withTokenOn, goingOn, appendingAt, appending, middleOf, isNew, entryEnded, endIf, planBy, planOf, played}
 use Rattle.steps.specs.Sound.{world1, world2, world3, world4}
 use Rattle.steps.specs.declared.Begin.{Begin}
 use Rattle.steps.specs.declared.End.{End}
@@ -46,22 +47,13 @@ use Rattle.steps.proofs.Quiet.{no-effect}
 
 -- ---- a step that begins
 
--- whether it changes a device's row
-abbrev pub changes : Begin → Bool
-changes s = s .device || s .types
-
 -- device j, where the row at `place` becomes `known`
 abbrev pub placed : Bool → ℕ → Device → ℕ → Device → Device
 placed b place known j d = pick (b && eqb j place) known d
 
--- what is known of the step's device after it: `known`, of the devices f of which there are n
-abbrev pub rowAfter : Begin → ℕ → (ℕ → Device) → Device
-rowAfter s n f = when (s .types) (λ d. withType d (s .number) (s .kind)) (pick (s .device) (fresh (s .owner)) (f (s .place)))
-
-pub record Knows (s : Begin) (known : Device) (n : ℕ) (f : ℕ → Device) : Type 0 where
-  -- a new device comes behind the others
-  pub place : s .device ≡ true → s .place ≡ n
-  pub row : changes s ≡ true → known ≡ rowAfter s n f
+-- a new device comes behind the others, of which there are n
+abbrev pub Behind : Begin → ℕ → Type 0
+Behind s n = s .device ≡ true → s .place ≡ n
 
 -- the parts of `opened`, one after the other
 module _ (j : ℕ) (v : World) where
@@ -102,7 +94,7 @@ together false true j place n f new g h = by (eqb j place) refl
 together false false j place n f new g h = refl
 
 module _ (id : ℕ) (s : Begin) (w : World) where
-  opened-at : (j : ℕ) → (s .device ≡ true → s .place ≡ w .deviceCount) → opened id s w .devices j ≡ placed (changes s) (s .place) (rowAfter s (w .deviceCount) (w .devices)) j (w .devices j)
+  opened-at : (j : ℕ) → Behind s (w .deviceCount) → opened id s w .devices j ≡ placed (changes s) (s .place) (rowAfter s (w .devices)) j (w .devices j)
   unfolding opened
   opened-at j h =
       let v1 = when (s .row) (pushTransaction id) w in
@@ -117,47 +109,29 @@ module _ (id : ℕ) (s : Begin) (w : World) where
       ∙ (ap (λ (d : Device). pick (s .types && eqb j (s .place)) (withType d (s .number) (s .kind)) d) d3
       ∙ together (s .device) (s .types) j (s .place) (w .deviceCount) (λ d. withType d (s .number) (s .kind)) (fresh (s .owner)) (w .devices) h)
 
-  pub begun-devices : (known : Device) → Knows s known (w .deviceCount) (w .devices) → (j : ℕ) → begun id s w .devices j ≡ placed (changes s) (s .place) known j (w .devices j)
+  pub begun-devices : Behind s (w .deviceCount) → (j : ℕ) → begun id s w .devices j ≡ placed (changes s) (s .place) (rowAfter s (w .devices)) j (w .devices j)
   unfolding begun
-  begun-devices known k j =
+  begun-devices h j =
       ap (λ (r : Rest). r .devices j) (act-rest (s .update) (s .transaction .endpoint) (withTransaction (s .transaction) (opened id s w)))
-      ∙ (opened-at j (k .place) ∙ by (changes s) refl)
-    where
-      by : (b : Bool) → changes s ≡ b → placed b (s .place) (rowAfter s (w .deviceCount) (w .devices)) j (w .devices j) ≡ placed b (s .place) known j (w .devices j)
-      by true e = ap (λ (d : Device). placed true (s .place) d j (w .devices j)) (sym (k .row e))
-      by false e = refl
+      ∙ opened-at j h
 
 -- ---- an effect
 
-abbrev pub addsDevice : Effect → Bool
-addsDevice NoEffect = false
-addsDevice (NewDevice a) = true
-addsDevice (Request n) = false
-addsDevice (PendingData n) = false
-addsDevice (IndexData n waited i) = false
-
-abbrev pub addedDevice : Effect → Device
-addedDevice NoEffect = fresh 0
-addedDevice (NewDevice a) = fresh a
-addedDevice (Request n) = fresh 0
-addedDevice (PendingData n) = fresh 0
-addedDevice (IndexData n waited i) = fresh 0
-
-effect-devices : (f : Effect) (x : ℕ) (w : World) (j : ℕ) → effectStep f x w .devices j ≡ placed (addsDevice f) (w .deviceCount) (addedDevice f) j (w .devices j)
+effect-devices : (f : Effect) (x : ℕ) (w : World) (j : ℕ) → effectStep f x w .devices j ≡ placed (addsDevice f) (w .deviceCount) (fresh (addressOf f)) j (w .devices j)
 effect-devices NoEffect x w j = refl
 effect-devices (NewDevice a) x w j = refl
 effect-devices (Request n) x w j = refl
 effect-devices (PendingData n) x w j = refl
 effect-devices (IndexData n waited i) x w j = refl
 
-pub ended-devices : (x : ℕ) (s : End) (w : World) (j : ℕ) → ended x s w .devices j ≡ placed (addsDevice (s .effect)) (w .deviceCount) (addedDevice (s .effect)) j (w .devices j)
+pub ended-devices : (x : ℕ) (s : End) (w : World) (j : ℕ) → ended x s w .devices j ≡ placed (addsDevice (s .effect)) (w .deviceCount) (fresh (addressOf (s .effect))) j (w .devices j)
 unfolding ended
 ended-devices x s w j =
     let v = act (s .update) x (change x (becomes (s .entry)) w) in
     let r = act-rest (s .update) x (change x (becomes (s .entry)) w) in
     effect-devices (s .effect) x v j
-    ∙ (ap (λ (n : ℕ). placed (addsDevice (s .effect)) n (addedDevice (s .effect)) j (v .devices j)) (ap (λ (a : Rest). a .deviceCount) r)
-    ∙ ap (λ (d : Device). placed (addsDevice (s .effect)) (w .deviceCount) (addedDevice (s .effect)) j d) (ap (λ (a : Rest). a .devices j) r))
+    ∙ (ap (λ (n : ℕ). placed (addsDevice (s .effect)) n (fresh (addressOf (s .effect))) j (v .devices j)) (ap (λ (a : Rest). a .deviceCount) r)
+    ∙ ap (λ (d : Device). placed (addsDevice (s .effect)) (w .deviceCount) (fresh (addressOf (s .effect))) j d) (ap (λ (a : Rest). a .devices j) r))
 
 -- ---- how many devices there are
 
@@ -200,95 +174,73 @@ ended-count x s w =
 
 -- ---- the step of a packet that begins
 
--- the same devices, said by another function
-knows-same : (s : Begin) (known : Device) (n m : ℕ) (f g : ℕ → Device) → n ≡ m → ((j : ℕ) → f j ≡ g j) → Knows s known n f → Knows s known m g
-knows-same s known n m f g e h k =
-    record {
-      place = λ d. k .place d ∙ e;
-      row = λ c. k .row c ∙ ap (λ (d : Device). when (s .types) (λ d. withType d (s .number) (s .kind)) (pick (s .device) (fresh (s .owner)) d)) (h (s .place));
-    }
+never : {P : Type 0} → false ≡ true → P
+never h = absurd (false≢true h)
 
-going-knows : (row : Bool) (t : Transaction) (u : Update) (known : Device) (n : ℕ) (f : ℕ → Device) → Knows (going row t u) known n f
-going-knows row t u known n f = record { place = λ h. absurd (false≢true h); row = λ h. absurd (false≢true h) }
-
--- of a place: whether its device is new, and what is known of it
-record Known (owner : ℕ) (p : Place) (w : World) : Type 0 where
-  place : p .device ≡ true → p .place ≡ w .deviceCount
-  row : p .known ≡ pick (p .device) (fresh owner) (w .devices (p .place))
+-- of a place: whether its device is new
+abbrev NewBehind : Place → World → Type 0
+NewBehind p w = p .device ≡ true → p .place ≡ w .deviceCount
 
 module _ (w : World) where
-  standing-known : (owner x0 : ℕ) (e0 : Endpoint) (i : ℕ) → Known owner (standing x0 e0 i w) w
-  standing-known owner x0 e0 i = record { place = λ h. absurd (false≢true h); row = refl }
-
-  new-known : (d : Found) (owner address : ℕ) → Known owner (newOn d owner address w) w
-  new-known (At d) owner address = record { place = λ h. absurd (false≢true h); row = refl }
-  new-known Missing owner address = record { place = λ h. refl; row = refl }
-
-  place-known : (x0 : ℕ) (e0 : Endpoint) (pid : ℕ) (packet : List ℕ) → Known (tokenOf packet .address) (placeOf x0 e0 pid packet w) w
+  place-behind : (x0 : ℕ) (e0 : Endpoint) (pid : ℕ) (packet : List ℕ) → NewBehind (placeOf x0 e0 pid packet w) w
   unfolding placeOf
-  place-known x0 e0 pid packet = by (found pid packet w)
+  place-behind x0 e0 pid packet = by (found pid packet w)
     where
-      by : (f : Found) → Known (tokenOf packet .address) (placeAt f x0 e0 pid packet w) w
-      by (At i) = standing-known (tokenOf packet .address) x0 e0 i
-      by Missing = new-known (deviceFor (tokenOf packet .address) w) (tokenOf packet .address) (addressFor pid (tokenOf packet .number))
+      new : (d : Found) (owner address : ℕ) → NewBehind (newOn d owner address w) w
+      new (At d) owner address = never
+      new Missing owner address = λ h. refl
 
-  abbrev MiddleKnows : Middle → Type 0
-  MiddleKnows m = Knows (m .begin) (m .known) (w .deviceCount) (w .devices)
+      by : (f : Found) → NewBehind (placeAt f x0 e0 pid packet w) w
+      by (At i) = never
+      by Missing = new (deviceFor (tokenOf packet .address) w) (tokenOf packet .address) (addressFor pid (tokenOf packet .number))
 
-  start-knows : (s : Status) (p : Place) (kind owner pid n : ℕ) → Known owner p w → MiddleKnows (startOn s p kind owner pid n)
-  start-knows s p kind owner pid n k = record { place = k .place; row = λ h. k .row }
+  abbrev MiddleBehind : Middle → Type 0
+  MiddleBehind m = Behind (m .begin) (w .deviceCount)
 
-  starting-knows : (s : Status) (x0 : ℕ) (e0 : Endpoint) (pid : ℕ) (packet : List ℕ) (n : ℕ) → MiddleKnows (starting s x0 e0 pid packet n w)
+  starting-behind : (s : Status) (x0 : ℕ) (e0 : Endpoint) (pid : ℕ) (packet : List ℕ) (n : ℕ) → MiddleBehind (starting s x0 e0 pid packet n w)
   unfolding starting
-  starting-knows s x0 e0 pid packet n = by (eqb pid MALFORMED) (eqb pid SPLIT)
+  starting-behind s x0 e0 pid packet n = by (eqb pid MALFORMED) (eqb pid SPLIT)
     where
-      by : (a b : Bool) → MiddleKnows (pick a (startOn s (standing x0 e0 invalidEp w) Unknown 0 pid n) (pick b (startSplit packet pid n (standing x0 e0 invalidEp w)) (startPlain s (placeOf x0 e0 pid packet w) pid packet n)))
-      by true b = start-knows s (standing x0 e0 invalidEp w) Unknown 0 pid n (standing-known 0 x0 e0 invalidEp)
-      by false true = going-knows _ _ _ _ _ _
-      by false false = start-knows s (placeOf x0 e0 pid packet w) _ (tokenOf packet .address) pid n (place-known x0 e0 pid packet)
+      by : (a b : Bool) → MiddleBehind (pick a (startOn s (standing x0 e0 invalidEp w) Unknown 0 pid n) (pick b (startSplit packet pid n (standing x0 e0 invalidEp w)) (startPlain s (placeOf x0 e0 pid packet w) pid packet n)))
+      by true b = never
+      by false true = never
+      by false false = place-behind x0 e0 pid packet
 
-  appending-knows : (s : Status) (x0 : ℕ) (e0 : Endpoint) (pid : ℕ) (packet : List ℕ) (b : Transaction) → MiddleKnows (appending s x0 e0 pid packet b w)
+  appending-behind : (s : Status) (x0 : ℕ) (e0 : Endpoint) (pid : ℕ) (packet : List ℕ) (b : Transaction) → MiddleBehind (appending s x0 e0 pid packet b w)
   unfolding appending
-  appending-knows s x0 e0 pid packet b = by (b .style)
+  appending-behind s x0 e0 pid packet b = by (b .style)
     where
-      by : (y : Style) → MiddleKnows (appendingAt y s x0 e0 pid packet b w)
-      by Nothing = going-knows _ _ _ _ _ _
-      by (Simple first) = going-knows _ _ _ _ _ _
-      by (Split sc kind) =
-          let p = placeOf x0 e0 pid packet w in
-          let k = place-known x0 e0 pid packet in
-          record { place = k .place; row = λ h. ap (λ (d : Device). withType d (p .number) kind) (k .row) }
-      by (Token sc kind token) = going-knows _ _ _ _ _ _
+      by : (y : Style) → MiddleBehind (appendingAt y s x0 e0 pid packet b w)
+      by Nothing = never
+      by (Simple first) = never
+      by (Split sc kind) = place-behind x0 e0 pid packet
+      by (Token sc kind token) = never
 
-  middle-knows : (s : Status) (x0 : ℕ) (e0 : Endpoint) (pid : ℕ) (packet : List ℕ) (n : ℕ) (b : Transaction) → MiddleKnows (middleOf s x0 e0 pid packet n b w)
-  middle-knows New x0 e0 pid packet n b = starting-knows New x0 e0 pid packet n
-  middle-knows Continue x0 e0 pid packet n b = appending-knows Continue x0 e0 pid packet b
-  middle-knows Retry x0 e0 pid packet n b = appending-knows Retry x0 e0 pid packet b
-  middle-knows Done x0 e0 pid packet n b = appending-knows Done x0 e0 pid packet b
-  middle-knows Fail x0 e0 pid packet n b = appending-knows Fail x0 e0 pid packet b
-  middle-knows Ambiguous x0 e0 pid packet n b = appending-knows Ambiguous x0 e0 pid packet b
-  middle-knows Invalid x0 e0 pid packet n b = starting-knows Invalid x0 e0 pid packet n
+  middle-behind : (s : Status) (x0 : ℕ) (e0 : Endpoint) (pid : ℕ) (packet : List ℕ) (n : ℕ) (b : Transaction) → MiddleBehind (middleOf s x0 e0 pid packet n b w)
+  middle-behind New x0 e0 pid packet n b = starting-behind New x0 e0 pid packet n
+  middle-behind Continue x0 e0 pid packet n b = appending-behind Continue x0 e0 pid packet b
+  middle-behind Retry x0 e0 pid packet n b = appending-behind Retry x0 e0 pid packet b
+  middle-behind Done x0 e0 pid packet n b = appending-behind Done x0 e0 pid packet b
+  middle-behind Fail x0 e0 pid packet n b = appending-behind Fail x0 e0 pid packet b
+  middle-behind Ambiguous x0 e0 pid packet n b = appending-behind Ambiguous x0 e0 pid packet b
+  middle-behind Invalid x0 e0 pid packet n b = starting-behind Invalid x0 e0 pid packet n
 
-  by-knows : (j : Judged) (x0 : ℕ) (e : Endpoint) (t : Transaction) (packet : List ℕ) → Knows (planBy j x0 e t packet w .begin) (planBy j x0 e t packet w .known) (w .deviceCount) (w .devices)
+  by-behind : (j : Judged) (x0 : ℕ) (e : Endpoint) (t : Transaction) (packet : List ℕ) → Behind (planBy j x0 e t packet w .begin) (w .deviceCount)
   unfolding planBy
-  by-knows j x0 e t packet =
+  by-behind j x0 e t packet =
       let b = extractPayload t (j .pid) (length packet) (setupDataOf packet) in
-      let end = endOf x0 e b (detailsOf (w .devices (w .endpoints x0 .device)) (w .endpoints x0 .address)) (w .lastItem) false false in
-      middle-knows (j .status) x0 (entryEnded (isNew (j .status) && not (eqb x0 0)) end (startPid (b .style)) e) (j .pid) packet (w .transactions + one (resumes (w .slot))) b
+      let end = endOf x0 e b (detailOf x0 w) (w .lastItem) false false in
+      middle-behind (j .status) x0 (entryEnded (isNew (j .status) && not (eqb x0 0)) end (startPid (b .style)) e) (j .pid) packet (w .transactions + one (resumes (w .slot))) b
 
-  pub plan-knows : (packet : List ℕ) → Knows (planOf packet w .begin) (planOf packet w .known) (w .deviceCount) (w .devices)
+  pub plan-behind : (packet : List ℕ) → Behind (planOf packet w .begin) (w .deviceCount)
   unfolding planOf
-  plan-knows packet =
+  plan-behind packet =
       let x0 = oldEndpoint (w .slot) (w .transaction) in
       let e = w .endpoints x0 in
       let t = transactionThen (w .slot) (w .transactions) e (w .transaction) in
-      by-knows (transactionStatus (stateAt (slotThen (w .slot)) t) packet) x0 (entryThen (w .slot) e) t packet
+      by-behind (transactionStatus (stateAt (slotThen (w .slot)) t) packet) x0 (entryThen (w .slot) e) t packet
 
   -- a resume changes none
-  resume-knows : (packet : List ℕ) → Knows (planOf packet w .resume) (fresh 0) (w .deviceCount) (w .devices)
-  unfolding planOf planBy
-  resume-knows packet = going-knows _ _ _ _ _ _
-
   resume-changes : (packet : List ℕ) → changes (planOf packet w .resume) ≡ false
   unfolding planOf planBy
   resume-changes packet = refl
@@ -300,7 +252,17 @@ module _ (w : World) where
   -- the old transaction ends without success
   pub plan-quiet : (packet : List ℕ) → planOf packet w .end .effect ≡ NoEffect
   unfolding planOf planBy endOf
-  plan-quiet packet = no-effect _ _ _ false
+  plan-quiet packet =
+      let x0 = oldEndpoint (w .slot) (w .transaction) in
+      let t = transactionThen (w .slot) (w .transactions) (w .endpoints x0) (w .transaction) in
+      let e = entryThen (w .slot) (w .endpoints x0) in
+      let j = transactionStatus (stateAt (slotThen (w .slot)) t) packet in
+      let b = extractPayload t (j .pid) (length packet) (setupDataOf packet) in
+      quiet-if (isNew (j .status) && not (eqb x0 0)) (endOf x0 e b (detailOf x0 w) (w .lastItem) false false) e (no-effect e b (detailOf x0 w) false)
+    where
+      quiet-if : (c : Bool) (s : End) (e : Endpoint) → s .effect ≡ NoEffect → endIf c s e .effect ≡ NoEffect
+      quiet-if true s e h = h
+      quiet-if false s e h = refl
 
 -- ---- all of it
 
@@ -313,11 +275,13 @@ module _ (packet : List ℕ) (time : ℕ) (w : World) where
   before-devices j = ends (plan .ends) ∙ resume (plan .resumes)
     where
       resume : (b : Bool) → when b (begun (w .packets) (plan .resume)) (world1 packet time w) .devices j ≡ w .devices j
-      resume true = begun-devices (w .packets) (plan .resume) (world1 packet time w) (fresh 0) (resume-knows w packet) j ∙ ap (λ (b : Bool). placed b (plan .resume .place) (fresh 0) j (w .devices j)) (resume-changes w packet)
+      resume true =
+          begun-devices (w .packets) (plan .resume) (world1 packet time w) (λ h. never (sym (resume-device w packet) ∙ h)) j
+          ∙ ap (λ (b : Bool). placed b (plan .resume .place) (rowAfter (plan .resume) (w .devices)) j (w .devices j)) (resume-changes w packet)
       resume false = refl
 
       ends : (b : Bool) → when b (λ v. ended (plan .old) (plan .end) (withTransaction (plan .brought) v)) (world2 plan packet time w) .devices j ≡ world2 plan packet time w .devices j
-      ends true = ended-devices (plan .old) (plan .end) (withTransaction (plan .brought) (world2 plan packet time w)) j ∙ ap (λ (f : Effect). placed (addsDevice f) (world2 plan packet time w .deviceCount) (addedDevice f) j (world2 plan packet time w .devices j)) (plan-quiet w packet)
+      ends true = ended-devices (plan .old) (plan .end) (withTransaction (plan .brought) (world2 plan packet time w)) j ∙ ap (λ (f : Effect). placed (addsDevice f) (world2 plan packet time w .deviceCount) (fresh (addressOf f)) j (world2 plan packet time w .devices j)) (plan-quiet w packet)
       ends false = refl
 
   -- how many there are
@@ -336,26 +300,25 @@ module _ (packet : List ℕ) (time : ℕ) (w : World) where
 
   -- device j after the packet
   abbrev pub deviceBegun : ℕ → Device
-  deviceBegun j = placed (changes (plan .begin)) (plan .begin .place) (plan .known) j (w .devices j)
+  deviceBegun j = placed (changes (plan .begin)) (plan .begin .place) (rowAfter (plan .begin) (w .devices)) j (w .devices j)
 
   begun-at : (j : ℕ) → world4 plan packet time w .devices j ≡ deviceBegun j
   begun-at j =
-      begun-devices (w .packets) (plan .begin) (world3 plan packet time w) (plan .known)
-      (knows-same (plan .begin) (plan .known) (w .deviceCount) (world3 plan packet time w .deviceCount) (w .devices) (world3 plan packet time w .devices) (sym before-count) (λ i. sym (before-devices i)) (plan-knows w packet)) j
-      ∙ ap (λ (d : Device). placed (changes (plan .begin)) (plan .begin .place) (plan .known) j d) (before-devices j)
+      begun-devices (w .packets) (plan .begin) (world3 plan packet time w) (λ h. plan-behind w packet h ∙ sym before-count) j
+      ∙ (λ i. placed (changes (plan .begin)) (plan .begin .place) (rowAfter (plan .begin) (λ k. before-devices k i)) j (before-devices j i))
 
   begun-many : world4 plan packet time w .deviceCount ≡ w .deviceCount + one (plan .begin .device)
   begun-many = begun-count (w .packets) (plan .begin) (world3 plan packet time w) ∙ ap (λ (n : ℕ). n + one (plan .begin .device)) before-count
 
-  pub played-devices : (j : ℕ) → played plan packet time w .devices j ≡ placed (plan .closes && addsDevice (plan .close .effect)) (w .deviceCount + one (plan .begin .device)) (addedDevice (plan .close .effect)) j (deviceBegun j)
+  pub played-devices : (j : ℕ) → played plan packet time w .devices j ≡ placed (plan .closes && addsDevice (plan .close .effect)) (w .deviceCount + one (plan .begin .device)) (fresh (addressOf (plan .close .effect))) j (deviceBegun j)
   unfolding played
   played-devices j = by (plan .closes)
     where
-      by : (b : Bool) → when b (ended (plan .begin .transaction .endpoint) (plan .close)) (world4 plan packet time w) .devices j ≡ placed (b && addsDevice (plan .close .effect)) (w .deviceCount + one (plan .begin .device)) (addedDevice (plan .close .effect)) j (deviceBegun j)
+      by : (b : Bool) → when b (ended (plan .begin .transaction .endpoint) (plan .close)) (world4 plan packet time w) .devices j ≡ placed (b && addsDevice (plan .close .effect)) (w .deviceCount + one (plan .begin .device)) (fresh (addressOf (plan .close .effect))) j (deviceBegun j)
       by true =
           ended-devices (plan .begin .transaction .endpoint) (plan .close) (world4 plan packet time w) j
-          ∙ (ap (λ (n : ℕ). placed (addsDevice (plan .close .effect)) n (addedDevice (plan .close .effect)) j (world4 plan packet time w .devices j)) begun-many
-          ∙ ap (λ (d : Device). placed (addsDevice (plan .close .effect)) (w .deviceCount + one (plan .begin .device)) (addedDevice (plan .close .effect)) j d) (begun-at j))
+          ∙ (ap (λ (n : ℕ). placed (addsDevice (plan .close .effect)) n (fresh (addressOf (plan .close .effect))) j (world4 plan packet time w .devices j)) begun-many
+          ∙ ap (λ (d : Device). placed (addsDevice (plan .close .effect)) (w .deviceCount + one (plan .begin .device)) (fresh (addressOf (plan .close .effect))) j d) (begun-at j))
       by false = begun-at j
 
   pub played-device-count : played plan packet time w .deviceCount ≡ w .deviceCount + one (plan .begin .device) + one (plan .closes && addsDevice (plan .close .effect))

@@ -5,6 +5,7 @@ pub mod Devices
 pub mod Ends
 pub mod Alike
 pub mod Starts
+pub mod Typed
 pub mod Settles
 pub mod Appends
 pub mod Olds

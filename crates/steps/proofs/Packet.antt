@@ -16,7 +16,6 @@ use Rattle.transaction.specs.declared.Status.{Status}
 use Rattle.transaction.specs.declared.Status.the-variants.{New, Continue, Retry, Done, Fail, Ambiguous, Invalid}
 use Rattle.transaction.specs.declared.Transaction.{Transaction}
 use Rattle.transaction.proofs.Laws.{extract-keeps}
-use Rattle.tables.specs.Details.{detailsOf}
 use Rattle.tables.specs.declared.Endpoint.{Endpoint}
 use Rattle.rules.specs.World.{World, _▷_, withSlot, withTransaction, withEventState, withId, moreTransactions}
 use Rattle.rules.specs.Endpoints.{detailOf}
@@ -28,7 +27,7 @@ use Rattle.rules.specs.declared.Slot.the-variants.{Empty, Current, Suspended}
 use Rattle.update.specs.Update.{when, decideResume}
 use Rattle.update.specs.Entry.{entryAfter}
 use Rattle.steps.specs.Step.{opened, begun, ended, endOf}
-use Rattle.steps.specs.Packet.{resumes, slotThen, oldEndpoint, transactionThen, entryThen, going, starting, appending, closeOf, middleOf, isNew, isLast, succeeds, completesBy, slotAfter, entryEnded, lastEnded, planBy, planOf, played}
+use Rattle.steps.specs.Packet.{resumes, slotThen, oldEndpoint, transactionThen, entryThen, going, starting, appending, closeOf, middleOf, isNew, isLast, succeeds, completesBy, slotAfter, entryEnded, lastEnded, endIf, planBy, planOf, played}
 use Rattle.steps.specs.declared.Middle.{Middle}
 use Rattle.steps.specs.declared.Begin.{Begin}
 use Rattle.steps.specs.declared.End.{End}
@@ -36,7 +35,7 @@ use Rattle.steps.specs.declared.Plan.{Plan}
 use Rattle.steps.proofs.Frame.{pick-keeps, begun-slot, begun-transaction}
 use Rattle.steps.proofs.Quiet.{no-transaction}
 use Rattle.steps.proofs.Ends.{endIn, end-on}
-use Rattle.steps.proofs.Alike.{Alike, same-known, same-starting, same-appending, near-starting}
+use Rattle.steps.proofs.Alike.{Alike, same-detail, same-starting, same-appending, near-starting}
 use Rattle.steps.proofs.Starts.{Begins, new, invalid, following, start-is}
 use Rattle.steps.proofs.Settles.{Settled, start-settled, append-settled, close-is}
 use Rattle.steps.proofs.Appends.{GoesOn, continue, retry, done, fail, ambiguous, after, going-is}
@@ -54,6 +53,11 @@ onward p id v =
 slot-alike : {w v : World} (s : Slot) → Alike w v → Alike w (withSlot s v)
 slot-alike s a = record { count = a .count; devices = a .devices; deviceCount = a .deviceCount; device = a .device; address = a .address }
 
+-- an end is only asked for where it is taken
+taken : (f : End → World → World) (c : Bool) (s : End) (e : Endpoint) (v : World) → when c (f s) v ≡ when c (f (endIf c s e)) v
+taken f true s e v = refl
+taken f false s e v = refl
+
 -- ---- the old transaction is v's, on the endpoint x0, once it was resumed; w is the world before that, from which all is decided
 
 module _ (id pid x0 n : ℕ) (packet : List ℕ) (e : Endpoint) (w v : World) (r : Resumed x0 e n w v) where
@@ -65,10 +69,10 @@ module _ (id pid x0 n : ℕ) (packet : List ℕ) (e : Endpoint) (w v : World) (r
 
   -- its end, as it is decided and as it is
   abbrev end : End
-  end = endOf x0 e b (detailsOf (w .devices (w .endpoints x0 .device)) (w .endpoints x0 .address)) (w .lastItem) false false
+  end = endOf x0 e b (detailOf x0 w) (w .lastItem) false false
 
   end-same : endIn x0 false false brought ≡ end
-  end-same i = endOf x0 (r .own i) b (detailsOf (same-known (r .alike) x0 i) (r .alike .address x0 i)) (r .lastItem i) false false
+  end-same i = endOf x0 (r .own i) b (same-detail (r .alike) x0 i) (r .lastItem i) false false
 
   -- ---- New
 
@@ -102,11 +106,11 @@ module _ (id pid x0 n : ℕ) (packet : List ℕ) (e : Endpoint) (w v : World) (r
   gone-begun false = begun-transaction id newBegin v b
 
   new-is : (s : Slot) → transactionEnd false false (withTransaction b (withSlot s v)) ≡ withSlot Empty gone
-      → updateAt New id pid packet (completes (v .transaction .style) New) (withSlot s v) ≡ withSlot Current (begun id newBegin (when (not (eqb x0 0)) (λ u. ended x0 end (withTransaction b u)) v))
+      → updateAt New id pid packet (completes (v .transaction .style) New) (withSlot s v) ≡ withSlot Current (begun id newBegin (when (not (eqb x0 0)) (λ u. ended x0 (endIf (not (eqb x0 0)) end e) (withTransaction b u)) v))
   new-is s h =
       ap (λ (u : World). following New (transactionStart id pid packet u)) h
       ∙ (start-is New new id pid x0 packet (withSlot Empty gone)
-      ∙ (ap (λ (s : Begin). withSlot Current (begun id s (withSlot Empty gone))) start-same ∙ (ap (withSlot Current) (begun-slot id newBegin gone Empty) ∙ ap (withSlot Current) (gone-begun (not (eqb x0 0))))))
+      ∙ (ap (λ (s : Begin). withSlot Current (begun id s (withSlot Empty gone))) start-same ∙ (ap (withSlot Current) (begun-slot id newBegin gone Empty) ∙ (ap (withSlot Current) (gone-begun (not (eqb x0 0))) ∙ ap (λ (u : World). withSlot Current (begun id newBegin u)) (taken (λ s u. ended x0 s (withTransaction b u)) (not (eqb x0 0)) end e v)))))
 
   -- ---- Invalid
 
@@ -123,13 +127,14 @@ module _ (id pid x0 n : ℕ) (packet : List ℕ) (e : Endpoint) (w v : World) (r
   invalid-is : (s : Slot)
       → updateAt Invalid id pid packet (completes (v .transaction .style) Invalid) (withSlot s v)
       ≡ (let x = invalidMiddle .begin .transaction .endpoint in
-      withSlot Empty (when (not (eqb x 0)) (ended x (closeOf invalidMiddle (w .lastItem) false false)) (begun id (invalidMiddle .begin) v)))
+      withSlot Empty (when (not (eqb x 0)) (ended x (endIf (not (eqb x 0)) (closeOf invalidMiddle (w .lastItem) false false) (invalidMiddle .entry))) (begun id (invalidMiddle .begin) v)))
   invalid-is s =
       let x = invalidMiddle .begin .transaction .endpoint in
       ap (transactionEnd false false)
       (start-is Invalid invalid id pid x0 packet (withSlot s v)
       ∙ (ap (λ (m : Middle). withSlot Current (begun id (m .begin) (withSlot s v))) (invalid-same (withSlot s v) (slot-resumed s)) ∙ ap (withSlot Current) (begun-slot id (invalidMiddle .begin) v s)))
-      ∙ (close-is id invalidMiddle v settled false false ∙ ap (λ (l : ℕ). withSlot Empty (when (not (eqb x 0)) (ended x (closeOf invalidMiddle l false false)) (begun id (invalidMiddle .begin) v))) (r .lastItem))
+      ∙ (close-is id invalidMiddle v settled false false ∙ ap (λ (l : ℕ). withSlot Empty (when (not (eqb x 0)) (ended x (closeOf invalidMiddle l false false)) (begun id (invalidMiddle .begin) v))) (r .lastItem)
+      ∙ ap (withSlot Empty) (taken (ended x) (not (eqb x 0)) (closeOf invalidMiddle (w .lastItem) false false) (invalidMiddle .entry) (begun id (invalidMiddle .begin) v)))
     where
       settled : eqb (invalidMiddle .begin .transaction .endpoint) 0 ≡ false → Settled id v invalidMiddle
       settled = subst (λ (m : Middle). eqb (m .begin .transaction .endpoint) 0 ≡ false → Settled id v m) (invalid-same v r) (start-settled Invalid id pid x0 (v .transactions) packet v)
@@ -151,11 +156,12 @@ module _ (id pid x0 n : ℕ) (packet : List ℕ) (e : Endpoint) (w v : World) (r
     last-is : (success complete : Bool)
         → transactionEnd success complete (after s (transactionAppend pid packet (withTransaction b (withSlot Current v))))
         ≡ (let x = middle .begin .transaction .endpoint in
-        withSlot Empty (when (not (eqb x 0)) (ended x (closeOf middle (w .lastItem) success complete)) (begun id (middle .begin) v)))
+        withSlot Empty (when (not (eqb x 0)) (ended x (endIf (not (eqb x 0)) (closeOf middle (w .lastItem) success complete) (middle .entry))) (begun id (middle .begin) v)))
     last-is success complete =
         let x = middle .begin .transaction .endpoint in
         ap (transactionEnd success complete) on-is
-        ∙ (close-is id middle v settled success complete ∙ ap (λ (l : ℕ). withSlot Empty (when (not (eqb x 0)) (ended x (closeOf middle l success complete)) (begun id (middle .begin) v))) (r .lastItem))
+        ∙ (close-is id middle v settled success complete ∙ ap (λ (l : ℕ). withSlot Empty (when (not (eqb x 0)) (ended x (closeOf middle l success complete)) (begun id (middle .begin) v))) (r .lastItem)
+        ∙ ap (withSlot Empty) (taken (ended x) (not (eqb x 0)) (closeOf middle (w .lastItem) success complete) (middle .entry) (begun id (middle .begin) v)))
       where
         settled : eqb (middle .begin .transaction .endpoint) 0 ≡ false → Settled id v middle
         settled h = subst (Settled id v) (middle-same v r) (append-settled s id pid x0 packet b v at)
@@ -259,20 +265,20 @@ plan-same packet time w =
     let j = transactionStatus (stateAt (slotThen (w .slot)) t) packet in
     let s = j .status in
     let b = extractPayload t (j .pid) (length packet) (setupDataOf packet) in
-    let end = endOf x0 e b (detailsOf (w .devices (w .endpoints x0 .device)) (w .endpoints x0 .address)) (w .lastItem) false false in
+    let end = endOf x0 e b (detailOf x0 w) (w .lastItem) false false in
     let ends = isNew s && not (eqb x0 0) in
     λ i. let m = middle-same s x0 (entryEnded ends end (startPid (b .style)) e) (j .pid) (w .transactions + one (resumes (w .slot))) b i in
+    let closes = isLast s && not (eqb (m .begin .transaction .endpoint) 0) in
     record {
       resumes = resumes (w .slot);
       resume = going true (withId (w .transactions) (w .transaction)) decideResume;
       ends = ends;
       old = x0;
       brought = b;
-      end = end;
+      end = endIf ends end e;
       begin = m .begin;
-      closes = isLast s && not (eqb (m .begin .transaction .endpoint) 0);
-      close = closeOf m (lastEnded ends end x0 (w .lastItem)) (succeeds s) (completesBy s (t .style));
-      known = m .known;
+      closes = closes;
+      close = endIf closes (closeOf m (lastEnded ends end x0 (w .lastItem)) (succeeds s) (completesBy s (t .style))) (m .entry);
       slot = slotAfter s (w .slot);
     }
   where

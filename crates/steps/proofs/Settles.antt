@@ -1,4 +1,4 @@
--- What a step that begins leaves is what its end is decided from: the endpoint's entry, its device and its address.
+-- What a step that begins leaves is what its end is decided from: the endpoint's entry and its details.
 use mathlib.Core.Path.{_≡_, refl, ap, _∙_}
 use mathlib.Core.Bool.{Bool, true, false, not}
 use mathlib.Core.List.{List}
@@ -28,17 +28,17 @@ use Rattle.update.specs.Entry.{entryAfter, transactionAfter, itemAfter}
 use Rattle.update.specs.declared.Update.{Update}
 use Rattle.update.proofs.After.{act-entry, act-transaction, act-item}
 use Rattle.steps.specs.Step.{opened, begun, ended, endOf}
-use Rattle.steps.specs.Packet.{standing, newOn, placeAt, placeOf, startOn, startSplit, startPlain, starting, withTokenOn, goingOn, appendingAt, appending, closeOf, typeBy}
+use Rattle.steps.specs.Packet.{standing, newOn, placeAt, placeOf, startOn, startSplit, startPlain, starting, withTokenOn, goingOn, appendingAt, appending, closeOf, typeBy, typedDetail}
 use Rattle.steps.specs.declared.Middle.{Middle}
 use Rattle.steps.specs.declared.End.{End}
 use Rattle.steps.proofs.Frame.{Still, opened-still, Rest, act-rest, act-fixed, device-fixed, address-fixed}
 use Rattle.steps.proofs.Ends.{endIn, end-on}
 use Rattle.steps.proofs.Starts.{own-entry, new-entry, new-device}
+use Rattle.steps.proofs.Typed.{typed-detail}
 
 pub record Settled (id : ℕ) (w : World) (m : Middle) : Type 0 where
   pub entry : opened id (m .begin) w .endpoints (m .begin .transaction .endpoint) ≡ m .entry
-  pub known : opened id (m .begin) w .devices (opened id (m .begin) w .endpoints (m .begin .transaction .endpoint) .device) ≡ m .known
-  pub number : opened id (m .begin) w .endpoints (m .begin .transaction .endpoint) .address ≡ m .number
+  pub detail : detailOf (m .begin .transaction .endpoint) (opened id (m .begin) w) ≡ m .detail
 
 -- a device that is changed
 pub changed-device : (d : ℕ) (f : Device → Device) (w : World) → changeDevice d f w .devices d ≡ f (w .devices d)
@@ -55,19 +55,19 @@ module _ (s : Status) (id pid x0 n : ℕ) (packet : List ℕ) (w : World) where
 
   settled-standing : (i kind owner : ℕ) → Settled id w (startOn s (standing x0 old i w) kind owner pid n)
   unfolding opened
-  settled-standing i kind owner = record { entry = own-entry x0 i w; known = refl; number = refl }
+  settled-standing i kind owner = record { entry = own-entry x0 i w; detail = refl }
 
   settled-new : (g : Found) (address : ℕ) → Settled id w (startPlain s (newOn g owner address w) pid packet n)
   unfolding opened
   settled-new (At d) address =
-      record { entry = new-entry d address w; known = ap (λ (e : Endpoint). w .devices (e .device)) (new-entry d address w); number = ap (λ (e : Endpoint). e .address) (new-entry d address w) }
+      record { entry = new-entry d address w; detail = ap (λ (e : Endpoint). detailsOf (w .devices (e .device)) (e .address)) (new-entry d address w) }
   settled-new Missing address =
       let v = addDevice owner w in
       let e = new-entry (w .deviceCount) address v in
-      record { entry = e; known = ap (λ (e : Endpoint). v .devices (e .device)) e ∙ new-device owner w; number = ap (λ (e : Endpoint). e .address) e }
+      record { entry = e; detail = ap (λ (e : Endpoint). detailsOf (v .devices (e .device)) (e .address)) e ∙ ap (λ (d : Device). detailsOf d address) (new-device owner w) }
 
   settled-plain : (f : Found) → Settled id w (startPlain s (placeAt f x0 old pid packet w) pid packet n)
-  settled-plain (At i) = settled-standing i (typeBy (detailsOf (w .devices (w .endpoints i .device)) (w .endpoints i .address) .kind)) owner
+  settled-plain (At i) = settled-standing i (typeBy (detailOf i w .kind)) owner
   settled-plain Missing = settled-new (deviceFor owner w) (addressFor pid (tokenOf packet .number))
 
   -- but for a split, which has no endpoint yet
@@ -94,26 +94,33 @@ module _ (s : Status) (id pid x0 : ℕ) (packet : List ℕ) (b : Transaction) (w
   settled-going : b .endpoint ≡ x0 → Settled id w (goingOn s x0 before pid b w)
   unfolding opened
   settled-going at =
-      record { entry = ap (w .endpoints) at ∙ own-entry x0 x0 w; known = ap (λ (x : ℕ). w .devices (w .endpoints x .device)) at; number = ap (λ (x : ℕ). w .endpoints x .address) at }
+      record { entry = ap (w .endpoints) at ∙ own-entry x0 x0 w; detail = ap (λ (x : ℕ). detailOf x w) at }
 
   -- the split's type is stored
   typed-new : (kind d : ℕ) (v : World) (k : Device) → v .devices d ≡ k
-      → (let u = changeDevice d (typed address kind) (pushEndpoint d address v) in u .devices (u .endpoints (v .count) .device)) ≡ withType k address kind
+      → detailOf (v .count) (changeDevice d (typed address kind) (pushEndpoint d address v)) ≡ typedDetail address kind (detailsOf k address)
   typed-new kind d v k h =
       let u = changeDevice d (typed address kind) (pushEndpoint d address v) in
-      ap (λ (e : Endpoint). u .devices (e .device)) (new-entry d address v) ∙ (changed-device d (typed address kind) (pushEndpoint d address v) ∙ ap (λ (z : Device). withType z address kind) h)
+      ap (λ (e : Endpoint). detailsOf (u .devices (e .device)) (e .address)) (new-entry d address v)
+      ∙ (ap (λ (z : Device). detailsOf z address) (changed-device d (typed address kind) (pushEndpoint d address v))
+      ∙ (ap (λ (z : Device). detailsOf (withType z address kind) address) h ∙ typed-detail k address kind))
 
   settled-token : (sc kind : ℕ) (f : Found) → Settled id w (withTokenOn s (placeAt f x0 before pid packet w) sc kind (tokenOf packet .address) pid b)
   unfolding opened
-  settled-token sc kind (At i) = record { entry = own-entry x0 i w; known = changed-device (w .endpoints i .device) (typed (w .endpoints i .address) kind) w; number = refl }
+  settled-token sc kind (At i) =
+      let a = w .endpoints i .address in
+      record {
+        entry = own-entry x0 i w;
+        detail = ap (λ (z : Device). detailsOf z a) (changed-device (w .endpoints i .device) (typed a kind) w) ∙ typed-detail (w .devices (w .endpoints i .device)) a kind;
+      }
   settled-token sc kind Missing = by (deviceFor (tokenOf packet .address) w)
     where
       by : (g : Found) → Settled id w (withTokenOn s (newOn g (tokenOf packet .address) address w) sc kind (tokenOf packet .address) pid b)
-      by (At d) = record { entry = new-entry d address w; known = typed-new kind d w (w .devices d) refl; number = ap (λ (e : Endpoint). e .address) (new-entry d address w) }
+      by (At d) = record { entry = new-entry d address w; detail = typed-new kind d w (w .devices d) refl }
       by Missing =
           let a = tokenOf packet .address in
           let v = addDevice a w in
-          record { entry = new-entry (w .deviceCount) address v; known = typed-new kind (w .deviceCount) v (fresh a) (new-device a w); number = ap (λ (e : Endpoint). e .address) (new-entry (w .deviceCount) address v) }
+          record { entry = new-entry (w .deviceCount) address v; detail = typed-new kind (w .deviceCount) v (fresh a) (new-device a w) }
 
   pub append-settled : b .endpoint ≡ x0 → Settled id w (appending s x0 before pid packet b w)
   unfolding appending placeOf
@@ -141,10 +148,10 @@ module _ (id : ℕ) (m : Middle) (w : World) where
   opened-item = ap (λ (z : Still). z .lastItem) (opened-still id (m .begin) w)
 
   module _ (settled : Settled id w m) (success complete : Bool) where
-    detail : detailOf x (act u x rows) ≡ detailsOf (m .known) (m .number)
+    detail : detailOf x (act u x rows) ≡ m .detail
     detail =
         (λ i. detailsOf (act-rest u x rows i .devices (act-fixed (λ e. e .device) device-fixed u x x rows i)) (act-fixed (λ e. e .address) address-fixed u x x rows i))
-        ∙ (λ i. detailsOf (settled .known i) (settled .number i))
+        ∙ settled .detail
 
     close-end : endIn x success complete (begun id (m .begin) w) ≡ closeOf m (w .lastItem) success complete
     unfolding begun closeOf

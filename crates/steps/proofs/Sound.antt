@@ -24,6 +24,7 @@ use Rattle.tables.specs.declared.Detail.{Detail}
 use Rattle.tables.specs.declared.Endpoint.{Endpoint}
 use Rattle.group.specs.declared.Effect.{Effect}
 use Rattle.rules.specs.World.{World, withTransaction}
+use Rattle.rules.specs.Endpoints.{detailOf}
 use Rattle.rules.specs.Transactions.{stateAt}
 use Rattle.rules.specs.declared.Slot.{Slot}
 use Rattle.rules.specs.declared.Slot.the-variants.{Empty, Current, Suspended}
@@ -31,7 +32,7 @@ use Rattle.update.specs.Effect.{passes}
 use Rattle.update.specs.Entry.{entryAfter, transactionAfter}
 use Rattle.update.specs.Update.{when}
 use Rattle.steps.specs.Step.{opened, begun, ended, endOf}
-use Rattle.steps.specs.Packet.{resumes, slotThen, oldEndpoint, transactionThen, entryThen, middleOf, isNew, succeeds, completesBy, closeOf, entryEnded, lastEnded, planBy, planOf, played}
+use Rattle.steps.specs.Packet.{resumes, slotThen, oldEndpoint, transactionThen, entryThen, middleOf, isNew, succeeds, completesBy, closeOf, entryEnded, lastEnded, planBy, planOf, played, endIf}
 use Rattle.steps.specs.declared.Middle.{Middle}
 use Rattle.steps.specs.Ending.{currentEndpoint, endingOf}
 use Rattle.steps.specs.Sound.{BeginFits, EndFits, world1, world2, world3, world4, PlanFits}
@@ -83,7 +84,7 @@ unfolding closeOf endOf
 close-small m last success complete token small =
     let s = m .begin in
     let t = s .transaction in
-    group-small (entryAfter (s .update) (startPid (t .style)) (m .entry)) (transactionAfter (s .update) (m .entry .transactions) t) (detailsOf (m .known) (m .number)) success complete (after-small (s .update) (startPid (t .style)) token (m .entry) small)
+    group-small (entryAfter (s .update) (startPid (t .style)) (m .entry)) (transactionAfter (s .update) (m .entry .transactions) t) (m .detail) success complete (after-small (s .update) (startPid (t .style)) token (m .entry) small)
 
 -- the PID of a packet is a byte
 pid-byte : (t : Transaction) (packet : List ℕ) → getD packet 0 0 < 256 → transactionStatus t packet .pid < 256
@@ -106,7 +107,7 @@ module _ (packet : List ℕ) (time : ℕ) (w : World) (special : 3 ≤ w .count)
   b = extractPayload t pid (length packet) (setupDataOf packet)
 
   abbrev detail : Detail
-  detail = detailsOf (w .devices (w .endpoints x0 .device)) (w .endpoints x0 .address)
+  detail = detailOf x0 w
 
   abbrev end : End
   end = endOf x0 e b detail (w .lastItem) false false
@@ -158,7 +159,7 @@ module _ (packet : List ℕ) (time : ℕ) (w : World) (special : 3 ≤ w .count)
   unfolding planBy
   few3 = by (isNew s && not (eqb x0 0))
     where
-      by : (c : Bool) → FewAll 2 (when c (λ v. ended x0 end (withTransaction b v)) (world2 plan packet time w))
+      by : (c : Bool) → FewAll 2 (when c (λ v. ended x0 (endIf c end e) (withTransaction b v)) (world2 plan packet time w))
       by true = ended-few x0 end (withTransaction b (world2 plan packet time w)) (end-small .few) few2
       by false = λ j h. few-more (few2 j h)
 
@@ -166,7 +167,7 @@ module _ (packet : List ℕ) (time : ℕ) (w : World) (special : 3 ≤ w .count)
   unfolding planBy
   count3 = by (isNew s && not (eqb x0 0)) ∙ count2
     where
-      by : (c : Bool) → when c (λ v. ended x0 end (withTransaction b v)) (world2 plan packet time w) .count ≡ world2 plan packet time w .count
+      by : (c : Bool) → when c (λ v. ended x0 (endIf c end e) (withTransaction b v)) (world2 plan packet time w) .count ≡ world2 plan packet time w .count
       by true = ended-count x0 end (withTransaction b (world2 plan packet time w))
       by false = refl
 
@@ -180,21 +181,29 @@ module _ (packet : List ℕ) (time : ℕ) (w : World) (special : 3 ≤ w .count)
     unfolding planBy
     old-fits q =
         let v = withTransaction b (world2 plan packet time w) in
-        end-fits x0 end v (omega (arith, count2)) (omega (arith, count2)) (small-more (small-more end-small)) brought-token end-quiet
+        subst (λ (c : Bool). EndFits x0 (endIf c end e) v) (sym q) (end-fits x0 end v (omega (arith, count2)) (omega (arith, count2)) (small-more (small-more end-small)) brought-token end-quiet)
 
     new-fits : BeginFits (w .packets) (plan .begin) (world3 plan packet time w)
     unfolding planBy
     new-fits = begin-fits (w .packets) (middle .begin) (world3 plan packet time w) (w .count) count3 room few3 (bounded .there) (bounded .number) (bounded .token) (bounded .place)
 
-    close-fits : passes (plan .close .effect) (plan .close .entry .total) ≡ false → EndFits (plan .begin .transaction .endpoint) (plan .close) (world4 plan packet time w)
+    abbrev close : End
+    close = closeOf middle (lastEnded (isNew s && not (eqb x0 0)) end x0 (w .lastItem)) (succeeds s) (completesBy s (t .style))
+
+    close-fits : passes (close .effect) (close .entry .total) ≡ false → EndFits (middle .begin .transaction .endpoint) close (world4 plan packet time w)
     unfolding planBy
     close-fits total =
         let c = begun-count (w .packets) (middle .begin) (world3 plan packet time w) in
-        end-fits (middle .begin .transaction .endpoint) (plan .close) (world4 plan packet time w) (omega (arith, count3)) (omega (arith, count3, bounded .there)) (close-small middle (lastEnded (isNew s && not (eqb x0 0)) end x0 (w .lastItem)) (succeeds s) (completesBy s (t .style)) (bounded .token) (bounded .entry))
+        end-fits (middle .begin .transaction .endpoint) close (world4 plan packet time w) (omega (arith, count3)) (omega (arith, count3, bounded .there)) (close-small middle (lastEnded (isNew s && not (eqb x0 0)) end x0 (w .lastItem)) (succeeds s) (completesBy s (t .style)) (bounded .token) (bounded .entry))
         (subst (λ (z : Style). startPid z < 256) (sym (begun-style (w .packets) (middle .begin) (world3 plan packet time w))) (bounded .token)) total
 
+    last-fits : (plan .closes ≡ true → passes (plan .close .effect) (plan .close .entry .total) ≡ false) → plan .closes ≡ true → EndFits (plan .begin .transaction .endpoint) (plan .close) (world4 plan packet time w)
+    unfolding planBy
+    last-fits total q =
+        subst (λ (c : Bool). passes (endIf c close (middle .entry) .effect) (endIf c close (middle .entry) .entry .total) ≡ false → EndFits (middle .begin .transaction .endpoint) (endIf c close (middle .entry)) (world4 plan packet time w)) (sym q) close-fits (total q)
+
     plan-fits : (plan .closes ≡ true → passes (plan .close .effect) (plan .close .entry .total) ≡ false) → PlanFits plan packet time w
-    plan-fits total = record { resume = resume-fits; end = old-fits; begin = new-fits; close = λ q. close-fits (total q) }
+    plan-fits total = record { resume = resume-fits; end = old-fits; begin = new-fits; close = last-fits total }
 
 -- ---- a packet
 

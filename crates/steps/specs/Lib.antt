@@ -2,3 +2,4 @@ pub mod Step
 pub mod Packet
 pub mod Ending
 pub mod Sound
+pub mod Devices

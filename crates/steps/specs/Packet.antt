@@ -4,12 +4,13 @@ use mathlib.Core.List.{List}
 use Prim.Native.Nat.{ℕ, _+_}
 use lib.Dec.{eqb, ltb}
 use lib.ListN.{length}
+use Rattle.group.specs.declared.Effect.the-variants.{NoEffect}
 use Rattle.rows.specs.Sets.{one}
 use Rattle.usb.specs.Pid.{SPLIT, MALFORMED}
 use Rattle.usb.specs.Fields.{tokenOf, splitOf, setupDataOf}
-use Rattle.tables.specs.Details.{detailsOf, withType, fresh}
+use Rattle.tables.specs.Details.{numberOf, detailsOf, fresh}
 use Rattle.tables.specs.Kind.{Unknown}
-use Rattle.tables.specs.declared.Device.{Device}
+use Rattle.tables.specs.declared.Detail.{Detail}
 use Rattle.tables.specs.declared.Endpoint.{Endpoint}
 use Rattle.tables.specs.declared.Found.{Found}
 use Rattle.tables.specs.declared.Found.the-variants.{At, Nothing as Missing}
@@ -23,7 +24,7 @@ use Rattle.transaction.specs.declared.Style.{Style}
 use Rattle.transaction.specs.declared.Style.the-variants.{Nothing, Simple, Split, Token}
 use Rattle.transaction.specs.declared.Transaction.{Transaction}
 use Rattle.rules.specs.World.{World, _▷_, invalidEp, withSlot, withTransaction, withEventState, withId, withLink, withPid, withToken, newEndpoint, newTransaction, moreTransactions}
-use Rattle.rules.specs.Endpoints.{deviceFor, addressFor, found}
+use Rattle.rules.specs.Endpoints.{deviceFor, addressFor, found, detailOf}
 use Rattle.rules.specs.Transactions.{stateAt, completes}
 use Rattle.rules.specs.Decoder.{appendBytes, pushPacket}
 use Rattle.rules.specs.declared.EventState.the-variants.{Idle}
@@ -85,13 +86,13 @@ entryBy x0 e0 i w = pick (eqb i x0) e0 (w .endpoints i)
 
 abbrev pub standing : ℕ → Endpoint → ℕ → World → Place
 standing x0 e0 i w =
-    record { x = i; new = false; device = false; place = w .endpoints i .device; known = w .devices (w .endpoints i .device); number = w .endpoints i .address; entry = entryBy x0 e0 i w }
+    record { x = i; new = false; device = false; place = w .endpoints i .device; number = w .endpoints i .address; detail = detailOf i w; entry = entryBy x0 e0 i w }
 
 abbrev pub newOn : Found → ℕ → ℕ → World → Place
 newOn (At d) owner address w =
-    record { x = w .count; new = true; device = false; place = d; known = w .devices d; number = address; entry = newEndpoint d address }
+    record { x = w .count; new = true; device = false; place = d; number = address; detail = detailsOf (w .devices d) address; entry = newEndpoint d address }
 newOn Missing owner address w =
-    record { x = w .count; new = true; device = true; place = w .deviceCount; known = fresh owner; number = address; entry = newEndpoint (w .deviceCount) address }
+    record { x = w .count; new = true; device = true; place = w .deviceCount; number = address; detail = detailsOf (fresh owner) address; entry = newEndpoint (w .deviceCount) address }
 
 abbrev pub placeAt : Found → ℕ → Endpoint → ℕ → List ℕ → World → Place
 placeAt (At i) x0 e0 pid packet w = standing x0 e0 i w
@@ -114,7 +115,7 @@ updateFor Fail pid t e = none
 updateFor Ambiguous pid t e = none
 updateFor Invalid pid t e = decideEarlyStart pid (e .phase) false
 
--- ---- the step, with the entry of its endpoint and the device's row, by which its end is decided (Middle)
+-- ---- the step, with the entry and the details of its endpoint, by which its end is decided (Middle)
 
 -- transaction_start, of transaction row n: a malformed packet, a split, any other
 abbrev pub typeBy : ℕ → ℕ
@@ -126,8 +127,7 @@ startOn s p kind owner pid n =
     record {
       begin = record { row = true; device = p .device; endpoint = p .new; types = false; owner = owner; place = p .place; number = p .number; kind = 0; transaction = t; update = updateFor s pid t (p .entry) };
       entry = p .entry;
-      known = p .known;
-      number = p .number;
+      detail = p .detail;
     }
 
 abbrev pub startSplit : List ℕ → ℕ → ℕ → Place → Middle
@@ -135,12 +135,11 @@ startSplit packet pid n p =
     record {
       begin = going true (newTransaction (Split (splitOf packet .sc) (splitOf packet .kind)) n pid 0 (splitOf packet .kind)) none;
       entry = p .entry;
-      known = p .known;
-      number = p .number;
+      detail = p .detail;
     }
 
 abbrev pub startPlain : Status → Place → ℕ → List ℕ → ℕ → Middle
-startPlain s p pid packet n = startOn s p (typeBy (detailsOf (p .known) (p .number) .kind)) (tokenOf packet .address) pid n
+startPlain s p pid packet n = startOn s p (typeBy (p .detail .kind)) (tokenOf packet .address) pid n
 
 unfoldable pub starting : Status → ℕ → Endpoint → ℕ → List ℕ → ℕ → World → Middle
 starting s x0 e0 pid packet n w =
@@ -150,6 +149,11 @@ starting s x0 e0 pid packet n w =
     (startSplit packet pid n (standing x0 e0 invalidEp w))
     (startPlain s (placeOf x0 e0 pid packet w) pid packet n))
 
+-- an endpoint's details once a split's type is stored for it (tables, withType): an ordinary number whose type is not known takes it
+abbrev pub typedDetail : ℕ → ℕ → Detail → Detail
+typedDetail address k x =
+    pick (not (eqb (numberOf address) 0) && (ltb (numberOf address) 16 && eqb (x .kind) Unknown)) (record { kind = k; max = x .max }) x
+
 -- transaction_append: a split's token, or any other packet
 abbrev pub withTokenOn : Status → Place → ℕ → ℕ → ℕ → ℕ → Transaction → Middle
 withTokenOn s p sc kind owner pid b =
@@ -157,14 +161,13 @@ withTokenOn s p sc kind owner pid b =
     record {
       begin = record { row = false; device = p .device; endpoint = p .new; types = true; owner = owner; place = p .place; number = p .number; kind = kind; transaction = t; update = updateFor s pid t (p .entry) };
       entry = p .entry;
-      known = withType (p .known) (p .number) kind;
-      number = p .number;
+      detail = typedDetail (p .number) kind (p .detail);
     }
 
 abbrev pub goingOn : Status → ℕ → Endpoint → ℕ → Transaction → World → Middle
 goingOn s x0 e0 pid b w =
     let p = standing x0 e0 x0 w in
-    record { begin = going false (withPid pid b) (updateFor s pid (withPid pid b) (p .entry)); entry = p .entry; known = p .known; number = p .number }
+    record { begin = going false (withPid pid b) (updateFor s pid (withPid pid b) (p .entry)); entry = p .entry; detail = p .detail }
 
 abbrev pub appendingAt : Style → Status → ℕ → Endpoint → ℕ → List ℕ → Transaction → World → Middle
 appendingAt Nothing s x0 e0 pid packet b w = goingOn s x0 e0 pid b w
@@ -237,9 +240,16 @@ unfoldable pub closeOf : Middle → ℕ → Bool → Bool → End
 closeOf m last success complete =
     let s = m .begin in
     let t = s .transaction in
-    endOf (t .endpoint) (entryAfter (s .update) (startPid (t .style)) (m .entry)) (transactionAfter (s .update) (m .entry .transactions) t) (detailsOf (m .known) (m .number)) (itemAfter (s .update) (t .endpoint) last) success complete
+    endOf (t .endpoint) (entryAfter (s .update) (startPid (t .style)) (m .entry)) (transactionAfter (s .update) (m .entry .transactions) t) (m .detail) (itemAfter (s .update) (t .endpoint) last) success complete
 
 -- ---- all of it
+
+-- an end that is not taken: the entry stays, and nothing is done
+abbrev pub resting : Endpoint → End
+resting e = record { entry = e; update = none; effect = NoEffect }
+
+abbrev pub endIf : Bool → End → Endpoint → End
+endIf on s e = pick on s (resting e)
 
 -- the entry of the old endpoint once the old transaction has ended
 abbrev pub entryEnded : Bool → End → ℕ → Endpoint → Endpoint
@@ -254,21 +264,21 @@ planBy j x0 e t packet w =
     let s = j .status in
     let pid = j .pid in
     let b = extractPayload t pid (length packet) (setupDataOf packet) in
-    let end = endOf x0 e b (detailsOf (w .devices (w .endpoints x0 .device)) (w .endpoints x0 .address)) (w .lastItem) false false in
+    let end = endOf x0 e b (detailOf x0 w) (w .lastItem) false false in
     let ends = isNew s && not (eqb x0 0) in
     let e0 = entryEnded ends end (startPid (b .style)) e in
     let m = middleOf s x0 e0 pid packet (w .transactions + one (resumes (w .slot))) b w in
+    let closes = isLast s && not (eqb (m .begin .transaction .endpoint) 0) in
     record {
       resumes = resumes (w .slot);
       resume = going true (withId (w .transactions) (w .transaction)) decideResume;
       ends = ends;
       old = x0;
       brought = b;
-      end = end;
+      end = endIf ends end e;
       begin = m .begin;
-      closes = isLast s && not (eqb (m .begin .transaction .endpoint) 0);
-      close = closeOf m (lastEnded ends end x0 (w .lastItem)) (succeeds s) (completesBy s (t .style));
-      known = m .known;
+      closes = closes;
+      close = endIf closes (closeOf m (lastEnded ends end x0 (w .lastItem)) (succeeds s) (completesBy s (t .style))) (m .entry);
       slot = slotAfter s (w .slot);
     }
 

@@ -1,7 +1,7 @@
 // A call as a few steps, decided from values alone before anything is written: the types. What they mean on a world is in specs/.
 use group::Effect;
 use rules::Slot;
-use tables::Device;
+use tables::Detail;
 use tables::Endpoint;
 use transaction::Transaction;
 use update::Update;
@@ -39,21 +39,20 @@ pub struct Place {
     // Its number, and whether it is new.
     pub x: usize,
     pub new: bool,
-    // Whether its device is new; that device, and what is known of it.
+    // Whether its device is new, and that device.
     pub device: bool,
     pub place: usize,
-    pub known: Device,
-    // Its address, and its entry when the packet's transaction begins.
+    // Its address, its details, and its entry when the packet's transaction begins.
     pub number: u8,
+    pub detail: Detail,
     pub entry: Endpoint,
 }
 
-// The step of a packet's transaction, with the entry of its endpoint and what is known of the device then, by which its end is decided.
+// The step of a packet's transaction, with the entry and the details of its endpoint then, by which its end is decided.
 pub struct Middle {
     pub begin: Begin,
     pub entry: Endpoint,
-    pub known: Device,
-    pub number: u8,
+    pub detail: Detail,
 }
 
 // The steps of a packet, in this order.
@@ -61,18 +60,16 @@ pub struct Plan {
     // A suspended transaction is resumed.
     pub resumes: bool,
     pub resume: Begin,
-    // The old transaction ends, on endpoint `old`, with what the packet brought to it.
+    // The old transaction ends, on endpoint `old`, with what the packet brought to it; where not, `end` does nothing.
     pub ends: bool,
     pub old: usize,
     pub brought: Transaction,
     pub end: End,
     // A new one begins, or the old one goes on.
     pub begin: Begin,
-    // It ends, too.
+    // It ends, too; where not, `close` does nothing.
     pub closes: bool,
     pub close: End,
-    // What is known of its device then.
-    pub known: Device,
     // What the slot is then.
     pub slot: Slot,
 }

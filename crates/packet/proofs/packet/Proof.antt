@@ -1,15 +1,18 @@
 -- `packet` meets its contract: the first tests, or what `packet_in` ensures, with the change made in the devices.
-use mathlib.Core.Path.{_≡_}
-use Prim.Native.Nat.{_<_}
+use mathlib.Core.Path.{_≡_, sym, subst, _∙_}
+use mathlib.Core.List.{List}
+use Prim.Native.Nat.{ℕ, _<_}
 use native.Mathlib.Omega.{arith}
 use borrow.Author.Needs.{needs}
 use lib.ListN.{length}
+use Rattle.tables.specs.declared.Device.{Device}
 use Rattle.outcome.specs.OutcomeLaws.{sound}
 use Rattle.outcome.specs.State.{State, state, logs, roomOf}
 use Rattle.plan.specs.Ready.{ready}
-use Rattle.packet.specs.After.{changed}
+use Rattle.packet.specs.Call.{PacketCall}
 use Rattle.packet.specs.Lent.{Lent}
 use Rattle.packet.proofs.Answers.{Passes}
+use Rattle.packet.proofs.Changes.{changed-by, changed-none}
 use Rattle.packet.proofs.First.{first-refused, first-passed}
 use Rattle.packet.proofs.packet.Statement.{statement}
 use Rattle.packet.proofs.packet.Tie as tie
@@ -46,9 +49,24 @@ packet-in-requires c κs =
     let m = c .before .before .before .before .before .before .before .before .before .before .before .before in
     (record { devices = c .before .before .before .before .before .before .before .before .before .before .before .before .before .before .before .before .before .before .before .before .before .before .before .before .before .before .before .before .before .before .before .args .devices; lent = lends m }, (passed m .finished, passed m .short))
 
+-- with these devices, and all else as packet_in left it
+module _ (packet : List ℕ) (time : ℕ) (s : State) where
+  with-devices : {a : ℕ} {s′ : State} (v : List Device) → v ≡ s′ .devices → PacketCall packet time s a s′ → PacketCall packet time s a (state (s′ .decoder) v (s′ .table) (s′ .logs))
+  with-devices {a} {s′} v e h = subst (λ (u : List Device). PacketCall packet time s a (state (s′ .decoder) u (s′ .table) (s′ .logs))) (sym e) h
+
 returns-2 : tie.Need-returns-2
-unfolding changed
-returns-2 c = c .before .before .before .before .before .before .before .before .before .before .before .before .before .before .before .before .before .before .before .before .before .before .before .before .before .before .packet-in .ensures .1 (c .before .before .before .before .before .before .before .before .before .before .before .before .before .before .before .before .before .before .before .before .before .before .before .before .before .before .before .before .before .before .before .before .before .before .before .before .before .before .before .before .before .before .before .before .before .before .before .before .before .before .before .before .before .before .before .before .before .before .args .devices) (lends (c .before .before .before .before .before .before .before .before .before .before .before .before .before .before .before .before .before .before .before .before .before .before .before .before .before .before .before .before .before .before .before .before .before .before .before .before .before .before .before))
+returns-2 c =
+    let m = c .before .before .before .before .before .before .before .before .before .before .before .before .before .before .before .before .before .before .before .before .before .before .before .before .before .before .before .before .before .before .before .before .before .before .before .before .before .before .before .before .before .before .before in
+    let a = m .before .before .before .before .before .before .before .before .before .before .before .before .before .before .before .before .before .before .before in
+    let v = a .args .devices in
+    with-devices (a .args .packet .now) (a .args .time) (lent a) _ (changed-by (c .before .before .before .before .before .before .before .before .before .before .before .before .before .before .before .before .before .before .before .before .before .before .before .before .before .before .before .before .before .before .packet-in .result .change) v (c .before .before .row-by .ensures) (c .added-by .ensures)) (c .before .before .before .before .before .before .before .before .before .before .before .before .before .before .before .before .before .before .before .before .before .before .before .before .before .before .before .before .before .before .packet-in .ensures .1 v (lends m))
+
+returns-3 : tie.Need-returns-3
+returns-3 c =
+    let m = c .before .before .before .before .before .before .before .before .before .before .before .before .before .before .before .before .before .before .before .before .before .before .before .before .before .before .before .before .before .before .before .before .before .before .before .before .before .before .before in
+    let a = m .before .before .before .before .before .before .before .before .before .before .before .before .before .before .before .before .before .before .before in
+    let v = a .args .devices in
+    with-devices (a .args .packet .now) (a .args .time) (lent a) v (sym (changed-none (c .before .before .before .before .before .before .before .before .before .before .before .before .before .before .before .before .before .before .before .before .before .before .before .before .before .before .packet-in .result .change) v (sym (c .before .is-change .ensures) ∙ c .if2 .left))) (c .before .before .before .before .before .before .before .before .before .before .before .before .before .before .before .before .before .before .before .before .before .before .before .before .before .before .packet-in .ensures .1 v (lends m))
 
 pub packet-spec : {M : Type 1} → statement M
 packet-spec =
@@ -59,10 +77,29 @@ packet-spec =
     returns
     look-requires
     packet-in-requires
+    (λ c κs. tt)
     (λ c. let h = c .before .before .before .before .before .before .before .before .before .before .before .before .before .before .before .before .before .before .before .before .before .before .before .before .before .before .packet-in .ensures .0 .place in omega arith)
     (λ c. c .before .before .before .before .before .before .before .before .before .before .before .before .before .before .before .before .before .before .before .before .before .before .before .before .before .before .packet-in .ensures .0 .place)
-    (λ c. let h = c .before .before .before .before .before .before .before .before .before .before .before .before .before .before .before .before .before .before .before .before .before .before .before .before .before .before .packet-in .ensures .0 .at in omega arith)
-    (λ c. c .before .before .before .before .before .before .before .before .before .before .before .before .before .before .before .before .before .before .before .before .before .before .before .before .before .before .packet-in .ensures .0 .at)
+    (λ c κs. tt)
+    (λ c. let h = c .before .before .before .before .before .before .before .before .before .before .before .before .before .before .before .before .before .before .before .before .before .before .before .before .before .before .before .before .packet-in .ensures .0 .place in omega arith)
+    (λ c. c .before .before .before .before .before .before .before .before .before .before .before .before .before .before .before .before .before .before .before .before .before .before .before .before .before .before .before .before .packet-in .ensures .0 .place)
+    (λ c. let h = c .before .before .before .before .before .before .before .before .before .before .before .before .before .before .before .before .before .before .before .before .before .before .before .before .before .before .before .before .packet-in .ensures .0 .at in omega arith)
+    (λ c. c .before .before .before .before .before .before .before .before .before .before .before .before .before .before .before .before .before .before .before .before .before .before .before .before .before .before .before .before .packet-in .ensures .0 .at)
+    (λ c κs. tt)
+    (λ c. let h = c .before .before .before .before .before .before .before .before .before .before .before .before .before .before .before .before .before .before .before .before .before .before .before .before .before .before .before .before .before .before .packet-in .ensures .0 .at in omega arith)
+    (λ c. c .before .before .before .before .before .before .before .before .before .before .before .before .before .before .before .before .before .before .before .before .before .before .before .before .before .before .before .before .before .before .packet-in .ensures .0 .at)
+    (λ c. c .before .before .before .before .before .before .before .before .before .before .before .before .before .before .before .before .before .before .before .before .before .before .before .before .before .before .before .before .before .before .packet-in .kept .1 .1 .1 .1 .1 .0)
+    (λ c. c .before .before .before .before .before .before .before .before .before .before .before .before .before .before .before .before .before .before .before .before .before .before .before .before .before .before .before .before .before .before .packet-in .kept .1 .1 .1 .1 .1 .1 .0)
+    (λ c. c .before .before .before .before .before .before .before .before .before .before .before .before .before .before .before .before .before .before .before .before .before .before .before .before .before .before .before .before .before .before .packet-in .kept .1 .1 .1 .1 .1 .1 .1 .0)
+    (λ c. c .before .before .before .before .before .before .before .before .before .before .before .before .before .before .before .before .before .before .before .before .before .before .before .before .before .before .before .before .before .before .packet-in .kept .1 .1 .1 .1 .1 .1 .1 .1 .0)
+    (λ c. c .before .before .before .before .before .before .before .before .before .before .before .before .before .before .before .before .before .before .before .before .before .before .before .before .before .before .before .before .before .before .packet-in .kept .1 .1 .1 .1 .1 .1 .1 .1 .1 .1 .0)
+    (λ c. c .before .before .before .before .before .before .before .before .before .before .before .before .before .before .before .before .before .before .before .before .before .before .before .before .before .before .before .before .before .before .packet-in .kept .1 .1 .1 .1 .1 .1 .1 .1 .1 .1 .1 .0)
+    (λ c. c .before .before .before .before .before .before .before .before .before .before .before .before .before .before .before .before .before .before .before .before .before .before .before .before .before .before .before .before .before .before .packet-in .kept .1 .1 .1 .1 .1 .1 .1 .1 .1 .1 .1 .1 .0)
+    (λ c. c .before .before .before .before .before .before .before .before .before .before .before .before .before .before .before .before .before .before .before .before .before .before .before .before .before .before .before .before .before .before .packet-in .kept .1 .1 .1 .1 .1 .1 .1 .1 .1 .1 .1 .1 .1 .0)
+    (λ c. c .before .before .before .before .before .before .before .before .before .before .before .before .before .before .before .before .before .before .before .before .before .before .before .before .before .before .before .before .before .before .packet-in .kept .1 .1 .1 .1 .1 .1 .1 .1 .1 .1 .1 .1 .1 .1 .0)
+    (λ c. c .before .before .before .before .before .before .before .before .before .before .before .before .before .before .before .before .before .before .before .before .before .before .before .before .before .before .before .before .before .before .packet-in .kept .1 .1 .1 .1 .1 .1 .1 .1 .1 .1 .1 .1 .1 .1 .1 .0)
+    (λ c. c .before .before .before .before .before .before .before .before .before .before .before .before .before .before .before .before .before .before .before .before .before .before .before .before .before .before .before .before .before .before .packet-in .kept .1 .1 .1 .1 .1 .1 .1 .1 .1 .1 .1 .1 .1 .1 .1 .1 .0)
+    returns-2
     (λ c. c .before .before .before .before .before .before .before .before .before .before .before .before .before .before .before .before .before .before .before .before .before .before .before .before .before .before .packet-in .kept .1 .1 .1 .1 .1 .0)
     (λ c. c .before .before .before .before .before .before .before .before .before .before .before .before .before .before .before .before .before .before .before .before .before .before .before .before .before .before .packet-in .kept .1 .1 .1 .1 .1 .1 .0)
     (λ c. c .before .before .before .before .before .before .before .before .before .before .before .before .before .before .before .before .before .before .before .before .before .before .before .before .before .before .packet-in .kept .1 .1 .1 .1 .1 .1 .1 .0)
@@ -74,4 +111,4 @@ packet-spec =
     (λ c. c .before .before .before .before .before .before .before .before .before .before .before .before .before .before .before .before .before .before .before .before .before .before .before .before .before .before .packet-in .kept .1 .1 .1 .1 .1 .1 .1 .1 .1 .1 .1 .1 .1 .1 .0)
     (λ c. c .before .before .before .before .before .before .before .before .before .before .before .before .before .before .before .before .before .before .before .before .before .before .before .before .before .before .packet-in .kept .1 .1 .1 .1 .1 .1 .1 .1 .1 .1 .1 .1 .1 .1 .1 .0)
     (λ c. c .before .before .before .before .before .before .before .before .before .before .before .before .before .before .before .before .before .before .before .before .before .before .before .before .before .before .packet-in .kept .1 .1 .1 .1 .1 .1 .1 .1 .1 .1 .1 .1 .1 .1 .1 .1 .0)
-    returns-2)
+    returns-3)

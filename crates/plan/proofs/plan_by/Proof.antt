@@ -3,63 +3,64 @@ use Rattle.judge.specs.World.{worldOf}
 use Rattle.plan.proofs.Planned.{planned}
 use Rattle.plan.specs.Ready.{Small}
 use Prim.Native.Nat.{_^_}
-use Rattle.plan.proofs.Bounds.{end-small, ended-small, middle-small, wider}
+use Rattle.plan.proofs.Bounds.{end-small, if-small, ended-small, middle-small, wider}
 use native.Mathlib.Omega.{arith}
 use mathlib.Core.Bool.{false, _&&_, not}
 use mathlib.Core.Path.{ap, _∙_}
 use lib.Dec.{eqb}
-use Rattle.tables.specs.Details.{detailsOf}
-use Rattle.tables.specs.Table.{entryAt}
-use Rattle.tables.specs.declared.Device.{Device}
+use Rattle.tables.specs.declared.Detail.{Detail}
 use Rattle.steps.specs.Step.{endOf}
+use Rattle.steps.specs.Packet.{endIf}
 use Rattle.plan.proofs.plan_by.Statement.{statement}
 use Rattle.plan.proofs.plan_by.Tie as tie
 
 -- the entry that the old transaction's end leaves has few rows
-old-small : (c : tie.After-end-at) → Small (2 ^ 61) (c .end-at .result .entry)
-old-small c = rw (c .end-at .ensures) (end-small (c .before .before .before .before .before .pre .1 .1 .0) _ _ _ _ _ _)
+old-small : (c : tie.After-end-if) → Small (2 ^ 61) (c .end-if .result .entry)
+old-small c =
+    let s = c .before .before .before .before .before .before in
+    rw (c .end-if .ensures) (if-small (c .before .is-new .result && not (eqb (s .args .x0) 0)) _ (s .args .e) (end-small (s .pre .1 .1 .0) _ _ _ _ _ _) (s .pre .1 .1 .0))
 
--- and so has the entry of the packet's own endpoint, whatever devices the rows are of
+-- and so has the entry of the packet's own endpoint, whatever devices the details are of
 own-small : (c : tie.After-middle-of) → Small (2 ^ 62) (c .middle-of .result .entry)
 own-small c =
     let ended = c .before .before .before in
-    let fresh = ended .before .before in
-    let end = fresh .before in
-    let s = end .before .before .before .before .before in
+    let end = ended .before .before in
+    let fresh = end .before in
+    let s = end .before .before .before .before .before .before in
     let a = s .args in
     let taken = s .pre .1 .1 .1 in
     let h : Small (2 ^ 62) (ended .entry-ended .result) =
     rw (ended .entry-ended .ensures)
-    (wider (ended-small (fresh .is-new .result && not (eqb (a .x0) 0)) (end .end-at .result) (ended .before .start-pid .result) (old-small end) (s .pre .1 .1 .0)) (2 ^ 62) (omega arith))
+    (wider (ended-small (fresh .is-new .result && not (eqb (a .x0) 0)) (end .end-if .result) (ended .before .start-pid .result) (old-small end) (s .pre .1 .1 .0)) (2 ^ 62) (omega arith))
     in
     rw (c .middle-of .ensures (taken .devices) (taken .seen))
-    (middle-small (a .d) (taken .devices) (a .table .now) (s .pre .0) (2 ^ 62) (omega arith) (a .x0) (s .pre .1 .0) (ended .entry-ended .result) h (a .j .status) (a .j .pid) (a .packet .now) (c .before .next-row .result) (end .before .before .extract-payload .result))
+    (middle-small (a .d) (taken .devices) (a .table .now) (s .pre .0) (2 ^ 62) (omega arith) (a .x0) (s .pre .1 .0) (ended .entry-ended .result) h (a .j .status) (a .j .pid) (a .packet .now) (c .before .next-row .result) (end .before .before .before .extract-payload .result))
 
 entry-ended-requires : tie.Need-entry-ended-requires
-entry-ended-requires c κs = wider (old-small (c .before .before)) (2 ^ 62) (omega arith)
+entry-ended-requires c κs = wider (old-small (c .before)) (2 ^ 62) (omega arith)
 
-close-of-requires : tie.Need-close-of-requires
-close-of-requires c κs = own-small (c .before .before .before .before .before .before .before .before .before)
+close-if-requires : tie.Need-close-if-requires
+close-if-requires c κs = own-small (c .before .before .before .before .before .before .before .before)
 
 returns : tie.Need-returns
 returns c v seen =
-    let s = c .before .before .before .before .before .before .before .before .before .before .before .before .before .before .before .before .before .before .before .before .before .before .args in
+    let s = c .before .before .before .before .before .before .before .before .before .before .before .before .before .before .before .before .before .before .before .before .before .args in
     planned (s .j) (s .x0) (s .e) (s .t) (s .packet .now) (worldOf (s .d) v (s .table .now))
-    (c .before .before .before .before .before .before .before .before .before .before .before .before .before .before .before .before .before .before .before .before .setup-of .ensures)
-    (c .before .before .before .before .before .before .before .before .before .before .before .before .before .before .before .before .before .before .before .extract-payload .ensures)
-    (c .before .before .before .before .before .before .before .before .before .before .before .before .before .before .before .before .before .end-at .ensures ∙ ap (λ (k : Device). endOf (s .x0) (s .e) (c .before .before .before .before .before .before .before .before .before .before .before .before .before .before .before .before .before .before .before .extract-payload .result) (detailsOf k (entryAt (s .table .now) (s .x0) .address)) (s .d .last) false false) (seen .old))
+    (c .before .before .before .before .before .before .before .before .before .before .before .before .before .before .before .before .before .before .before .setup-of .ensures)
+    (c .before .before .before .before .before .before .before .before .before .before .before .before .before .before .before .before .before .before .extract-payload .ensures)
     (c .before .before .before .before .before .before .before .before .before .before .before .before .before .before .before .before .is-new .ensures)
-    (c .before .before .before .before .before .before .before .before .before .before .before .before .before .before .before .start-pid .ensures)
-    (c .before .before .before .before .before .before .before .before .before .before .before .before .before .before .entry-ended .ensures)
-    (c .before .before .before .before .before .before .before .before .before .before .before .before .before .last-ended .ensures)
-    (c .before .before .before .before .before .before .before .before .before .before .before .before .next-row .ensures)
-    (c .before .before .before .before .before .before .before .before .before .before .before .middle-of .ensures v seen)
-    (c .before .before .before .before .before .before .before .is-suspended .ensures)
-    (c .before .before .before .before .before .before .resume-of .ensures)
-    (c .before .before .before .before .before .is-last .ensures)
+    (c .before .before .before .before .before .before .before .before .before .before .before .before .before .before .before .end-if .ensures ∙ ap (λ (k : Detail). endIf (c .before .before .before .before .before .before .before .before .before .before .before .before .before .before .before .before .is-new .result && not (eqb (s .x0) 0)) (endOf (s .x0) (s .e) (c .before .before .before .before .before .before .before .before .before .before .before .before .before .before .before .before .before .before .extract-payload .result) k (s .d .last) false false) (s .e)) (seen .old))
+    (c .before .before .before .before .before .before .before .before .before .before .before .before .before .before .start-pid .ensures)
+    (c .before .before .before .before .before .before .before .before .before .before .before .before .before .entry-ended .ensures)
+    (c .before .before .before .before .before .before .before .before .before .before .before .before .last-ended .ensures)
+    (c .before .before .before .before .before .before .before .before .before .before .before .next-row .ensures)
+    (c .before .before .before .before .before .before .before .before .before .before .middle-of .ensures v seen)
+    (c .before .before .before .before .before .is-suspended .ensures)
+    (c .before .before .before .before .resume-of .ensures)
+    (c .before .before .before .before .before .before .before .is-last .ensures)
     (c .before .before .before .is-success .ensures)
     (c .before .before .completes-by .ensures)
-    (c .before .close-of .ensures)
+    (c .before .close-if .ensures)
     (c .slot-after .ensures)
 
 pub plan-by-spec : {M : Type 1} → statement M
@@ -68,7 +69,7 @@ plan-by-spec =
     (tie.spec
     (λ c κs. tt)
     (λ c κs. tt)
-    (λ c κs. let s = c .before .before .before .before in omega (arith, s .pre .1 .0, s .pre .0 .endpoints))
+    (λ c κs. tt)
     (λ c κs. tt)
     (λ c κs. tt)
     entry-ended-requires
@@ -80,6 +81,6 @@ plan-by-spec =
     (λ c κs. tt)
     (λ c κs. tt)
     (λ c κs. tt)
-    close-of-requires
+    close-if-requires
     (λ c κs. tt)
     returns)

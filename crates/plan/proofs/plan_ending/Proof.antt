@@ -25,12 +25,9 @@ mul-known c = omega (arith, place-small c)
 array-copy-out-known : tie.Need-array-copy-out-known
 array-copy-out-known c = place-small c
 
-end-at-requires : tie.Need-end-at-requires
-end-at-requires c κs = omega (arith, there (c .before .before), c .before .before .before .before .pre .endpoints)
-
 returns : tie.Need-returns
 unfolding endingOf
-returns c = simp (c .end-at .ensures, c .before .before .load .ensures, c .before .before .before .current-endpoint .ensures)
+returns c = simp (c .end-of .ensures, c .before .endpoint-details .ensures, c .before .before .before .load .ensures, c .before .before .before .before .current-endpoint .ensures)
 
 pub plan-ending-spec : {M : Type 1} → statement M
 plan-ending-spec =
@@ -40,5 +37,6 @@ plan-ending-spec =
     load-requires
     mul-known
     array-copy-out-known
-    end-at-requires
+    (λ c κs. tt)
+    (λ c κs. tt)
     returns)

@@ -10,27 +10,24 @@ one-small : (b : Bool) → one b ≤ 1
 one-small true = omega arith
 one-small false = omega arith
 
-begun-change-requires : tie.Need-begun-change-requires
-begun-change-requires c κs = tt
-
-flag-word-requires : tie.Need-flag-word-requires
-flag-word-requires c κs = tt
-
-add-with-added : tie.Need-add-with-added
-add-with-added c =
+add-behind : tie.Need-add-behind
+add-behind c =
     let s = c .before .before .before .before .before in
     let e = c .flag-word .ensures in
     let n = s .pre in
     omega (arith, e, n, one-small (s .args .plan .begin .device))
 
-with-added-requires : tie.Need-with-added-requires
-with-added-requires c κs = tt
-
 returns : tie.Need-returns
-returns c = simp (c .before .before .if1 .taken) (simp (c .before .flag-word .ensures, c .before .before .before .begun-change .ensures) at (c .with-added .ensures))
-
-returns-2 : tie.Need-returns-2
-returns-2 c = simp (c .if1 .left) (c .before .begun-change .ensures)
+returns c = simp (c .address-of .ensures, c .before .row-if2 .ensures, c .before .before .row-if .ensures, c .before .before .before .before .flag-word .ensures, c .before .before .before .before .before .before .adds-device .ensures)
 
 pub change-of-spec : {M : Type 1} → statement M
-change-of-spec = tie.close (tie.spec begun-change-requires flag-word-requires add-with-added with-added-requires returns returns-2)
+change-of-spec =
+    tie.close
+    (tie.spec
+    (λ c κs. tt)
+    (λ c κs. tt)
+    add-behind
+    (λ c κs. tt)
+    (λ c κs. tt)
+    (λ c κs. tt)
+    returns)

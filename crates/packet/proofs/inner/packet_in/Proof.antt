@@ -15,7 +15,6 @@ use Rattle.reckon.proofs.Bounds.{under}
 use Rattle.reckon.proofs.Formed.{waiting-few}
 use Rattle.reckon.specs.PlanLaws.{resume-still}
 use Rattle.steps.specs.declared.Plan.{Plan}
-use Rattle.packet.specs.After.{keeping, changeBy}
 use Rattle.packet.specs.Lent.{Lent}
 use Rattle.packet.proofs.Answers.{Passes, Decided, refused-by, rows-fit, few-devices, asks-by, placed-by, accepted-by, dropped-by, room-rows}
 use Rattle.packet.proofs.inner.packet_in.Statement.{statement}
@@ -38,42 +37,42 @@ token : (c : tie.After-start-pid) → startPid (c .before .before .before .befor
 token c = search needs
 
 -- the packet's first byte
-first : (c : tie.After-sum-plan) → getD (c .before .before .before .before .before .before .before .before .before .before .before .before .before .before .before .before .before .before .before .before .before .before .before .before .before .before .before .args .packet .now) 0 0 < 256
-first c = c .before .before .before .before .before .before .before .before .bytes-known .ensures 0
+first : (c : tie.After-sum-plan) → getD (c .before .before .before .before .before .before .before .before .before .before .before .before .before .before .before .before .before .before .before .before .before .before .before .before .before .before .args .packet .now) 0 0 < 256
+first c = c .before .before .before .before .before .before .before .bytes-known .ensures 0
 
 -- what is decided, once the plan and the sum are there
-decided : (c : tie.After-sum-plan) (v : List Device) → Lends (c .before .before .before .before .before .before .before .before .before .before .before .before .before .before .before .before .before .before .before .before .before .before .before .before .before .before .before) v → Decided (c .before .before .before .before .before .before .before .before .before .before .before .before .before .before .before .before .before .before .before .before .before .before .before .before .before .before .before .args .packet .now) (lent (c .before .before .before .before .before .before .before .before .before .before .before .before .before .before .before .before .before .before .before .before .before .before .before .before .before .before .before) v) (c .before .plan-near .result) (c .before .before .before .before .before .before .before .before .before .before .before .before .before .room-of .result) (c .sum-plan .result)
+decided : (c : tie.After-sum-plan) (v : List Device) → Lends (c .before .before .before .before .before .before .before .before .before .before .before .before .before .before .before .before .before .before .before .before .before .before .before .before .before .before) v → Decided (c .before .before .before .before .before .before .before .before .before .before .before .before .before .before .before .before .before .before .before .before .before .before .before .before .before .before .args .packet .now) (lent (c .before .before .before .before .before .before .before .before .before .before .before .before .before .before .before .before .before .before .before .before .before .before .before .before .before .before) v) (c .before .plan-near .result) (c .before .before .before .before .before .before .before .before .before .before .before .before .room-of .result) (c .sum-plan .result)
 decided c v h =
     record {
-      passes = passes (c .before .before .before .before .before .before .before .before .before .before .before .before .before .before .before .before .before .before .before .before .before .before .before .before .before .before .before) v h;
-      known = c .before .before .before .before .before .before .before .before .before .known .ensures;
+      passes = passes (c .before .before .before .before .before .before .before .before .before .before .before .before .before .before .before .before .before .before .before .before .before .before .before .before .before .before) v h;
+      known = c .before .before .before .before .before .before .before .before .known .ensures;
       live = sym (c .before .before .before .before .is-dropped .ensures) ∙ c .before .before .before .if1 .left;
       many = h .many;
-      token = token (c .before .before .before .before .before .before .before);
+      token = token (c .before .before .before .before .before .before);
       first = first c;
       plan = c .before .plan-near .ensures v (h .seen);
-      room = c .before .before .before .before .before .before .before .before .before .before .before .before .before .room-of .ensures;
+      room = c .before .before .before .before .before .before .before .before .before .before .before .before .room-of .ensures;
       sum = c .sum-plan .ensures;
     }
 
 drop-packet-requires : tie.Need-drop-packet-requires
 drop-packet-requires c κs =
-    let a = c .before .before .before .before .before .before .before .before .before .before .before .before .before .before .before .before .before .before .before .before .before .before .before .before .before .before in
+    let a = c .before .before .before .before .before .before .before .before .before .before .before .before .before .before .before .before .before .before .before .before .before .before .before .before .before in
     let s = lent a (a .pre .0 .devices) in
     let p = passes a (a .pre .0 .devices) (a .pre .0 .lent) in
     let w = sound s (p .ill) in
-    let r = room-rows s (c .before .before .before .before .before .before .before .before .before .before .before .before .room-of .ensures) in
+    let r = room-rows s (c .before .before .before .before .before .before .before .before .before .before .before .room-of .ensures) in
     (p .short, (waiting-few (w .0), (under (s .decoder .counts) (roomOf (s .logs)) (w .0 .counts) (w .1), (r .0, r .1))))
 
 returns : tie.Need-returns
 returns c =
-    let a = c .before .before .before .before .before .before .before .before .before .before .before .before .before .before .before .before .before .before .before .before .before .before .before .before .before .before .before .before .before .before .before in
+    let a = c .before .before .before .before .before .before .before .before .before .before .before .before .before .before .before .before .before .before .before .before .before .before .before .before .before .before .before .before .before .before in
     let q = a .pre .0 in
-    (dropped-by (a .args .packet .now) (a .args .time) (lent a (q .devices)) (passes a (q .devices) (q .lent)) (c .before .before .before .before .before .before .before .before .before .before .before .before .before .known .ensures) (sym (c .before .before .before .before .before .before .before .before .is-dropped .ensures) ∙ c .before .before .before .before .before .before .before .if1 .taken) _ _ _ (c .before .before .before .before .before .before .before .before .before .no-change .ensures ∙ ap keeping (q .lent .seen .first)) (c .before .before .before .before .before .before .before .before .before .before .before .before .before .before .before .before .before .room-of .ensures) (c .before .before .before .before .drop-packet .ensures) .0, λ v h. dropped-by (a .args .packet .now) (a .args .time) (lent a (v)) (passes a (v) (h)) (c .before .before .before .before .before .before .before .before .before .before .before .before .before .known .ensures) (sym (c .before .before .before .before .before .before .before .before .is-dropped .ensures) ∙ c .before .before .before .before .before .before .before .if1 .taken) _ _ _ (c .before .before .before .before .before .before .before .before .before .no-change .ensures ∙ ap keeping (h .seen .first)) (c .before .before .before .before .before .before .before .before .before .before .before .before .before .before .before .before .before .room-of .ensures) (c .before .before .before .before .drop-packet .ensures) .1)
+    (dropped-by (a .args .packet .now) (a .args .time) (lent a (q .devices)) (passes a (q .devices) (q .lent)) (c .before .before .before .before .before .before .before .before .before .before .before .before .known .ensures) (sym (c .before .before .before .before .before .before .before .before .is-dropped .ensures) ∙ c .before .before .before .before .before .before .before .if1 .taken) _ _ _ (c .before .before .before .before .before .before .before .before .before .no-change .ensures) (c .before .before .before .before .before .before .before .before .before .before .before .before .before .before .before .before .room-of .ensures) (c .before .before .before .before .drop-packet .ensures) .0, λ v h. dropped-by (a .args .packet .now) (a .args .time) (lent a (v)) (passes a (v) (h)) (c .before .before .before .before .before .before .before .before .before .before .before .before .known .ensures) (sym (c .before .before .before .before .before .before .before .before .is-dropped .ensures) ∙ c .before .before .before .before .before .before .before .if1 .taken) _ _ _ (c .before .before .before .before .before .before .before .before .before .no-change .ensures) (c .before .before .before .before .before .before .before .before .before .before .before .before .before .before .before .before .room-of .ensures) (c .before .before .before .before .drop-packet .ensures) .1)
 
 plan-near-requires : tie.Need-plan-near-requires
 plan-near-requires c κs =
-    let a = c .before .before .before .before .before .before .before .before .before .before .before .before .before .before .before .before .before .before .before .before .before .before .before .before .before in
+    let a = c .before .before .before .before .before .before .before .before .before .before .before .before .before .before .before .before .before .before .before .before .before .before .before .before in
     let v = a .pre .0 .devices in
     let h = a .pre .0 .lent in
     let s = lent a v in
@@ -82,7 +81,7 @@ plan-near-requires c κs =
 
 sum-plan-requires : tie.Need-sum-plan-requires
 sum-plan-requires c κs =
-    let a = c .before .before .before .before .before .before .before .before .before .before .before .before .before .before .before .before .before .before .before .before .before .before .before .before .before .before in
+    let a = c .before .before .before .before .before .before .before .before .before .before .before .before .before .before .before .before .before .before .before .before .before .before .before .before .before in
     let v = a .pre .0 .devices in
     let h = a .pre .0 .lent in
     let s = lent a v in
@@ -92,38 +91,36 @@ sum-plan-requires c κs =
 
 returns-2 : tie.Need-returns-2
 returns-2 c =
-    let a = c .before .before .before .before .before .before .before .before .before .before .before .before .before .before .before .before .before .before .before .before .before .before .before .before .before .before .before .before .before in
+    let a = c .before .before .before .before .before .before .before .before .before .before .before .before .before .before .before .before .before .before .before .before .before .before .before .before .before .before .before .before in
     let q = a .pre .0 in
-    (refused-by (a .args .packet .now) (a .args .time) (lent a (q .devices)) (decided (c .before .before) (q .devices) (q .lent)) (c .if2 .taken) (c .before .before .before .before .before .before .before .no-change .ensures ∙ ap keeping (q .lent .seen .first)) .0, λ v h. refused-by (a .args .packet .now) (a .args .time) (lent a (v)) (decided (c .before .before) (v) (h)) (c .if2 .taken) (c .before .before .before .before .before .before .before .no-change .ensures ∙ ap keeping (h .seen .first)) .1)
+    (refused-by (a .args .packet .now) (a .args .time) (lent a (q .devices)) (decided (c .before .before) (q .devices) (q .lent)) (c .if2 .taken) (c .before .before .before .before .before .before .before .no-change .ensures) .0, λ v h. refused-by (a .args .packet .now) (a .args .time) (lent a (v)) (decided (c .before .before) (v) (h)) (c .if2 .taken) (c .before .before .before .before .before .before .before .no-change .ensures) .1)
 
 change-of-requires : tie.Need-change-of-requires
 change-of-requires c κs =
-    let a = c .before .before .before .before .before .before .before .before .before .before .before .before .before .before .before .before .before .before .before .before .before .before .before .before .before .before .before .before .before in
+    let a = c .before .before .before .before .before .before .before .before .before .before .before .before .before .before .before .before .before .before .before .before .before .before .before .before .before .before .before .before in
     let v = a .pre .0 .devices in
     few-devices (a .args .packet .now) (a .args .time) (lent a v) (decided (c .before .before) v (a .pre .0 .lent)) (c .if2 .left)
 
 put-packet-requires : tie.Need-put-packet-requires
 put-packet-requires c κs =
-    let a = c .before .before .before .before .before .before .before .before .before .before .before .before .before .before .before .before .before .before .before .before .before .before .before .before .before .before .before .before .before .before .before .before in
+    let a = c .before .before .before .before .before .before .before .before .before .before .before .before .before .before .before .before .before .before .before .before .before .before .before .before .before .before .before .before .before .before .before in
     let v = a .pre .0 .devices in
     rows-fit (a .args .packet .now) (a .args .time) (lent a v) (decided (c .before .before .before .before .before) v (a .pre .0 .lent)) (c .before .before .before .if2 .left)
 
 perform-requires : tie.Need-perform-requires
 perform-requires c κs =
-    let a = c .before .before .before .before .before .before .before .before .before .before .before .before .before .before .before .before .before .before .before .before .before .before .before .before .before .before .before .before .before .before .before .before .before .before .before .before .before .before .before .before .before .before .before .before .before .before .before .before in
+    let a = c .before .before .before .before .before .before .before .before .before .before .before .before .before .before .before .before .before .before .before .before .before .before .before .before .before .before .before .before .before .before .before .before .before .before .before .before .before .before .before .before .before .before .before .before .before .before .before in
     let v = a .pre .0 .devices in
     asks-by (a .args .packet .now) (a .args .time) (lent a v) (decided (c .before .before .before .before .before .before .before .before .before .before .before .before .before .before .before .before .before .before .before .before .before) v (a .pre .0 .lent)) (c .before .before .before .before .before .before .before .before .before .before .before .before .before .before .before .before .before .before .before .if2 .left) (c .before .before .before .before .before .before .before .before .before .before .hand-of .ensures)
 
 returns-3 : tie.Need-returns-3
 returns-3 c =
-    let a = c .before .before .before .before .before .before .before .before .before .before .before .before .before .before .before .before .before .before .before .before .before .before .before .before .before .before .before .before .before .before .before .before .before .before .before .before .before .before .before .before .before .before .before .before .before .before .before .before .before .before .before .before .before .before .before .before .before .before .before .before .before .before .before .before .before .before .before .before in
+    let a = c .before .before .before .before .before .before .before .before .before .before .before .before .before .before .before .before .before .before .before .before .before .before .before .before .before .before .before .before .before .before .before .before .before .before .before .before .before .before .before .before .before .before .before .before .before .before .before .before .before .before .before .before .before .before .before .before .before .before .before .before .before .before .before .before .before .before .before in
     let m = c .before .before .before .before .before .before .before .before .before .before .before .before .before .before .before .before .before .before .before .before .before .before .before .before .before .before .before .before .before .before .before .before .before .before .before .before .before .before .before .before .before in
     let ok = c .before .before .before .before .before .before .before .before .before .before .before .before .before .before .before .before .before .before .before .before .before .before .before .before .before .before .before .before .before .before .before .before .before .before .before .before .before .before .before .if2 .left in
-    let n = a .args .d .counts .devices in
-    let p = m .before .plan-near .result in
     let q = a .pre .0 in (
-      placed-by (a .args .packet .now) (a .args .time) (lent a (q .devices)) (decided m (q .devices) (q .lent)) ok (c .before .before .before .before .before .before .before .before .before .before .before .before .before .before .before .before .before .before .before .before .before .before .before .before .before .before .before .before .before .before .before .before .before .before .before .before .before .before .change-of .ensures ∙ ap (λ (x : Device). changeBy p x n) (q .lent .seen .first)),
-      λ v h. accepted-by (a .args .packet .now) (a .args .time) (lent a v) (decided m v h) ok (c .before .before .before .before .before .before .before .before .before .before .before .before .before .before .before .before .before .before .before .before .before .before .before .before .before .before .before .before .before .before .hand-of .ensures) (c .before .before .before .before .before .before .before .before .before .before .before .before .before .before .before .before .before .before .before .perform .ensures) (c .before .before .before .before .before .before .before .before .before .before .before .before .before .before .before .before .before .before .before .before .before .before .before .before .before .before .before .before .before .before .before .before .before .before .before .put-packet .ensures .0) (c .before .before .before .before .before .before .before .before .before .before .before .before .before .before .before .before .before .before .before .before .before .before .before .before .before .before .before .before .before .before .before .before .before .before .before .put-packet .ensures .1) (c .decoder-by .ensures) (c .before .before .before .before .before .before .before .before .before .before .before .before .before .before .before .before .before .before .before .before .before .before .before .before .before .before .before .before .before .before .before .before .before .before .before .before .before .before .change-of .ensures ∙ ap (λ (x : Device). changeBy p x n) (h .seen .first)),
+      placed-by (a .args .packet .now) (a .args .time) (lent a (q .devices)) (decided m (q .devices) (q .lent)) ok (c .before .before .before .before .before .before .before .before .before .before .before .before .before .before .before .before .before .before .before .before .before .before .before .before .before .before .before .before .before .before .before .before .before .before .before .before .before .before .change-of .ensures),
+      λ v h. accepted-by (a .args .packet .now) (a .args .time) (lent a v) (decided m v h) ok (c .before .before .before .before .before .before .before .before .before .before .before .before .before .before .before .before .before .before .before .before .before .before .before .before .before .before .before .before .before .before .hand-of .ensures) (c .before .before .before .before .before .before .before .before .before .before .before .before .before .before .before .before .before .before .before .perform .ensures) (c .before .before .before .before .before .before .before .before .before .before .before .before .before .before .before .before .before .before .before .before .before .before .before .before .before .before .before .before .before .before .before .before .before .before .before .put-packet .ensures .0) (c .before .before .before .before .before .before .before .before .before .before .before .before .before .before .before .before .before .before .before .before .before .before .before .before .before .before .before .before .before .before .before .before .before .before .before .put-packet .ensures .1) (c .decoder-by .ensures) (c .before .before .before .before .before .before .before .before .before .before .before .before .before .before .before .before .before .before .before .before .before .before .before .before .before .before .before .before .before .before .before .before .before .before .before .before .before .before .change-of .ensures),
     )
 
 pub packet-in-spec : {M : Type 1} → statement M

@@ -9,13 +9,13 @@ use Rattle.plan.proofs.begin.transaction_start.Tie as tie
 returns : tie.Need-returns
 unfolding starting
 returns c v s =
-    let a = c .before .before .before .before .before in
+    let a = c .before .before .before .before in
     simp (c .before .before .match .keys1) (simp (c .before .before .match .keys1) at (rw (stand-invalid (a .args .d) (a .args .table .now) (a .pre) (a .args .near) (a .args .x0) (a .args .e0) (a .args .packet .now) v s (c .before .stand-at .ensures)) at (c .start-on .ensures)))
 
 returns-2 : tie.Need-returns-2
 unfolding starting
 returns-2 c v s =
-    let a = c .before .before .before .before .before in
+    let a = c .before .before .before .before in
     simp (c .before .before .match .keys2) (simp (c .before .before .match .keys2) at (rw (stand-invalid (a .args .d) (a .args .table .now) (a .pre) (a .args .near) (a .args .x0) (a .args .e0) (a .args .packet .now) v s (c .before .stand-at2 .ensures)) at (c .start-split .ensures)))
 
 returns-3 : tie.Need-returns-3
@@ -30,7 +30,7 @@ transaction-start-spec =
     (λ c κs. tt)
     (λ c κs. omega arith)
     (λ c κs. tt)
-    (λ c κs. c .before .before .before .pre)
+    (λ c κs. c .before .before .pre)
     (λ c κs. tt)
     returns
     returns-2

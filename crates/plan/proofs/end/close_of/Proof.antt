@@ -6,7 +6,7 @@ use Rattle.plan.proofs.end.close_of.Tie as tie
 
 returns : tie.Need-returns
 unfolding closeOf
-returns c = rw (c .before .item-after .ensures, c .before .before .endpoint-details .ensures, c .before .before .before .transaction-update .ensures, c .before .before .before .before .entry-update .ensures, c .before .before .before .before .before .start-pid .ensures) at (c .end-of .ensures)
+returns c = rw (c .before .item-after .ensures, c .before .before .transaction-update .ensures, c .before .before .before .entry-update .ensures, c .before .before .before .before .start-pid .ensures) at (c .end-of .ensures)
 
 pub close-of-spec : {M : Type 1} → statement M
 close-of-spec =
@@ -14,7 +14,6 @@ close-of-spec =
     (tie.spec
     (λ c κs. tt)
     (λ c κs. search needs)
-    (λ c κs. tt)
     (λ c κs. tt)
     (λ c κs. tt)
     (λ c κs. tt)

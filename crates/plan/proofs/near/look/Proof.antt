@@ -1,26 +1,29 @@
 -- `look` meets its contract: each row is one of the devices.
-use mathlib.Core.Path.{_≡_, refl, ap}
+use mathlib.Core.Path.{_≡_, refl, ap, _∙_}
 use Prim.Native.Nat.{ℕ, _<_}
 use native.Mathlib.Omega.{arith}
 use borrow.Author.Needs.{needs}
 use lib.ListN.{getD}
+use Rattle.usb.specs.declared.fields.Token.{Token}
+use Rattle.tables.specs.Details.{detailsOf}
 use Rattle.tables.specs.Search.{foundDevice, blank}
+use Rattle.tables.specs.declared.Endpoint.{Endpoint}
 use Rattle.plan.proofs.Bounds.{old-there}
-use Rattle.plan.proofs.Places.{place-few}
+use Rattle.plan.proofs.Places.{number-small, place-few, seen-by}
 use Rattle.plan.proofs.near.look.Statement.{statement}
 use Rattle.plan.proofs.near.look.Tie as tie
 
 -- the places are places
-place-small : (c : tie.After-old-device) → c .before .place-in .result < 64
+place-small : (c : tie.After-old-entry) → c .before .place-in .result < 64
 place-small c =
     let s = c .before .before .before .before .before .before in
     rw (c .before .place-in .ensures) (place-few (s .args .t2) (s .args .d .counts .devices) (c .before .before .before .token-of .result .address) (c .before .before .find-device .result) (c .before .before .find-device .ensures) (s .pre .devices))
 
-owner-small : (c : tie.After-old-device) → c .old-device .result < 64
+owner-small : (c : tie.After-old-entry) → c .old-entry .result .device < 64
 owner-small c =
     let s = c .before .before .before .before .before .before in
     let k = s .pre .entries _ (old-there (s .args .d .transaction) (s .pre .three) (s .args .d .slot) (s .pre .held)) in
-    rw (c .old-device .ensures) (omega (arith, k .device, s .pre .devices))
+    rw (c .old-entry .ensures) (omega (arith, k .device, s .pre .devices))
 
 mul-row : tie.Need-mul-row
 mul-row c = omega (arith, place-small c)
@@ -28,22 +31,26 @@ mul-row c = omega (arith, place-small c)
 array-copy-out-row : tie.Need-array-copy-out-row
 array-copy-out-row c = place-small c
 
-mul-old : tie.Need-mul-old
-mul-old c = omega (arith, owner-small (c .before))
+mul-held : tie.Need-mul-held
+mul-held c = omega (arith, owner-small (c .before))
 
-array-copy-out-old : tie.Need-array-copy-out-old
-array-copy-out-old c = owner-small (c .before)
+array-copy-out-held : tie.Need-array-copy-out-held
+array-copy-out-held c = owner-small (c .before)
+
+near-of-requires : tie.Need-near-of-requires
+near-of-requires c κs = number-small (c .before .before .before .before .before .before .before .before .before .args .packet .now) (c .before .before .before .before .before .before .token-of .ensures)
 
 returns : tie.Need-returns
 unfolding foundDevice
 returns c =
-    let v = c .before .before .before .before .before .before .before .before .before .args .t2 in
-    record {
-      found = rw (c .before .before .before .before .before .before .token-of .ensures) at (c .before .before .before .before .before .find-device .ensures);
-      row = ap (λ (i : ℕ). getD v i blank) (c .before .before .before .before .place-in .ensures);
-      old = ap (λ (i : ℕ). getD v i blank) (c .before .before .before .old-device .ensures);
-      first = refl;
-    }
+    let s = c .before .before .before .before .before .before .before .before .before .before in
+    let v = s .args .t2 in
+    let token = c .before .before .before .before .before .before .before in
+    seen-by (c .near-of .ensures)
+    (rw (token .token-of .ensures) at (c .before .before .before .before .before .before .find-device .ensures))
+    (ap (λ (t : Token). t .number) (token .token-of .ensures))
+    (ap (λ (i : ℕ). getD v i blank) (c .before .before .before .before .before .place-in .ensures))
+    (c .before .endpoint-details .ensures ∙ ap (λ (e : Endpoint). detailsOf (getD v (e .device) blank) (e .address)) (c .before .before .before .before .old-entry .ensures))
 
 pub look-spec : {M : Type 1} → statement M
 look-spec =
@@ -55,7 +62,8 @@ look-spec =
     (λ c κs. c .before .before .before .before .before .pre)
     mul-row
     array-copy-out-row
-    mul-old
-    array-copy-out-old
-    (λ c. search needs)
+    mul-held
+    array-copy-out-held
+    (λ c κs. tt)
+    near-of-requires
     returns)

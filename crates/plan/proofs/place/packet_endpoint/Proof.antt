@@ -1,11 +1,9 @@
 -- `packet_endpoint` meets its contract: an endpoint that was found is there, else it is new (Places).
 use mathlib.Core.Path.{ap}
 use mathlib.Core.List.{[]}
-use Prim.Native.Nat.{ℕ}
 use native.Mathlib.Omega.{arith}
 use borrow.Author.Needs.{needs}
 use Rattle.usb.specs.declared.fields.Token.{Token}
-use Rattle.rules.specs.Endpoints.{addressFor}
 use Rattle.judge.specs.World.{worldOf}
 use Rattle.plan.proofs.Places.{number-small, found-at, place-found, place-new}
 use Rattle.plan.proofs.place.packet_endpoint.Statement.{statement}
@@ -14,21 +12,21 @@ use Rattle.plan.proofs.place.packet_endpoint.Tie as tie
 stand-at-requires : tie.Need-stand-at-requires
 stand-at-requires c κs =
     let s = c .before .before .before .before .before .before in
-    let h = found-at (worldOf (s .args .d) [] (s .args .table .now)) (s .pre .three) (s .args .near .found) (s .args .pid) (s .args .packet .now) (c .before .before .before .before .find-place .result) (c .before .before .found .given .0 .0) (c .before .before .before .before .find-place .ensures) (c .before .before .found .given .1) in
+    let h = found-at (worldOf (s .args .d) [] (s .args .table .now)) (s .pre .three) (s .args .near .found) (s .args .pid) (s .args .packet .now) (c .before .before .before .before .find-place .result) (c .before .found .given .0 .0) (c .before .before .before .before .find-place .ensures) (c .before .found .given .1) in
     omega (arith, h, s .pre .endpoints)
 
 address-for-requires : tie.Need-address-for-requires
-address-for-requires c κs = number-small (c .before .before .before .before .before .args .packet .now) (c .token-of .ensures)
+address-for-requires c κs = number-small (c .before .before .before .before .before .before .args .packet .now) (c .token-of .ensures)
 
 returns : tie.Need-returns
 returns c v s =
     let a = c .before .before .before .before .before .before .before in
-    place-found (a .args .d) (a .args .table .now) (a .pre) (a .args .near) (a .args .x0) (a .args .e0) (a .args .packet .now) v s (a .args .pid) (c .before .before .before .found .given .0 .0) (c .before .before .before .before .before .find-place .ensures) (c .before .before .before .found .given .1) (c .before .row-for .ensures) (c .stand-at .ensures)
+    place-found (a .args .d) (a .args .table .now) (a .pre) (a .args .near) (a .args .x0) (a .args .e0) (a .args .packet .now) v s (a .args .pid) (c .before .before .found .given .0 .0) (c .before .before .before .before .before .find-place .ensures) (c .before .before .found .given .1) (c .before .before .before .before .detail-by .ensures) (c .stand-at .ensures)
 
 returns-2 : tie.Need-returns-2
 returns-2 c v s =
-    let a = c .before .before .before .before .before .before .before in
-    place-new (a .args .d) (a .args .table .now) (a .pre) (a .args .near) (a .args .x0) (a .args .e0) (a .args .packet .now) v s (a .args .pid) (c .before .before .before .before .before .find-place .ensures) (c .before .before .before .enum-told .given .1)
+    let a = c .before .before .before .before .before .before .before .before in
+    place-new (a .args .d) (a .args .table .now) (a .pre) (a .args .near) (a .args .x0) (a .args .e0) (a .args .packet .now) v s (a .args .pid) (c .before .before .before .before .before .before .find-place .ensures) (c .before .before .before .enum-told .given .1) (c .before .before .before .before .before .detail-by .ensures)
     (ap (λ (t : Token). t .address) (c .before .before .token-of .ensures)) (rw (c .before .before .token-of .ensures) at (c .before .address-for .ensures)) (c .new-on .ensures)
 
 pub packet-endpoint-spec : {M : Type 1} → statement M
@@ -36,8 +34,8 @@ packet-endpoint-spec =
     tie.close
     (tie.spec
     (λ c κs. c .before .pre .endpoints)
-    (λ c. search needs)
     (λ c κs. tt)
+    (λ c. search needs)
     stand-at-requires
     (λ c. search needs)
     (λ c κs. tt)
