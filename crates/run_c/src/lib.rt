@@ -36,7 +36,7 @@ fn length_at(input: &[u8], at: usize) -> usize
 }
 
 // Where the record at this byte ends, and 0 where it is cut.
-fn record_end(input: &[u8], at: usize) -> usize
+pub fn record_end(input: &[u8], at: usize) -> usize
     requires { ⌜ at ≤ length (now input) ⌝ }
     ensures { λ r. ⌜ r ≡ endOf (now (input .entry)) at ⌝ }
 {
@@ -52,14 +52,14 @@ fn record_end(input: &[u8], at: usize) -> usize
 }
 
 // 0 and 8 let the run go on.
-fn goes_on(answer: u8) -> bool
+pub fn goes_on(answer: u8) -> bool
     ensures { λ r. ⌜ r ≡ accepts answer ⌝ }
 {
     (answer == 0) | (answer == 8)
 }
 
 // The answer in the top byte, the count below it.
-fn tell(answer: u8, count: u64) -> u64
+pub fn tell(answer: u8, count: u64) -> u64
     ensures { λ r. ⌜ r ≡ told answer count ⌝ }
 {
     72057594037927936 * (answer as u64) + count % 72057594037927936

@@ -1,0 +1,23 @@
+-- The addresses of the device rows, kept beside them, so that a search reads these alone.
+use Prim.Native.Nat.{ℕ, _<_}
+use mathlib.Core.Bool.{Bool}
+use mathlib.Core.List.{List}
+use mathlib.Core.Path.{_≡_}
+use lib.Dec.{eqb}
+use lib.ListN.{length, getD}
+use Rattle.tables.specs.Search.{blank, lastOf}
+use Rattle.tables.specs.declared.Device.{Device}
+use Rattle.tables.specs.declared.Found.{Found}
+
+-- of the first n rows of the 64
+pub record Addressed (n : ℕ) (a : List ℕ) (v : List Device) : Type 0 where
+  pub size : length a ≡ 64
+  pub each : (i : ℕ) → i < n → getD a i 0 ≡ getD v i blank .address
+
+-- whether row i has that address
+abbrev pub isAddress : List ℕ → ℕ → ℕ → Bool
+isAddress a address i = eqb (getD a i 0) address
+
+-- the last of the first n rows that has it, as foundDevice (tables, Search) finds it in the devices
+unfoldable pub foundAddress : List ℕ → ℕ → ℕ → Found
+foundAddress a n address = lastOf (isAddress a address) n
