@@ -1,26 +1,33 @@
-// Times the proved packet call on a long sequence of mixed packets, and writes the same packets as a trace for the Rust decoder.
+// Times the proved packet calls on a long sequence of mixed packets, and writes the same packets as a trace for the Rust decoder.
 // driver NAME CAP TRACE: payloads of bulk transfers have at most CAP bytes; the trace is written to the file TRACE.
 use std::hint::black_box;
 use std::time::Instant;
 
-extern "C" {
-    fn pivotspark_packets(
-        input: *const u8, input_len: usize,
-        table: *mut u64,
-        bytes: *mut u8, bytes_len: usize,
-        device_rows: *mut u64, device_rows_len: usize,
-        endpoint_rows: *mut u64, endpoint_rows_len: usize,
-        packets: *mut u64, packets_len: usize,
-        events: *const u64, events_len: usize,
-        transactions: *mut u64, transactions_len: usize,
-        groups: *mut u64, groups_len: usize,
-        marks: *mut u8, marks_len: usize,
-        states: *mut u64, states_len: usize,
-        items: *mut u64, items_len: usize,
-        links: *mut u64, links_len: usize,
-        requests: *mut u64, requests_len: usize,
-    ) -> u64;
+macro_rules! entries {
+    ($($name:ident),*) => {
+        extern "C" {
+            $(fn $name(
+                input: *const u8, input_len: usize,
+                table: *mut u64,
+                bytes: *mut u8, bytes_len: usize,
+                device_rows: *mut u64, device_rows_len: usize,
+                endpoint_rows: *mut u64, endpoint_rows_len: usize,
+                packets: *mut u64, packets_len: usize,
+                events: *const u64, events_len: usize,
+                transactions: *mut u64, transactions_len: usize,
+                groups: *mut u64, groups_len: usize,
+                marks: *mut u8, marks_len: usize,
+                states: *mut u64, states_len: usize,
+                items: *mut u64, items_len: usize,
+                links: *mut u64, links_len: usize,
+                requests: *mut u64, requests_len: usize,
+            ) -> u64;)*
+        }
+    };
 }
+
+// Each packet by the public call, which tests the record; by the inner call, in a loop that owns the devices.
+entries!(pivotspark_packets, pivotspark_stream);
 
 const PACKETS: usize = 200_000;
 const ROUNDS: usize = 7;
@@ -203,6 +210,7 @@ fn trace(packets: &[Vec<u8>]) -> Vec<u8> {
     bytes
 }
 
+#[derive(PartialEq)]
 struct Logs {
     table: Vec<u64>,
     bytes: Vec<u8>,
@@ -218,11 +226,12 @@ impl Logs {
         Logs { table: vec![0; 2176], bytes: vec![0; bytes], marks: vec![0; 64 * PACKETS], words }
     }
 
-    fn run(&mut self, input: &[u8]) -> u64 {
+    fn run(&mut self, inner: bool, input: &[u8]) -> u64 {
         let w: Vec<(*mut u64, usize)> = self.words.iter_mut().map(|l| (l.as_mut_ptr(), l.len())).collect();
+        let call = if inner { pivotspark_stream } else { pivotspark_packets };
         // Each log is lent once, for the call; the table has the 2,176 words that the callee asks for.
         unsafe {
-            pivotspark_packets(
+            call(
                 input.as_ptr(), input.len(),
                 self.table.as_mut_ptr(),
                 self.bytes.as_mut_ptr(), self.bytes.len(),
@@ -234,6 +243,24 @@ impl Logs {
     }
 }
 
+// Prints the times of one of the calls, and gives the logs that it left.
+fn time(name: &str, inner: bool, input: &[u8], total: usize) -> Logs {
+    let mut left = Logs::fresh(total);
+    let mut times: Vec<f64> = (0..ROUNDS)
+        .map(|_| {
+            left = Logs::fresh(total);
+            let start = Instant::now();
+            let r = black_box(left.run(inner, black_box(input)));
+            let spent = start.elapsed().as_nanos() as f64;
+            assert_eq!((r >> 56, r & (1 << 56) - 1), (0, PACKETS as u64), "the last answer, the packets taken");
+            spent / PACKETS as f64
+        })
+        .collect();
+    times.sort_by(f64::total_cmp);
+    println!("  {name}: ns a packet {:.0} (best of {ROUNDS}), {:.0} (median)", times[0], times[ROUNDS / 2]);
+    left
+}
+
 fn main() {
     let words: Vec<String> = std::env::args().collect();
     let [_, name, cap, path] = words.as_slice() else { panic!("driver NAME CAP TRACE") };
@@ -241,17 +268,8 @@ fn main() {
     std::fs::write(path, trace(&packets)).expect("the trace can be written");
     let input = input(&packets);
     let total: usize = packets.iter().map(|p| p.len()).sum();
-    let mut times: Vec<f64> = (0..ROUNDS)
-        .map(|_| {
-            let mut logs = Logs::fresh(total);
-            let start = Instant::now();
-            let r = black_box(logs.run(black_box(&input)));
-            let spent = start.elapsed().as_nanos() as f64;
-            assert_eq!((r >> 56, r & (1 << 56) - 1), (0, PACKETS as u64), "the last answer, the packets taken");
-            spent / PACKETS as f64
-        })
-        .collect();
-    times.sort_by(f64::total_cmp);
     println!("{name}: {PACKETS} packets, {total} bytes");
-    println!("  the proved call: ns a packet {:.0} (best of {ROUNDS}), {:.0} (median)", times[0], times[ROUNDS / 2]);
+    let single = time("the single call", false, &input, total);
+    let inner = time("the inner call", true, &input, total);
+    assert!(single == inner, "both leave the same rows");
 }
