@@ -111,13 +111,18 @@ pub fn packet(
     let c = r.change;
     let place = c.place;
     let at = c.at;
-    let mut devices = devices;
-    if is_change(c) {
-        let row = devices[place];
-        devices[place] = row_by(c, row);
-        let row = devices[at];
-        devices[at] = added_by(c, row);
+    if !is_change(c) {
+        return Called {
+            answer: r.answer,
+            decoder,
+            devices,
+        };
     }
+    let mut devices = devices;
+    let row = devices[place];
+    devices[place] = row_by(c, row);
+    let row = devices[at];
+    devices[at] = added_by(c, row);
     Called {
         answer: r.answer,
         decoder,
