@@ -1,9 +1,10 @@
 -- Making a fresh decoder (fn new of decoder.rs); words in quotation marks are those of 01, "Answer numbers".
 use Prim.Native.Nat.{ℕ}
 use mathlib.Core.Bool.{cond}
-use mathlib.Core.List.{List}
+use mathlib.Core.List.{List, replicate}
 use mathlib.Core.Path.{_≡_}
 use lib.Seq.{sets}
+use Rattle.tables.specs.Details.{fresh as freshDevice}
 use Rattle.tables.specs.declared.Device.{Device}
 use Rattle.rules.specs.Decoder.{fresh}
 use Rattle.rules.specs.Rows.{log}
@@ -33,3 +34,7 @@ pub record Makes (v : List Device) (t : List ℕ) (l : Logs) (a : ℕ) (s′ : S
   pub answer : a ≡ freshAnswer (roomOf l)
   pub accepted : a ≡ 0 → s′ ≡ made v t l
   pub refused : (a ≡ 0 → ⊥) → s′ ≡ unmade v t l
+
+-- the devices that a run makes its decoder on: none is there yet
+abbrev pub noDevices : List Device
+noDevices = replicate 64 (freshDevice 0)

@@ -2,13 +2,14 @@
 -- world that the rules begin with; a refused one is ill whatever it is lent.
 use Prim.Native.Nat.{ℕ, _<_}
 use native.Mathlib.Omega.{arith}
-use mathlib.Core.Path.{_≡_, refl, sym, ap, _∙_}
+use mathlib.Core.Path.{_≡_, refl, sym, ap, subst, _∙_}
 use mathlib.Core.Bool.{Bool, true, false, cond, not}
-use mathlib.Core.List.{List}
+use mathlib.Core.List.{List, replicate}
 use borrow.Author.Tests.{eqb-true, eqb-false}
 use lib.Dec.{eqb}
 use lib.ListN.{length}
 use lib.Seq.{length-sets}
+use Rattle.tables.specs.Details.{fresh as freshDevice}
 use Rattle.tables.specs.declared.Device.{Device}
 use Rattle.rules.specs.Decoder.{fresh}
 use Rattle.judge.specs.Bools.{nor, or-right}
@@ -20,7 +21,7 @@ use Rattle.judge.specs.World.{Agrees}
 use Rattle.judge.specs.declared.Counts.{Counts}
 use Rattle.outcome.specs.Outcome.{isIll, worldAt}
 use Rattle.outcome.specs.State.{Logs, State, state, roomOf}
-use Rattle.calls.specs.Fresh.{freshAnswer, madeLogs, made, unmade, Makes}
+use Rattle.calls.specs.Fresh.{freshAnswer, madeLogs, made, unmade, Makes, noDevices}
 
 -- 01: "any two permitted outcomes coincide"
 pub fresh-unique : {v : List Device} {t : List ℕ} {l : Logs} {a b : ℕ} {s′ s″ : State} → Makes v t l a s′ → Makes v t l b s″ → (a ≡ b) × (s′ ≡ s″)
@@ -75,3 +76,7 @@ pub fresh-refused : {v : List Device} {t : List ℕ} {l : Logs} {a : ℕ} {s′ 
     → (v′ : List Device) (t′ : List ℕ) (l′ : Logs) → isIll (state (s′ .decoder) v′ t′ l′) ≡ true
 unfolding unmade
 fresh-refused m n v′ t′ l′ = ap (λ (s : State). isIll (state (s .decoder) v′ t′ l′)) (m .refused n) ∙ refused-any v′ t′ l′
+
+-- on rows of which nothing is known
+pub made-on : {t : List ℕ} {l : Logs} {d : Device} {s : State} {a : ℕ} → d ≡ freshDevice 0 → Makes (replicate 64 d) t l a s → Makes noDevices t l a s
+made-on {t} {l} {s = s} {a} e m = subst (λ (x : Device). Makes (replicate 64 x) t l a s) e m

@@ -2,8 +2,7 @@
 use crate::Hand;
 use group::Effect;
 use steps::Begin;
-use tables::Endpoint;
-use tables::Phase;
+use steps::new_endpoint;
 use tables::entry;
 use tables::link;
 use transaction::Transaction;
@@ -17,7 +16,6 @@ ghost use Prim.Native.Nat.{_+_, _*_, _^_, _<_, _≤_};
 ghost use lib.ListN.{length};
 ghost use lib.Seq.{sets};
 ghost use Rattle.tables.specs.Table.{entryAt, storeAt};
-ghost use Rattle.rules.specs.World.{newEndpoint};
 ghost use Rattle.group.specs.declared.Effect.the-variants.{NewDevice, Request, IndexData};
 ghost use Rattle.transaction.specs.Table.{pick};
 ghost use Rattle.update.specs.Effect.{passes, effectEntry};
@@ -71,38 +69,13 @@ fn opened_hand(s: Begin, h: Hand) -> Hand
     }
 }
 
-// EndpointData::new
-fn new_endpoint(place: usize, number: u8) -> Endpoint
-    ensures { λ r. ⌜ r ≡ newEndpoint place number ⌝ }
-{
-    Endpoint {
-        device: place as u64,
-        address: number,
-        phase: Phase::None,
-        state: 0,
-        transactions: 0,
-        groups: 0,
-        total: 0,
-        first: 0,
-        done: false,
-        last: 0,
-        success: false,
-        ready: false,
-        setup: 0,
-        payload: 0,
-        waits: false,
-        waiting: 0,
-        waiter: 0,
-    }
-}
-
 // The entry of a new endpoint, behind n others.
 fn entry_if(on: bool, n: usize, place: usize, number: u8, table: &mut [u64; 2176])
     requires { ⌜ plus on n ≤ 128 ⌝ }
     ensures { λ r. ⌜ now (table .exit) ≡ when on (newEntry n place number) (now (table .entry)) ⌝ }
 {
     if on {
-        entry::store(table, n, new_endpoint(place, number));
+        entry::store(table, n, new_endpoint(place as u64, number));
     }
 }
 

@@ -3,10 +3,10 @@ use crate::bytes::token_of;
 use crate::near::Near;
 use judge::Decoder;
 use steps::Place;
+use steps::new_endpoint;
 use tables::Detail;
 use tables::Endpoint;
 use tables::Found;
-use tables::Phase;
 use tables::details::endpoint_details;
 use tables::details::fresh_device;
 use tables::entry::load;
@@ -22,7 +22,6 @@ ghost use mathlib.Core.List.{[]};
 ghost use Prim.Native.Nat.{_<_, _≤_};
 ghost use Rattle.usb.specs.Pid.{SETUP, IN, OUT, PING};
 ghost use Rattle.transaction.specs.Table.{pick, only, _or_};
-ghost use Rattle.rules.specs.World.{newEndpoint};
 ghost use Rattle.tables.specs.Table.{entryAt};
 ghost use Rattle.rules.specs.Endpoints.{addressFor, endpointLookup};
 ghost use Rattle.judge.specs.World.{worldOf};
@@ -109,31 +108,6 @@ pub fn stand_at(x0: usize, e0: Endpoint, i: usize, detail: Detail, table: &[u64;
         number,
         detail,
         entry,
-    }
-}
-
-// EndpointData::new.
-fn new_endpoint(device: u64, address: u8) -> Endpoint
-    ensures { λ r. ⌜ r ≡ newEndpoint device address ⌝ }
-{
-    Endpoint {
-        device,
-        address,
-        phase: Phase::None,
-        state: 0,
-        transactions: 0,
-        groups: 0,
-        total: 0,
-        first: 0,
-        done: false,
-        last: 0,
-        success: false,
-        ready: false,
-        setup: 0,
-        payload: 0,
-        waits: false,
-        waiting: 0,
-        waiter: 0,
     }
 }
 

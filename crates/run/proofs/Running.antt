@@ -20,10 +20,11 @@ use Rattle.trace.specs.declared.Next.the-variants.{Packet, Event, Detail, Unkno
 use Rattle.trace.specs.declared.clock.Clock.{Clock}
 use Rattle.outcome.specs.State.{Logs, State, state}
 use Rattle.calls.specs.Detail.{Details}
-use Rattle.calls.specs.Fresh.{Makes, unmade}
+use Rattle.calls.specs.Fresh.{Makes, unmade, noDevices}
+use Rattle.calls.specs.FreshLaws.{made-on}
 use Rattle.packet.specs.Call.{PacketCall}
 use Rattle.events.specs.Call.{EventCall, FinishCall}
-use Rattle.run.specs.Run.{clockAfter, behind, Gives, Runs, noDevices, Ran}
+use Rattle.run.specs.Run.{clockAfter, behind, Gives, Runs, Ran}
 use Rattle.run.specs.Run.Ran.{wrong, refused, runs}
 use Rattle.run.specs.Run.Runs.{ends, stops, goes}
 use Rattle.run.specs.Step.{wentWith, overWith, leftBy, Steps}
@@ -153,9 +154,6 @@ module _ {trace : List ℕ} {s₀ s : State} {at : ℕ} {c : Clock} {r : Stepped
 
 answered : (trace : List ℕ) {h : Header} {a : ℕ} → h ≡ headerOf trace → a ≡ headerAnswer h → a ≡ headerAnswer (headerOf trace)
 answered trace f k = k ∙ ap headerAnswer f
-
-made-on : {t : List ℕ} {l : Logs} {d : Device} {s : State} {b : ℕ} → d ≡ fresh 0 → Makes (replicate 64 d) t l b s → Makes noDevices t l b s
-made-on {t} {l} {s = s} {b} e m = subst (λ (x : Device). Makes (replicate 64 x) t l b s) e m
 
 module _ {trace t : List ℕ} {l : Logs} {d : Device} {h : Header} {a : ℕ} (e : d ≡ fresh 0) (f : h ≡ headerOf trace) (k : a ≡ headerAnswer h) where
   pub ran-wrong : {p : ℕ} {r : Decoder} → (a ≡ 0 → ⊥) → r ≡ refusedDecoder → p ≡ headerPlace h → Ran trace t l a p (state r (replicate 64 d) t l)

@@ -1,11 +1,9 @@
 -- A whole trace through the calls (01, "Trace and listing"): what its records give one by one. Words in quotation marks are those of 01.
 use Prim.Native.Nat.{ℕ, _-_}
 use mathlib.Core.Bool.{true, false}
-use mathlib.Core.List.{List, replicate}
+use mathlib.Core.List.{List}
 use mathlib.Core.Path.{_≡_}
 use lib.ListN.{length, take, drop}
-use Rattle.tables.specs.Details.{fresh}
-use Rattle.tables.specs.declared.Device.{Device}
 use Rattle.trace.specs.Clock.{stopped, tickOf}
 use Rattle.trace.specs.Trace.{headerOf, headerAnswer, headerPlace, nextAt}
 use Rattle.trace.specs.declared.Next.{Next}
@@ -14,7 +12,7 @@ use Rattle.trace.specs.declared.clock.Clock.{Clock}
 use Rattle.outcome.specs.Outcome.{accepts}
 use Rattle.outcome.specs.State.{Logs, State}
 use Rattle.calls.specs.Detail.{Details}
-use Rattle.calls.specs.Fresh.{Makes, unmade}
+use Rattle.calls.specs.Fresh.{Makes, unmade, noDevices}
 use Rattle.packet.specs.Call.{PacketCall}
 use Rattle.events.specs.Call.{EventCall, FinishCall}
 
@@ -62,10 +60,6 @@ pub data Runs (trace : List ℕ) : ℕ → Clock → State → ℕ → ℕ → S
       → Runs trace at c s b p s″
 
 -- ---- the whole trace
-
--- the devices that a decoder is made on
-abbrev pub noDevices : List Device
-noDevices = replicate 64 (fresh 0)
 
 -- a trace on this table and these logs: the answer (0: finished), the place, and what is left. A wrong header leaves what a refused decoder leaves; a
 -- decoder that can't be made is refused at 0 (docs/DECISIONS.md, 2); records start behind the header

@@ -11,9 +11,10 @@ use Rattle.outcome.specs.Outcome.{accepts}
 use Rattle.outcome.specs.State.{Logs, State}
 use Rattle.packet.specs.Call.{PacketCall}
 use Rattle.calls.specs.Fresh.{Makes}
+use Rattle.calls.specs.FreshLaws.{made-on}
 use Rattle.tables.specs.Details.{fresh}
 use Rattle.tables.specs.declared.Device.{Device}
-use Rattle.run_c.specs.Run.{lengthAt, endOf, Runs, told, noDevices, Ran}
+use Rattle.run_c.specs.Run.{lengthAt, endOf, Runs, told, Ran}
 use Rattle.run_c.specs.Run.Runs.{ends, stops, goes}
 
 -- ---- where a record ends
@@ -120,9 +121,6 @@ module _ {input : List ℕ} {s₀ s : State} {at n end : ℕ} (g : Going input s
         }
 
 -- ---- the whole call
-
-made-on : {t : List ℕ} {l : Logs} {d : Device} {s : State} {a : ℕ} → d ≡ fresh 0 → Makes (replicate 64 d) t l a s → Makes noDevices t l a s
-made-on {t} {l} {s = s} {a} e m = subst (λ (x : Device). Makes (replicate 64 x) t l a s) e m
 
 module _ {input t : List ℕ} {l : Logs} {d : Device} {s : State} {a r : ℕ} (e : d ≡ fresh 0) (m : Makes (replicate 64 d) t l a s) where
   pub ran-refused : (a ≡ 0 → ⊥) → r ≡ told a 0 → Ran input t l r (s .table) (s .logs)

@@ -1,15 +1,13 @@
 -- Many packets run by one call: how they stand in the input, and what is left when all have been taken or one is refused.
 use Prim.Native.Nat.{ℕ, _+_, _*_, _-_, _%_}
 use mathlib.Core.Bool.{Bool, true, false, cond}
-use mathlib.Core.List.{List, replicate}
+use mathlib.Core.List.{List}
 use mathlib.Core.Path.{_≡_}
 use lib.Dec.{leb}
 use lib.ListN.{length, getD, take, drop}
-use Rattle.tables.specs.Details.{fresh}
-use Rattle.tables.specs.declared.Device.{Device}
 use Rattle.outcome.specs.Outcome.{accepts}
 use Rattle.outcome.specs.State.{Logs, State}
-use Rattle.calls.specs.Fresh.{Makes}
+use Rattle.calls.specs.Fresh.{Makes, noDevices}
 use Rattle.packet.specs.Call.{PacketCall}
 
 -- the two bytes in front of a packet, low byte first, are its length
@@ -38,10 +36,6 @@ pub data Runs (input : List ℕ) : ℕ → ℕ → State → ℕ → ℕ → Sta
 -- the answer in the top byte, the count below it
 abbrev pub told : ℕ → ℕ → ℕ
 told answer count = 72057594037927936 * answer + count % 72057594037927936
-
--- the devices that a decoder is made on
-abbrev pub noDevices : List Device
-noDevices = replicate 64 (fresh 0)
 
 -- a decoder is made on this table and these logs and takes the packets of the input; the call gives back r and leaves t′ and l′
 pub record Ran (input t : List ℕ) (l : Logs) (r : ℕ) (t′ : List ℕ) (l′ : Logs) : Type 0 where

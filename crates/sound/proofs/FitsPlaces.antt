@@ -19,7 +19,8 @@ use Rattle.tables.specs.declared.Found.the-variants.{At, Nothing}
 use Rattle.rules.proofs.Moves.{Spot, found-spot}
 use Rattle.rules.specs.World.{World, noItem, changeDevice, newEndpoint}
 use Rattle.rules.specs.Endpoints.{addDevice, deviceFor, pushEndpoint, addEndpointOn, addressFor, found, packetEndpointAt, packetEndpoint, numberAt, endpointOf}
-use Rattle.sound.specs.Fit.{EntryFit, Special}
+use Rattle.judge.specs.FormedLaws.{Special}
+use Rattle.sound.specs.Fit.{EntryFit}
 use Rattle.sound.proofs.FitsTame.{Stands, StandsIn, longer, deviced}
 use Rattle.sound.proofs.FitsUpdate.{device-stands}
 

@@ -14,7 +14,8 @@ use Rattle.tables.specs.declared.Endpoint.{Endpoint}
 use Rattle.tables.specs.declared.Phase.{Phase}
 use Rattle.rules.specs.World.{World, noItem, moreTransactions, moreGroups}
 use Rattle.judge.specs.Formed.{standing, holds}
-use Rattle.sound.specs.Fit.{linkRows, EntryFit, HeldFit, Special, Fit}
+use Rattle.judge.specs.FormedLaws.{Special}
+use Rattle.sound.specs.Fit.{linkRows, EntryFit, HeldFit, Fit}
 
 -- Fit, of c endpoints f, d devices, the first at a, r transaction rows, i items with the last on l, and k link rows. The transaction t is on y;
 -- whether it counts is b

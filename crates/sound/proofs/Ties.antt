@@ -30,14 +30,13 @@ use Rattle.rules.specs.declared.Slot.the-variants.{Empty, Current, Suspended}
 use Rattle.update.specs.Tally.{isEnded, endedIn, waitingOf}
 use Rattle.judge.specs.Bools.{both, and, nor, or-right, every-at, every-true}
 use Rattle.judge.specs.Formed.{standing, heldStyle, mayLack, holds, every}
-use Rattle.judge.specs.FormedLaws.{EntryFormed, HeldFormed, resting, WellFormed, well-formed}
-use Rattle.judge.specs.FormedLaws as judge
+use Rattle.judge.specs.FormedLaws.{EntryFormed, HeldFormed, Special, resting, WellFormed, well-formed}
 use Rattle.judge.specs.RoomLaws.{Within, Short, long-short}
 use Rattle.judge.specs.declared.Counts.{Counts}
 use Rattle.outcome.specs.Outcome.{isIll, countsAfter, Appends, decoderOf, Left, worldAt}
 use Rattle.outcome.specs.OutcomeLaws.{sound, waiting-entries}
 use Rattle.outcome.specs.State.{Logs, State, state, roomOf}
-use Rattle.sound.specs.Fit.{linkRows, Special, Fit, inHand, brings, Paid}
+use Rattle.sound.specs.Fit.{linkRows, Fit, inHand, brings, Paid}
 use Rattle.sound.specs.Sound.{isPaid, soundIn, isSound}
 
 -- ---- what a sound state's world has
@@ -54,9 +53,6 @@ parts s h = let g = both (not (isIll s)) (every (isPaid (s .decoder) (s .table))
 -- 01, answer 1: it is never given on a sound state
 pub sound-well : (s : State) → isSound s ≡ true → isIll s ≡ false
 sound-well s h = parts s h .0
-
-special-of : {e : Endpoint} {number : ℕ} → judge.Special e number → Special e number
-special-of h = record { device = h .device; address = h .address }
 
 style-of : (t : Style) (x : ℕ) → heldStyle t x ≡ true → TokenedAt t x
 style-of Nothing x h = false≢true h
@@ -100,9 +96,9 @@ module _ (s : State) (h : isSound s ≡ true) where
         device = well .specials .some;
         first = well .specials .address;
         three = well .specials .three;
-        event = special-of (well .specials .event);
-        invalid = special-of (well .specials .invalid);
-        framing = special-of (well .specials .framing);
+        event = well .specials .event;
+        invalid = well .specials .invalid;
+        framing = well .specials .framing;
         rests = ap standing (well .rests);
         entries =
             λ i u. let e = well .endpoints i u .entry in
@@ -261,8 +257,8 @@ module _ (s s′ : State) (w : World) (f : Bool) (left : Left w f s s′) (fit :
         waiting = same-waiting w (s′ .table) entries;
       }
     where
-      special-is : (i : ℕ) → i < w .count → (number : ℕ) → Special (w .endpoints i) number → judge.Special (entryAt (s′ .table) i) number
-      special-is i u number h = let q = entries i u in rw q (record { device = h .device; address = h .address })
+      special-is : (i : ℕ) → i < w .count → (number : ℕ) → Special (w .endpoints i) number → Special (entryAt (s′ .table) i) number
+      special-is i u number h = let q = entries i u in rw q h
 
   -- the state, with its record as the world gives it
   abbrev there : State

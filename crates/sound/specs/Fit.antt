@@ -15,6 +15,7 @@ use Rattle.rules.specs.World.{World, noItem}
 use Rattle.rules.specs.declared.Slot.{Slot}
 use Rattle.rules.specs.declared.Slot.the-variants.{Empty, Current, Suspended}
 use Rattle.judge.specs.Formed.{standing, holds}
+use Rattle.judge.specs.FormedLaws.{Special}
 
 -- ---- rows of the link log among those appended
 
@@ -37,10 +38,6 @@ pub record HeldFit (t : Transaction) (endpoints : ℕ → Endpoint) (count trans
   pub endpoint : t .endpoint < count
   pub id : t .id < transactions
   pub link : t .linked ≡ true → (0 < t .endpoint) × (t .link < endpoints (t .endpoint) .transactions)
-
-pub record Special (e : Endpoint) (number : ℕ) : Type 0 where
-  pub device : e .device ≡ 0
-  pub address : e .address ≡ number
 
 -- n link rows stood before the journal
 pub record Fit (n : ℕ) (w : World) : Type 0 where

@@ -1,10 +1,13 @@
-// A call as a few steps, decided from values alone before anything is written: the types. What they mean on a world is in specs/.
+// A call as a few steps, decided from values alone before anything is written: the types, and the entry of a new endpoint. What they mean on a world is in specs/.
 use group::Effect;
 use rules::Slot;
 use tables::Detail;
 use tables::Endpoint;
+use tables::Phase;
 use transaction::Transaction;
 use update::Update;
+ghost use mathlib.Core.Path.{_≡_};
+ghost use Rattle.rules.specs.World.{newEndpoint};
 
 // A transaction begins, is resumed, or goes on (transaction_start; transaction_update, 714 to 724; transaction_append).
 pub struct Begin {
@@ -79,4 +82,29 @@ pub struct Ending {
     pub ends: bool,
     pub old: usize,
     pub end: End,
+}
+
+// EndpointData::new.
+pub fn new_endpoint(device: u64, address: u8) -> Endpoint
+    ensures { λ r. ⌜ r ≡ newEndpoint device address ⌝ }
+{
+    Endpoint {
+        device,
+        address,
+        phase: Phase::None,
+        state: 0,
+        transactions: 0,
+        groups: 0,
+        total: 0,
+        first: 0,
+        done: false,
+        last: 0,
+        success: false,
+        ready: false,
+        setup: 0,
+        payload: 0,
+        waits: false,
+        waiting: 0,
+        waiter: 0,
+    }
 }
