@@ -18,9 +18,9 @@ use Rattle.rules.specs.Rows.{Row, T}
 use Rattle.rules.specs.World.{World, phase, push, change, withTransaction, withLink, cleared, withLast, moreTransactions, moreGroups}
 use Rattle.rules.specs.Groups.{closePhase, addItem, addGroupEntry, link, linkOnce, pushGroup, over, endActive, addGroup, groupEndAt, groupEnd, activated, activate, groupStartAt, groupStart, groupAppendAt, groupAppend, groupStep, becomes, endEarly, groupEarlyStart, startsEarly}
 use Rattle.rules.specs.Decoder.{endAllActive, endPhase}
-use Rattle.rules.specs.Marks.{Mark, other, marks}
-use Rattle.rules.proofs.Facts.{calm, Facts, pass, skip, begin, end}
-use Rattle.rules.proofs.Loops.{openOf, waitOf, Inside, item-facts, over-facts}
+use Rattle.rules.specs.Marks.{Mark, other, started, marks}
+use Rattle.rules.proofs.Facts.{Wait, calm, Facts, pass, skip, begin, end}
+use Rattle.rules.proofs.Loops.{openOf, waitOf, Inside, miss, item-facts, over-facts}
 
 -- early or active; neither
 abbrev pub Open : Phase → Type 0
@@ -52,6 +52,19 @@ marked l f = record { facts = f; inside = l .inside; unused = l .unused; quiet =
 
 pub passed : {e c y : ℕ} {p : Phase} {g d k t n : ℕ} {ms : List Mark} → Holds e c y p g d k t n ms → Holds e c y p g d k t n (other ∷ ms)
 passed l = marked l (pass (l .facts))
+
+-- the same of another phase, number of groups and address; over variables, since a world's are large
+moved : {e c y : ℕ} {p p′ : Phase} {g g′ d d′ k t n : ℕ} {ms : List Mark} → p′ ≡ p → g′ ≡ g → d′ ≡ d → Holds e c y p g d k t n ms → Holds e c y p′ g′ d′ k t n ms
+moved q r s l = rw (q, r, s) l
+
+to-shut : {e : ℕ} {b : Bool} {v : Wait} {g n : ℕ} {ms : List Mark} → b ≡ false → Facts e b v g n ms → Facts e false v g n ms
+to-shut q f = rw q at f
+
+to-open : {e : ℕ} (p : Phase) {g n : ℕ} {ms : List Mark} → Open p → Facts e true calm g n ms → Facts e (openOf p) (waitOf p) g n ms
+to-open p o f = rw (o .0, o .1) f
+
+hit : {e : ℕ} {b o : Bool} {v : Wait} {g n : ℕ} {m : Mark} {ms : List Mark} → b ≡ true → Facts e o v g n (m ∷ ms) → Facts e o v g n (pick b m other ∷ ms)
+hit h f = rw h f
 
 -- base are the rows of the calls before
 module _ (base : List Row) (e c y : ℕ) where
@@ -205,14 +218,18 @@ module _ (base : List Row) (e c y : ℕ) where
           here : Inside (phase e w) e (w .count)
           here = rw (l .size) (l .inside)
 
-          at : (b : Bool) → eqb e x ≡ b → Keeps (change x f (addItem x v))
+          -- the endpoint before its phase is set
+          after : Endpoint
+          after = addItem x v .endpoints e
+
+          at : (b : Bool) → eqb e x ≡ b → HoldsAt (pick b (f after) after) (addItem x v)
           at true h =
               let s : e ≡ x = eqb-true e x h in
               let shut : openOf (phase e w) ≡ false = rw (← s) at q in
-              let begun : Facts e true (waitOf (phase e w)) (suc (w .endpoints e .groups)) (w .items) (marks e (v .journal ++ base)) = pass (pass (pass (rw h (begin (rw shut at (l .facts)))))) in
-              rw h (rw (fp, fg, fd) (record { facts = rw (o .0, o .1) (item-facts e (v .endpoints) (w .count) (w .items) (v .journal) base (phase e w) (l .quiet) same here _ begun); inside = open-inside p (omega arith); unused = λ z. absurd (omega arith); quiet = λ z. absurd (own s z); special = l .special; size = l .size; target = l .target }))
+              let begun : Facts e true (waitOf (phase e w)) (suc (w .endpoints e .groups)) (w .items) (marks e (v .journal ++ base)) = pass (pass (pass (hit h (begin (to-shut shut (l .facts)))))) in
+              moved (fp after) (fg after ∙ ap (λ (b : Bool). pick b (moreGroups (w .endpoints e)) (w .endpoints e) .groups) h) (fd after ∙ ap (λ (b : Bool). pick b (moreGroups (w .endpoints e)) (w .endpoints e) .address) h) (record { facts = to-open p o (item-facts e (v .endpoints) (w .count) (w .items) (v .journal) base (phase e w) (l .quiet) same here _ begun); inside = open-inside p (omega arith); unused = λ z. absurd (omega arith); quiet = λ z. absurd (own s z); special = l .special; size = l .size; target = l .target })
           at false h =
-              rw h (record { facts = close-facts (phase e w) (item-facts e (v .endpoints) (w .count) (w .items) (v .journal) base (phase e w) (l .quiet) same here _ (pass (pass (pass (rw h (pass (l .facts))))))); inside = close-inside (phase e w) (l .inside); unused = l .unused; quiet = λ z. close-quiet (phase e w) (l .quiet z); special = l .special; size = l .size; target = l .target })
+              moved (ap closePhase same) (ap (λ (b : Bool). pick b (moreGroups (w .endpoints e)) (w .endpoints e) .groups) h) (ap (λ (b : Bool). pick b (moreGroups (w .endpoints e)) (w .endpoints e) .address) h) (record { facts = close-facts (phase e w) (item-facts e (v .endpoints) (w .count) (w .items) (v .journal) base (phase e w) (l .quiet) same here _ (pass (pass (pass (miss e x started _ h (l .facts)))))); inside = close-inside (phase e w) (l .inside); unused = l .unused; quiet = λ z. close-quiet (phase e w) (l .quiet z); special = l .special; size = l .size; target = l .target })
 
       addGroup-keeps : (w : World) → early (phase x w) ≡ false → Keeps w → Keeps (change x f (addGroup x w))
       addGroup-keeps w d l =

@@ -42,6 +42,13 @@ phase-kept : (b : Bool) (a c : Endpoint) → a .phase ≡ c .phase → pick b a 
 phase-kept true a c q = q
 phase-kept false a c q = refl
 
+-- a step that is left out where b holds
+unless : (f : World → World) (v : World) (b c : Bool) → b ≡ c → pick b v (f v) ≡ when (not c) f v
+unless f v true true h = refl
+unless f v true false h = cc
+unless f v false true h = cc
+unless f v false false h = refl
+
 module _ (x : ℕ) where
   begin-is : (d : Bool) (v : World) → activate d x v ≡ become (begins d) x v
   begin-is true v = refl
@@ -56,23 +63,11 @@ module _ (x : ℕ) where
   begin-item false v = refl
 
   once : (v : World) (l : Bool) → v .transaction .linked ≡ l → linkOnce x v ≡ when (not l) (link x) v
-  once v l q = by (v .transaction .linked) l q
-    where
-      by : (b l : Bool) → b ≡ l → pick b v (link x v) ≡ when (not l) (link x) v
-      by true true h = refl
-      by true false h = cc
-      by false true h = cc
-      by false false h = refl
+  once v l q = unless (link x) v (v .transaction .linked) l q
 
   -- group_end where a group is active
   end-is : (v : World) (same : Bool) → phase x v ≡ Active → eqb (v .lastItem) x ≡ same → groupEnd x v ≡ when (not same) (addItem x) (endGroup x v)
-  end-is v same q h = ap (λ (p : Phase). groupEndAt p x (change x cleared v)) q ∙ by (eqb (v .lastItem) x) same h
-    where
-      by : (b c : Bool) → b ≡ c → pick b (endGroup x v) (addItem x (endGroup x v)) ≡ when (not c) (addItem x) (endGroup x v)
-      by true true h = refl
-      by true false h = cc
-      by false true h = cc
-      by false false h = refl
+  end-is v same q h = ap (λ (p : Phase). groupEndAt p x (change x cleared v)) q ∙ unless (addItem x) (endGroup x v) (eqb (v .lastItem) x) same h
 
   module _ (w : World) where
     cut-at : (p : Phase) → endActive p x w ≡ when (cuts p) (endRow x) w

@@ -8,10 +8,11 @@ use lib.ListN.{length}
 use lib.Seq.{sets, length-sets}
 use Rattle.rows.specs.Sets.{one}
 use Rattle.tables.specs.Link as kind
-use Rattle.tables.specs.Phases.{waiting, closing}
+use Rattle.tables.specs.Phases.{waiting, closing, cleared}
 use Rattle.tables.specs.States.{nextStates, stateBytes}
 use Rattle.rules.specs.World.{moreGroups}
-use Rattle.write.specs.Memory.{Memory, Room, memory, alter, startGroup, lastNumber}
+use Rattle.update.specs.Update.{when}
+use Rattle.write.specs.Memory.{Memory, Room, memory, linkTally, groupTally, itemTally, alter, startGroup, lastNumber}
 use Rattle.write.specs.declared.Tally.{Tally}
 
 pub parts : {d d′ : Tally} {t t′ g g′ s s′ m m′ i i′ l l′ : List ℕ}
@@ -44,3 +45,35 @@ module _ (n x : ℕ) (m : Memory) (r : Room (startGroup n x m)) where
 
   pub room-link : (m .tally .links + 1) * 4 ≤ length (m .links)
   room-link = omega (arith, room-closing, length-sets (m .links) (m .tally .links * 4) (kind.G ∷ x ∷ m .tally .link ∷ 0 ∷ []))
+
+  -- the room of its item, over what the rows before it left
+  pub room-item : {d₁ d₂ : Tally} {t₁ t₂ l₁ : List ℕ} → d₁ ≡ linkTally (m .tally) → l₁ ≡ linked → t₁ ≡ alter x moreGroups (m .table) → d₂ ≡ groupTally n d₁ → t₂ ≡ nextStates t₁ n x true
+      → (d₂ .items + 1 ≤ length (m .items)) × ((d₂ .links + waiting t₂ n) * 4 ≤ length l₁)
+  room-item link-d link-l more row-d row-t = rw (row-d, row-t, more, link-d, link-l) (room-items, room-closing)
+
+-- a start by what each row left: the G row, the endpoint, the start row and the item
+pub start-is : (n x : ℕ) (on : Bool) (a : Memory) {d₁ d₂ d₃ : Tally} {t₁ t₂ t₃ g₂ s₂ m₂ i₃ l₁ l₃ : List ℕ} {nth : ℕ}
+    → on ≡ true
+    → d₁ ≡ linkTally (a .tally)
+    → l₁ ≡ sets (a .links) (a .tally .links * 4) (kind.G ∷ x ∷ a .tally .link ∷ 0 ∷ [])
+    → t₁ ≡ alter x moreGroups (a .table)
+    → nth ≡ lastNumber x t₁
+    → d₂ ≡ groupTally n d₁
+    → t₂ ≡ nextStates t₁ n x true
+    → g₂ ≡ sets (a .groups) (d₁ .groups * 3) (x ∷ nth ∷ one true ∷ [])
+    → s₂ ≡ sets (a .states) (d₁ .states) (d₁ .marks ∷ [])
+    → m₂ ≡ sets (a .marks) (d₁ .marks) (stateBytes (nextStates t₁ n x true) 0 n)
+    → d₃ ≡ itemTally (waiting t₂ n) x d₂
+    → t₃ ≡ cleared t₂ n
+    → i₃ ≡ sets (a .items) (d₂ .items) (pred (d₂ .groups) ∷ [])
+    → l₃ ≡ sets l₁ (d₂ .links * 4) (closing t₂ (d₂ .items) 0 n)
+    → memory d₃ t₃ g₂ s₂ m₂ i₃ l₃ ≡ when on (startGroup n x) a
+start-is n x on a taken link-d link-l more nth row-d row-t row-g row-s row-m item-d item-t item-i item-l =
+    rw taken
+    (parts (item-d ∙ rw (row-t, row-d, more, link-d) refl)
+    (item-t ∙ rw (row-t, more) refl)
+    (row-g ∙ rw (link-d, nth, more) refl)
+    (row-s ∙ rw link-d refl)
+    (row-m ∙ rw (link-d, more) refl)
+    (item-i ∙ rw (row-d, link-d) refl)
+    (item-l ∙ rw (row-d, row-t, link-d, link-l, more) refl))

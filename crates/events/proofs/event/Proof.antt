@@ -1,5 +1,4 @@
 -- `events::event` meets its contract: the first tests (Refuses), and `event_in` past them.
-use borrow.Author.Needs.{needs}
 use borrow.Author.Tests.{ltb-false}
 use Rattle.outcome.specs.State.{State, state, logs}
 use Rattle.events.proofs.Refuses.{first-refuses, first-passes}
@@ -52,8 +51,8 @@ pub event-spec : {M : Type 1} → statement M
 event-spec =
     tie.close
     (tie.spec
-    (λ c κs. search needs)
-    (λ c κs. search needs)
+    (λ c κs. tt)
+    (λ c κs. tt)
     returns
     event-in-requires
     same-length

@@ -1,5 +1,4 @@
 -- `events::finish` meets its contract: the first tests (Refuses), and `finish_in` past them.
-use borrow.Author.Needs.{needs}
 use Rattle.outcome.specs.State.{State, state, logs}
 use Rattle.events.proofs.Refuses.{first-refuses, first-passes}
 use Rattle.events.proofs.finish.Statement.{statement}
@@ -41,8 +40,8 @@ pub finish-spec : {M : Type 1} → statement M
 finish-spec =
     tie.close
     (tie.spec
-    (λ c κs. search needs)
-    (λ c κs. search needs)
+    (λ c κs. tt)
+    (λ c κs. tt)
     returns
     finish-in-requires
     same-length

@@ -4,7 +4,6 @@ use Prim.Native.Nat.{_<_}
 use native.Mathlib.Omega.{arith}
 use mathlib.Core.Bool.{true}
 use mathlib.Core.Path.{_≡_, sym, ap, _∙_}
-use borrow.Author.Needs.{needs}
 use Rattle.transaction.specs.Payload.{startPid}
 use Rattle.write.specs.Memory.{Memory, memory}
 use Rattle.outcome.specs.State.{State, state, logs}
@@ -126,19 +125,19 @@ pub event-in-spec : {M : Type 1} → statement M
 event-in-spec =
     tie.close
     (tie.spec
-    (λ c κs. search needs)
-    (λ c κs. search needs)
+    (λ c κs. tt)
+    (λ c κs. tt)
     decide-requires
     returns
-    (λ c κs. search needs)
-    (λ c κs. search needs)
-    (λ c κs. search needs)
-    (λ c κs. search needs)
-    (λ c κs. search needs)
+    (λ c κs. tt)
+    (λ c κs. tt)
+    (λ c κs. tt)
+    (λ c κs. tt)
+    (λ c κs. tt)
     settle-requires
     put-event-requires
     event-rows-requires
-    (λ c κs. search needs)
+    (λ c κs. tt)
     same-length
     same-length-2
     same-length-3

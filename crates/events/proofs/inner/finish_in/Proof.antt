@@ -2,7 +2,6 @@
 use Prim.Native.Nat.{_<_}
 use native.Mathlib.Omega.{arith}
 use mathlib.Core.Path.{sym, ap, _∙_}
-use borrow.Author.Needs.{needs}
 use Rattle.write.specs.Memory.{memory}
 use Rattle.outcome.specs.State.{State, state, logs}
 use Rattle.events.specs.declared.sum.Sum.{Sum}
@@ -68,15 +67,15 @@ pub finish-in-spec : {M : Type 1} → statement M
 finish-in-spec =
     tie.close
     (tie.spec
-    (λ c κs. search needs)
-    (λ c κs. search needs)
+    (λ c κs. tt)
+    (λ c κs. tt)
     plan-ending-requires
     sum-finish-requires
     returns
-    (λ c κs. search needs)
-    (λ c κs. search needs)
+    (λ c κs. tt)
+    (λ c κs. tt)
     end-here-requires
-    (λ c κs. search needs)
+    (λ c κs. tt)
     same-length
     same-length-2
     same-length-3

@@ -35,7 +35,7 @@ put3-if-requires : tie.Need-put3-if-requires
 put3-if-requires c κs = row3-fits (c .before .before .before .before .before .before .before .before .before .before .before .before .before .before .args .s .endpoint) (c .before .before .before .before .before .before .before .before .before .before .before .before .before .before .args .s .place) (numberOf (c .before .before .before .before .before .before .before .before .before .before .before .before .before .before .args .s .number)) (c .before .before .before .before .before .before .before .before .before .before .before .before .before .before .args .s .number / 128) (c .before .before .before .before .before .before .before .before .before .before .before .before .before .before .args .h .endpoints) (c .before .before .before .before .before .before .before .before .before .before .before .before .before .before .args .endpoints .now) (c .before .before .before .before .before .before .before .before .before .before .before .before .before .before .pre .1 .endpoints)
 
 entry-if-requires : tie.Need-entry-if-requires
-entry-if-requires c κs = search needs
+entry-if-requires c κs = c .before .before .before .before .before .before .before .before .before .before .before .before .before .before .before .before .before .before .pre .0
 
 same-length : tie.Need-same-length
 same-length c = search needs

@@ -1,21 +1,20 @@
 -- `perform::leaf::opened_hand` meets its contract: field by field.
 use mathlib.Core.Path.{refl}
 use Rattle.perform.proofs.Parts.{hands}
-use borrow.Author.Needs.{needs}
 use Rattle.perform.proofs.leaf.opened_hand.Statement.{statement}
 use Rattle.perform.proofs.leaf.opened_hand.Tie as tie
 
 tied-to-requires : tie.Need-tied-to-requires
-tied-to-requires c κs = search needs
+tied-to-requires c κs = tt
 
 more-requires : tie.Need-more-requires
-more-requires c κs = search needs
+more-requires c κs = c .before .pre .0
 
 more-requires-2 : tie.Need-more-requires-2
-more-requires-2 c κs = search needs
+more-requires-2 c κs = c .before .before .pre .1 .0
 
 more-requires-3 : tie.Need-more-requires-3
-more-requires-3 c κs = search needs
+more-requires-3 c κs = c .before .before .before .pre .1 .1
 
 returns : tie.Need-returns
 returns c = hands (c .before .before .before .tied-to .ensures) (c .before .before .more .ensures) (c .before .more2 .ensures) (c .more3 .ensures) refl

@@ -5,19 +5,19 @@ use Rattle.perform.proofs.leaf.total_row.Statement.{statement}
 use Rattle.perform.proofs.leaf.total_row.Tie as tie
 
 load-requires : tie.Need-load-requires
-load-requires c κs = search needs
+load-requires c κs = c .before .before .before .pre .0
 
 row-of-requires : tie.Need-row-of-requires
-row-of-requires c κs = search needs
+row-of-requires c κs = tt
 
 note-requires : tie.Need-note-requires
-note-requires c κs = search needs
+note-requires c κs = (c .before .before .before .before .before .before .pre .0, c .before .before .before .before .before .before .pre .1 .0)
 
 link-row-requires : tie.Need-link-row-requires
-link-row-requires c κs = search needs
+link-row-requires c κs = c .before .before .before .before .before .before .before .before .pre .1 .1
 
 with-tally-requires : tie.Need-with-tally-requires
-with-tally-requires c κs = search needs
+with-tally-requires c κs = tt
 
 same-length : tie.Need-same-length
 same-length c = search needs

@@ -1,99 +1,117 @@
 -- `tables::entry::store` meets its contract: seventeen stores one behind the other are the run of the entry's words.
-use Prim.Native.Nat.{ℕ, suc, _+_, _*_}
-use native.Mathlib.Omega.{arith}
-use mathlib.Core.Path.{_≡_}
+use Prim.Native.Nat.{ℕ, zero, suc, _+_, _*_, _<_}
+use native.Mathlib.Nat.{add-zero, add-suc}
+use mathlib.Core.Path.{_≡_, refl, ap, _∙_}
+use mathlib.Core.Bool.{true}
+use mathlib.Core.List.{List, [], _∷_}
+use lib.Dec.{ltb}
+use lib.ListN.{set}
+use lib.Seq.{sets}
+use mir.Syntax.{w64}
+use mir.Val.{Fits}
 use borrow.Author.Needs.{needs}
 use Rattle.tables.specs.Table.{storeAt}
 use Rattle.tables.specs.Word as word
+use Rattle.tables.proofs.Places.{row-fits, place-fits, bytes-fit, place-inside}
 use Rattle.tables.proofs.entry.store.Statement.{statement}
 use Rattle.tables.proofs.entry.store.Tie as tie
+
+-- stores at b + k, b + k + 1, .., as the code reckons the places
+abbrev stores : List ℕ → ℕ → ℕ → List ℕ → List ℕ
+stores t b k [] = t
+stores t b k (x ∷ xs) = stores (set t (b + k) x) b (suc k) xs
+
+stores-sets : (t : List ℕ) (b k : ℕ) (xs : List ℕ) → stores t b k xs ≡ sets t (b + k) xs
+stores-sets t b k [] = λ _. t
+stores-sets t b k (x ∷ xs) = stores-sets (set t (b + k) x) b (suc k) xs ∙ ap (λ (at : ℕ). sets (set t (b + k) x) at xs) (add-suc b k)
 
 returns : tie.Need-returns
 unfolding storeAt
 returns c =
-    let b : ℕ = c .before .before .before .before .before .before .before .before .before .args .i * word.width in
-    let e0 : b + 0 ≡ b = omega arith in
-    let e1 : b + 1 ≡ suc b = omega arith in
-    let e2 : b + 2 ≡ suc (suc b) = omega arith in
-    let e3 : b + 3 ≡ suc (suc (suc b)) = omega arith in
-    let e4 : b + 4 ≡ suc (suc (suc (suc b))) = omega arith in
-    let e5 : b + 5 ≡ suc (suc (suc (suc (suc b)))) = omega arith in
-    let e6 : b + 6 ≡ suc (suc (suc (suc (suc (suc b))))) = omega arith in
-    let e7 : b + 7 ≡ suc (suc (suc (suc (suc (suc (suc b)))))) = omega arith in
-    let e8 : b + 8 ≡ suc (suc (suc (suc (suc (suc (suc (suc b))))))) = omega arith in
-    let e9 : b + 9 ≡ suc (suc (suc (suc (suc (suc (suc (suc (suc b)))))))) = omega arith in
-    let e10 : b + 10 ≡ suc (suc (suc (suc (suc (suc (suc (suc (suc (suc b))))))))) = omega arith in
-    let e11 : b + 11 ≡ suc (suc (suc (suc (suc (suc (suc (suc (suc (suc (suc b)))))))))) = omega arith in
-    let e12 : b + 12 ≡ suc (suc (suc (suc (suc (suc (suc (suc (suc (suc (suc (suc b))))))))))) = omega arith in
-    let e13 : b + 13 ≡ suc (suc (suc (suc (suc (suc (suc (suc (suc (suc (suc (suc (suc b)))))))))))) = omega arith in
-    let e14 : b + 14 ≡ suc (suc (suc (suc (suc (suc (suc (suc (suc (suc (suc (suc (suc (suc b))))))))))))) = omega arith in
-    let e15 : b + 15 ≡ suc (suc (suc (suc (suc (suc (suc (suc (suc (suc (suc (suc (suc (suc (suc b)))))))))))))) = omega arith in
-    let e16 : b + 16 ≡ suc (suc (suc (suc (suc (suc (suc (suc (suc (suc (suc (suc (suc (suc (suc (suc b))))))))))))))) = omega arith in
-    simp (e0, e1, e2, e3, e4, e5, e6, e7, e8, e9, e10, e11, e12, e13, e14, e15, e16, c .flag-word4 .ensures, c .before .flag-word3 .ensures, c .before .before .flag-word2 .ensures, c .before .before .before .before .flag-word .ensures, c .before .before .before .before .before .before .before .phase-word .ensures)
+    let s = c .before .before .before .before .before .before .before .before .before .args in
+    let e = s .e in
+    let b : ℕ = s .i * word.width in
+    let phase = c .before .before .before .before .before .before .before .phase-word in
+    let done = c .before .before .before .before .flag-word in
+    let success = c .before .before .flag-word2 in
+    let ready = c .before .flag-word3 in
+    let waits = c .flag-word4 in
+    stores-sets (s .table .now) b 0 (e .device ∷ e .address ∷ phase .result ∷ e .state ∷ e .transactions ∷ e .groups ∷ e .total ∷ e .first ∷ done .result ∷ e .last ∷ success .result ∷ ready .result ∷ e .setup ∷ e .payload ∷ waits .result ∷ e .waiting ∷ e .waiter ∷ [])
+    ∙ λ i. sets (s .table .now) (add-zero b i) (e .device ∷ e .address ∷ phase .ensures i ∷ e .state ∷ e .transactions ∷ e .groups ∷ e .total ∷ e .first ∷ done .ensures i ∷ e .last ∷ success .ensures i ∷ ready .ensures i ∷ e .setup ∷ e .payload ∷ waits .ensures i ∷ e .waiting ∷ e .waiter ∷ [])
+
+module _ (k : ℕ) (g : ltb k 17 ≡ true) (c : tie.Start) where
+  fits : Fits w64 (c .args .i * 17 + k)
+  fits = place-fits (c .args .i) (c .pre) k g
+
+  bytes : Fits w64 ((c .args .i * 17 + k) * 8)
+  bytes = bytes-fit (c .args .i) (c .pre) k g
+
+  inside : c .args .i * 17 + k < 2176
+  inside = place-inside (c .args .i) (c .pre) k g
 
 pub store-spec : {M : Type 1} → statement M
 store-spec =
     tie.close
     (tie.spec
+    (λ c. row-fits (c .args .i) (c .pre))
+    (λ c. fits 0 refl c)
+    (λ c. bytes 0 refl c)
+    (λ c. inside 0 refl c)
     (λ c. search needs)
+    (λ c. fits 1 refl (c .before))
+    (λ c. bytes 1 refl (c .before))
+    (λ c. inside 1 refl (c .before))
+    (λ c κs. tt)
+    (λ c. fits 2 refl (c .before .before))
+    (λ c. bytes 2 refl (c .before .before))
+    (λ c. inside 2 refl (c .before .before))
     (λ c. search needs)
+    (λ c. fits 3 refl (c .before .before .before))
+    (λ c. bytes 3 refl (c .before .before .before))
+    (λ c. inside 3 refl (c .before .before .before))
+    (λ c. fits 4 refl (c .before .before .before))
+    (λ c. bytes 4 refl (c .before .before .before))
+    (λ c. inside 4 refl (c .before .before .before))
+    (λ c. fits 5 refl (c .before .before .before))
+    (λ c. bytes 5 refl (c .before .before .before))
+    (λ c. inside 5 refl (c .before .before .before))
+    (λ c. fits 6 refl (c .before .before .before))
+    (λ c. bytes 6 refl (c .before .before .before))
+    (λ c. inside 6 refl (c .before .before .before))
     (λ c. search needs)
+    (λ c. fits 7 refl (c .before .before .before .before))
+    (λ c. bytes 7 refl (c .before .before .before .before))
+    (λ c. inside 7 refl (c .before .before .before .before))
+    (λ c κs. tt)
+    (λ c. fits 8 refl (c .before .before .before .before .before))
+    (λ c. bytes 8 refl (c .before .before .before .before .before))
+    (λ c. inside 8 refl (c .before .before .before .before .before))
     (λ c. search needs)
-    (λ c. search needs)
-    (λ c. search needs)
-    (λ c. search needs)
-    (λ c. search needs)
-    (λ c. search needs)
-    (λ c. search needs)
-    (λ c. search needs)
-    (λ c. search needs)
-    (λ c. search needs)
-    (λ c. search needs)
-    (λ c. search needs)
-    (λ c. search needs)
-    (λ c. search needs)
-    (λ c. search needs)
-    (λ c. search needs)
-    (λ c. search needs)
-    (λ c. search needs)
-    (λ c. search needs)
-    (λ c. search needs)
-    (λ c. search needs)
-    (λ c. search needs)
-    (λ c. search needs)
-    (λ c. search needs)
-    (λ c. search needs)
-    (λ c. search needs)
-    (λ c. search needs)
-    (λ c. search needs)
-    (λ c. search needs)
-    (λ c. search needs)
-    (λ c. search needs)
-    (λ c. search needs)
-    (λ c. search needs)
-    (λ c. search needs)
-    (λ c. search needs)
-    (λ c. search needs)
-    (λ c. search needs)
-    (λ c. search needs)
-    (λ c. search needs)
-    (λ c. search needs)
-    (λ c. search needs)
-    (λ c. search needs)
-    (λ c. search needs)
-    (λ c. search needs)
-    (λ c. search needs)
-    (λ c. search needs)
-    (λ c. search needs)
-    (λ c. search needs)
-    (λ c. search needs)
-    (λ c. search needs)
-    (λ c. search needs)
-    (λ c. search needs)
-    (λ c. search needs)
-    (λ c. search needs)
-    (λ c. search needs)
-    (λ c. search needs)
-    (λ c. search needs)
-    (λ c. search needs)
+    (λ c. fits 9 refl (c .before .before .before .before .before .before))
+    (λ c. bytes 9 refl (c .before .before .before .before .before .before))
+    (λ c. inside 9 refl (c .before .before .before .before .before .before))
+    (λ c κs. tt)
+    (λ c. fits 10 refl (c .before .before .before .before .before .before .before))
+    (λ c. bytes 10 refl (c .before .before .before .before .before .before .before))
+    (λ c. inside 10 refl (c .before .before .before .before .before .before .before))
+    (λ c κs. tt)
+    (λ c. fits 11 refl (c .before .before .before .before .before .before .before .before))
+    (λ c. bytes 11 refl (c .before .before .before .before .before .before .before .before))
+    (λ c. inside 11 refl (c .before .before .before .before .before .before .before .before))
+    (λ c. fits 12 refl (c .before .before .before .before .before .before .before .before))
+    (λ c. bytes 12 refl (c .before .before .before .before .before .before .before .before))
+    (λ c. inside 12 refl (c .before .before .before .before .before .before .before .before))
+    (λ c. fits 13 refl (c .before .before .before .before .before .before .before .before))
+    (λ c. bytes 13 refl (c .before .before .before .before .before .before .before .before))
+    (λ c. inside 13 refl (c .before .before .before .before .before .before .before .before))
+    (λ c κs. tt)
+    (λ c. fits 14 refl (c .before .before .before .before .before .before .before .before .before))
+    (λ c. bytes 14 refl (c .before .before .before .before .before .before .before .before .before))
+    (λ c. inside 14 refl (c .before .before .before .before .before .before .before .before .before))
+    (λ c. fits 15 refl (c .before .before .before .before .before .before .before .before .before))
+    (λ c. bytes 15 refl (c .before .before .before .before .before .before .before .before .before))
+    (λ c. inside 15 refl (c .before .before .before .before .before .before .before .before .before))
+    (λ c. fits 16 refl (c .before .before .before .before .before .before .before .before .before))
+    (λ c. bytes 16 refl (c .before .before .before .before .before .before .before .before .before))
+    (λ c. inside 16 refl (c .before .before .before .before .before .before .before .before .before))
     returns)

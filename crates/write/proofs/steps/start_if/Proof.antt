@@ -1,25 +1,37 @@
 -- `write::steps::start_if` meets its contract: G row, start row and item, each over the table and the tally that the one before leaves.
-use Rattle.write.proofs.Parts.{parts, room-groups, room-states, room-marks, room-items, room-closing, room-link}
-use Rattle.write.specs.Memory.{memory}
+use mathlib.Core.Bool.{true}
+use mathlib.Core.Path.{_≡_, _∙_}
 use borrow.Author.Needs.{needs}
-use mathlib.Core.Path.{refl, _∙_}
+use Rattle.write.specs.Memory.{Memory, Room, memory, startGroup}
+use Rattle.write.proofs.Parts.{room-groups, room-states, room-marks, room-link, room-item, start-is}
 use Rattle.write.proofs.steps.start_if.Statement.{statement}
 use Rattle.write.proofs.steps.start_if.Tie as tie
 
+-- what is lent at the start, and its room
+abbrev lent : tie.Start → Memory
+lent s = memory (s .args .d) (s .args .table .now) (s .args .groups .now) (s .args .states .now) (s .args .marks .now) (s .args .items .now) (s .args .links .now)
+
+room : (s : tie.Start) → s .args .on ≡ true → Room (startGroup (s .args .n) (s .args .x) (lent s))
+room s q = rw q at (s .pre .1 .1 .1)
+
 link-row-requires : tie.Need-link-row-requires
-link-row-requires c κs = room-link (c .before .before .before .before .before .before .before .args .n) (c .before .before .before .before .before .before .before .args .x) (memory (c .before .before .before .before .before .before .before .args .d) (c .before .before .before .before .before .before .before .args .table .now) (c .before .before .before .before .before .before .before .args .groups .now) (c .before .before .before .before .before .before .before .args .states .now) (c .before .before .before .before .before .before .before .args .marks .now) (c .before .before .before .before .before .before .before .args .items .now) (c .before .before .before .before .before .before .before .args .links .now)) (rw (c .before .if1 .taken) at (c .before .before .before .before .before .before .before .pre .1 .1 .1))
+link-row-requires c κs = let s = c .before .before .before .before .before .before .before in room-link (s .args .n) (s .args .x) (lent s) (room s (c .before .if1 .taken))
 
 more-groups-requires : tie.Need-more-groups-requires
-more-groups-requires c κs = (c .before .before .before .before .before .before .before .before .before .before .before .pre .1 .0, rw (c .before .before .before .before .before .if1 .taken) at (c .before .before .before .before .before .before .before .before .before .before .before .pre .1 .1 .0))
+more-groups-requires c κs = let s = c .before .before .before .before .before .before .before .before .before .before .before in (s .pre .1 .0, rw (c .before .before .before .before .before .if1 .taken) at (s .pre .1 .1 .0))
 
 group-row-requires : tie.Need-group-row-requires
-group-row-requires c κs = rw (c .before .before .before .before .before .before .before .before .before .before .link-row .ensures .0) (c .before .before .before .before .before .before .before .before .before .before .before .before .before .before .before .before .before .before .pre .0, (room-groups (c .before .before .before .before .before .before .before .before .before .before .before .before .before .before .before .before .before .before .args .n) (c .before .before .before .before .before .before .before .before .before .before .before .before .before .before .before .before .before .before .args .x) (memory (c .before .before .before .before .before .before .before .before .before .before .before .before .before .before .before .before .before .before .args .d) (c .before .before .before .before .before .before .before .before .before .before .before .before .before .before .before .before .before .before .args .table .now) (c .before .before .before .before .before .before .before .before .before .before .before .before .before .before .before .before .before .before .args .groups .now) (c .before .before .before .before .before .before .before .before .before .before .before .before .before .before .before .before .before .before .args .states .now) (c .before .before .before .before .before .before .before .before .before .before .before .before .before .before .before .before .before .before .args .marks .now) (c .before .before .before .before .before .before .before .before .before .before .before .before .before .before .before .before .before .before .args .items .now) (c .before .before .before .before .before .before .before .before .before .before .before .before .before .before .before .before .before .before .args .links .now)) (rw (c .before .before .before .before .before .before .before .before .before .before .before .before .if1 .taken) at (c .before .before .before .before .before .before .before .before .before .before .before .before .before .before .before .before .before .before .pre .1 .1 .1)), (room-states (c .before .before .before .before .before .before .before .before .before .before .before .before .before .before .before .before .before .before .args .n) (c .before .before .before .before .before .before .before .before .before .before .before .before .before .before .before .before .before .before .args .x) (memory (c .before .before .before .before .before .before .before .before .before .before .before .before .before .before .before .before .before .before .args .d) (c .before .before .before .before .before .before .before .before .before .before .before .before .before .before .before .before .before .before .args .table .now) (c .before .before .before .before .before .before .before .before .before .before .before .before .before .before .before .before .before .before .args .groups .now) (c .before .before .before .before .before .before .before .before .before .before .before .before .before .before .before .before .before .before .args .states .now) (c .before .before .before .before .before .before .before .before .before .before .before .before .before .before .before .before .before .before .args .marks .now) (c .before .before .before .before .before .before .before .before .before .before .before .before .before .before .before .before .before .before .args .items .now) (c .before .before .before .before .before .before .before .before .before .before .before .before .before .before .before .before .before .before .args .links .now)) (rw (c .before .before .before .before .before .before .before .before .before .before .before .before .if1 .taken) at (c .before .before .before .before .before .before .before .before .before .before .before .before .before .before .before .before .before .before .pre .1 .1 .1)), room-marks (c .before .before .before .before .before .before .before .before .before .before .before .before .before .before .before .before .before .before .args .n) (c .before .before .before .before .before .before .before .before .before .before .before .before .before .before .before .before .before .before .args .x) (memory (c .before .before .before .before .before .before .before .before .before .before .before .before .before .before .before .before .before .before .args .d) (c .before .before .before .before .before .before .before .before .before .before .before .before .before .before .before .before .before .before .args .table .now) (c .before .before .before .before .before .before .before .before .before .before .before .before .before .before .before .before .before .before .args .groups .now) (c .before .before .before .before .before .before .before .before .before .before .before .before .before .before .before .before .before .before .args .states .now) (c .before .before .before .before .before .before .before .before .before .before .before .before .before .before .before .before .before .before .args .marks .now) (c .before .before .before .before .before .before .before .before .before .before .before .before .before .before .before .before .before .before .args .items .now) (c .before .before .before .before .before .before .before .before .before .before .before .before .before .before .before .before .before .before .args .links .now)) (rw (c .before .before .before .before .before .before .before .before .before .before .before .before .if1 .taken) at (c .before .before .before .before .before .before .before .before .before .before .before .before .before .before .before .before .before .before .pre .1 .1 .1)))))
+group-row-requires c κs =
+    let s = c .before .before .before .before .before .before .before .before .before .before .before .before .before .before .before .before .before .before in
+    let r = room s (c .before .before .before .before .before .before .before .before .before .before .before .before .if1 .taken) in
+    rw (c .before .before .before .before .before .before .before .before .before .before .link-row .ensures .0) (s .pre .0, (room-groups (s .args .n) (s .args .x) (lent s) r, (room-states (s .args .n) (s .args .x) (lent s) r, room-marks (s .args .n) (s .args .x) (lent s) r)))
 
 item-row-requires : tie.Need-item-row-requires
 item-row-requires c κs =
+    let s = c .before .before .before .before .before .before .before .before .before .before .before .before .before .before .before .before .before .before .before .before .before .before .before .before .before .before .before .before in
     let link = c .before .before .before .before .before .before .before .before .before .before .before .before .before .before .before .before .before .before .before .before .link-row .ensures in
     let row = c .before .before .before .before .before .before .before .before .before .group-row .ensures in
-    rw (row .0, row .1 .0, c .before .before .before .before .before .before .before .before .before .before .before .before .before .before .before .before .more-groups .ensures, link .0, link .1) (c .before .before .before .before .before .before .before .before .before .before .before .before .before .before .before .before .before .before .before .before .before .before .before .before .before .before .before .before .pre .0, (room-items (c .before .before .before .before .before .before .before .before .before .before .before .before .before .before .before .before .before .before .before .before .before .before .before .before .before .before .before .before .args .n) (c .before .before .before .before .before .before .before .before .before .before .before .before .before .before .before .before .before .before .before .before .before .before .before .before .before .before .before .before .args .x) (memory (c .before .before .before .before .before .before .before .before .before .before .before .before .before .before .before .before .before .before .before .before .before .before .before .before .before .before .before .before .args .d) (c .before .before .before .before .before .before .before .before .before .before .before .before .before .before .before .before .before .before .before .before .before .before .before .before .before .before .before .before .args .table .now) (c .before .before .before .before .before .before .before .before .before .before .before .before .before .before .before .before .before .before .before .before .before .before .before .before .before .before .before .before .args .groups .now) (c .before .before .before .before .before .before .before .before .before .before .before .before .before .before .before .before .before .before .before .before .before .before .before .before .before .before .before .before .args .states .now) (c .before .before .before .before .before .before .before .before .before .before .before .before .before .before .before .before .before .before .before .before .before .before .before .before .before .before .before .before .args .marks .now) (c .before .before .before .before .before .before .before .before .before .before .before .before .before .before .before .before .before .before .before .before .before .before .before .before .before .before .before .before .args .items .now) (c .before .before .before .before .before .before .before .before .before .before .before .before .before .before .before .before .before .before .before .before .before .before .before .before .before .before .before .before .args .links .now)) (rw (c .before .before .before .before .before .before .before .before .before .before .before .before .before .before .before .before .before .before .before .before .before .before .if1 .taken) at (c .before .before .before .before .before .before .before .before .before .before .before .before .before .before .before .before .before .before .before .before .before .before .before .before .before .before .before .before .pre .1 .1 .1)), room-closing (c .before .before .before .before .before .before .before .before .before .before .before .before .before .before .before .before .before .before .before .before .before .before .before .before .before .before .before .before .args .n) (c .before .before .before .before .before .before .before .before .before .before .before .before .before .before .before .before .before .before .before .before .before .before .before .before .before .before .before .before .args .x) (memory (c .before .before .before .before .before .before .before .before .before .before .before .before .before .before .before .before .before .before .before .before .before .before .before .before .before .before .before .before .args .d) (c .before .before .before .before .before .before .before .before .before .before .before .before .before .before .before .before .before .before .before .before .before .before .before .before .before .before .before .before .args .table .now) (c .before .before .before .before .before .before .before .before .before .before .before .before .before .before .before .before .before .before .before .before .before .before .before .before .before .before .before .before .args .groups .now) (c .before .before .before .before .before .before .before .before .before .before .before .before .before .before .before .before .before .before .before .before .before .before .before .before .before .before .before .before .args .states .now) (c .before .before .before .before .before .before .before .before .before .before .before .before .before .before .before .before .before .before .before .before .before .before .before .before .before .before .before .before .args .marks .now) (c .before .before .before .before .before .before .before .before .before .before .before .before .before .before .before .before .before .before .before .before .before .before .before .before .before .before .before .before .args .items .now) (c .before .before .before .before .before .before .before .before .before .before .before .before .before .before .before .before .before .before .before .before .before .before .before .before .before .before .before .before .args .links .now)) (rw (c .before .before .before .before .before .before .before .before .before .before .before .before .before .before .before .before .before .before .before .before .before .before .if1 .taken) at (c .before .before .before .before .before .before .before .before .before .before .before .before .before .before .before .before .before .before .before .before .before .before .before .before .before .before .before .before .pre .1 .1 .1))))
+    (s .pre .0, room-item (s .args .n) (s .args .x) (lent s) (room s (c .before .before .before .before .before .before .before .before .before .before .before .before .before .before .before .before .before .before .before .before .before .before .if1 .taken)) (link .0) (link .1) (c .before .before .before .before .before .before .before .before .before .before .before .before .before .before .before .before .more-groups .ensures) (row .0) (row .1 .0))
 
 same-length : tie.Need-same-length
 same-length c = c .before .before .before .before .before .before .before .before .before .before .before .before .before .before .group-row .kept .1 .1 .1 .1 .1 .1 .0
@@ -38,19 +50,11 @@ same-length-5 c = c .before .before .before .before .item-row .kept .1 .1 .1 .1 
 
 returns : tie.Need-returns
 returns c =
+    let s = c .before .before .before .before .before .before .before .before .before .before .before .before .before .before .before .before .before .before .before .before .before .before .before .before .before .before .before .before .before .before .before .before .before in
     let item = c .before .before .before .before .item-row .ensures in
     let row = c .before .before .before .before .before .before .before .before .before .before .before .before .before .before .group-row .ensures in
-    let nth = c .before .before .before .before .before .before .before .before .before .before .before .before .before .before .before .before .before .before .before .last-group .ensures in
-    let more = c .before .before .before .before .before .before .before .before .before .before .before .before .before .before .before .before .before .before .before .before .before .more-groups .ensures in
     let link = c .before .before .before .before .before .before .before .before .before .before .before .before .before .before .before .before .before .before .before .before .before .before .before .before .before .link-row .ensures in
-    rw (c .before .before .before .before .before .before .before .before .before .before .before .before .before .before .before .before .before .before .before .before .before .before .before .before .before .before .before .if1 .taken)
-    (parts (item .0 ∙ rw (row .1 .0, row .0, more, link .0) refl)
-    (item .1 .0 ∙ rw (row .1 .0, more) refl)
-    (row .1 .1 .0 ∙ rw (link .0, nth, more) refl)
-    (row .1 .1 .1 .0 ∙ rw (link .0) refl)
-    (row .1 .1 .1 .1 ∙ rw (link .0, more) refl)
-    (item .1 .1 .0 ∙ rw (row .0, link .0) refl)
-    (item .1 .1 .1 ∙ rw (row .0, row .1 .0, link .0, link .1, more) refl))
+    start-is (s .args .n) (s .args .x) (s .args .on) (lent s) (c .before .before .before .before .before .before .before .before .before .before .before .before .before .before .before .before .before .before .before .before .before .before .before .before .before .before .before .if1 .taken) (link .0) (link .1) (c .before .before .before .before .before .before .before .before .before .before .before .before .before .before .before .before .before .before .before .before .before .more-groups .ensures) (c .before .before .before .before .before .before .before .before .before .before .before .before .before .before .before .before .before .before .before .last-group .ensures) (row .0) (row .1 .0) (row .1 .1 .0) (row .1 .1 .1 .0) (row .1 .1 .1 .1) (item .0) (item .1 .0) (item .1 .1 .0) (item .1 .1 .1)
 
 returns-2 : tie.Need-returns-2
 returns-2 c = rw (c .if1 .left)
