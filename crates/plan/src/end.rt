@@ -106,7 +106,7 @@ pub fn last_ended(ends: bool, end: End, x: usize, last: usize) -> usize
     }
 }
 
-// The end of the packet's own transaction.
+// The end of the packet's own transaction, decided from what its step leaves.
 fn close_of(m: Middle, last: usize, success: bool, complete: bool) -> End
     requires { ⌜ Small (2 ^ 62) (m .entry) ⌝ }
     ensures { λ r. ⌜ r ≡ closeOf m last success complete ⌝ }
@@ -124,7 +124,7 @@ fn close_of(m: Middle, last: usize, success: bool, complete: bool) -> End
     end_of(x, e, t, detail, last, success, complete)
 }
 
-// And where it ends.
+// The same where it ends; else nothing is done.
 pub fn close_if(closes: bool, m: Middle, last: usize, success: bool, complete: bool) -> End
     requires { ⌜ Small (2 ^ 62) (m .entry) ⌝ }
     ensures { λ r. ⌜ r ≡ endIf closes (closeOf m last success complete) (m .entry) ⌝ }

@@ -47,7 +47,7 @@ pub fn old_entry(d: Decoder, table: &[u64; 2176]) -> Endpoint
     load(table, old_endpoint(slot, held))
 }
 
-// By the row of the device that was found, and that of the device that the old transaction's endpoint is on.
+// By the row of the device that was found, the number in the packet's token, and the details of the old transaction's endpoint.
 pub fn near_of(found: Found, number: u8, row: Device, old: Detail) -> Near
     requires { ⌜ number < 16 ⌝ }
     ensures { λ r. ⌜ r ≡ nearBy found number row old ⌝ }
