@@ -1,4 +1,4 @@
--- What packet_in asks of the devices, which it is not given: the rows that it goes by are taken from devices with which the state is not ill.
+-- What packet_in asks of the devices, which it is not given: what it goes by (plan, Near) is taken from devices with which the state is not ill.
 use mathlib.Core.Path.{_≡_}
 use mathlib.Core.Bool.{false}
 use mathlib.Core.List.{List}

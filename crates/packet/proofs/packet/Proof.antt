@@ -41,7 +41,7 @@ look-requires c κs =
     let w = sound (lent a) (p .ill) in
     ready (a .args .d) (a .args .devices) (a .args .table .now) (roomOf (lent a .logs)) (w .0) (w .1)
 
--- the rows are taken from the devices
+-- what packet_in goes by is taken from the devices
 lends : (c : tie.After-look) → Lent (c .look .result) (c .before .before .before .before .before .before .before .before .before .before .before .before .before .before .before .before .before .before .before .args .packet .now) (c .before .before .before .before .before .before .before .before .before .before .before .before .before .before .before .before .before .before .before .args .d) (c .before .before .before .before .before .before .before .before .before .before .before .before .before .before .before .before .before .before .before .args .devices) (c .before .before .before .before .before .before .before .before .before .before .before .before .before .before .before .before .before .before .before .args .table .now) (lent (c .before .before .before .before .before .before .before .before .before .before .before .before .before .before .before .before .before .before .before) .logs)
 lends c = record { ill = passed c .ill; many = many (c .before .before .before .before .before .before .before .before .before .before .before .before .before .before .before .before .before .before .before); seen = c .look .ensures }
 

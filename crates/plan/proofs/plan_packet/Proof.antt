@@ -1,4 +1,4 @@
--- `plan_packet` meets its contract: the rows are taken from the devices.
+-- `plan_packet` meets its contract: what it goes by is taken from the devices.
 use Rattle.plan.proofs.plan_packet.Statement.{statement}
 use Rattle.plan.proofs.plan_packet.Tie as tie
 

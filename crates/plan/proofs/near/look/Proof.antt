@@ -1,4 +1,4 @@
--- `look` meets its contract: each row is one of the devices.
+-- `look` meets its contract: the details are read off rows of the devices.
 use mathlib.Core.Path.{_≡_, refl, ap, _∙_}
 use Prim.Native.Nat.{ℕ, _<_}
 use native.Mathlib.Omega.{arith}
