@@ -16,7 +16,7 @@ macro_rules! entries {
                 events: *const u64, events_len: usize,
                 transactions: *mut u64, transactions_len: usize,
                 groups: *mut u64, groups_len: usize,
-                marks: *mut u8, marks_len: usize,
+                statebytes: *mut u8, statebytes_len: usize,
                 states: *mut u64, states_len: usize,
                 items: *mut u64, items_len: usize,
                 links: *mut u64, links_len: usize,
@@ -214,7 +214,7 @@ fn trace(packets: &[Vec<u8>]) -> Vec<u8> {
 struct Logs {
     table: Vec<u64>,
     bytes: Vec<u8>,
-    marks: Vec<u8>,
+    statebytes: Vec<u8>,
     words: Vec<Vec<u64>>,
 }
 
@@ -223,7 +223,7 @@ impl Logs {
     fn fresh(bytes: usize) -> Logs {
         let rows = [64, 3 * 128, 2, 0, 1, 6, 2, 2, 16, 1];
         let words = rows.iter().enumerate().map(|(k, n)| vec![0; if k < 2 { *n } else { n * PACKETS }]).collect();
-        Logs { table: vec![0; 2176], bytes: vec![0; bytes], marks: vec![0; 64 * PACKETS], words }
+        Logs { table: vec![0; 2176], bytes: vec![0; bytes], statebytes: vec![0; 64 * PACKETS], words }
     }
 
     fn run(&mut self, inner: bool, input: &[u8]) -> u64 {
@@ -236,7 +236,7 @@ impl Logs {
                 self.table.as_mut_ptr(),
                 self.bytes.as_mut_ptr(), self.bytes.len(),
                 w[0].0, w[0].1, w[1].0, w[1].1, w[2].0, w[2].1, w[3].0, w[3].1, w[4].0, w[4].1, w[5].0, w[5].1,
-                self.marks.as_mut_ptr(), self.marks.len(),
+                self.statebytes.as_mut_ptr(), self.statebytes.len(),
                 w[6].0, w[6].1, w[7].0, w[7].1, w[8].0, w[8].1, w[9].0, w[9].1,
             )
         }

@@ -71,7 +71,7 @@ pub const KINDS: [(&str, fn(&mut Bench)); 16] = [
 ];
 
 /// Kinds that the comparison plays besides, to reach what the scenes above seldom do. They stand apart, since traces/ and the runs of
-/// crates/rules are made of the others.
+/// crates/runs are made of the others.
 pub const EXTRA: [(&str, fn(&mut Bench)); 4] =
     [("walk", Bench::walk), ("stages", Bench::stages), ("transfers", Bench::transfers), ("crowd", Bench::crowd)];
 

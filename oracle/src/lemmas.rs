@@ -1,4 +1,4 @@
-//! Runs of the Rust as lemmas of the crate `rules`: the calls, and the words that they leave in each of the twelve logs.
+//! Runs of the Rust as lemmas of the crate `runs`: the calls, and the words that they leave in each of the twelve logs.
 
 use std::fmt::Write;
 
@@ -32,16 +32,16 @@ use Rattle.usb.specs.Bits.{after}
 use Rattle.usb.specs.Packet.{formatOf, tokenOk, splitOk, dataOk, handshakeOk, formatOk, checkedOf}
 use Rattle.transaction.specs.Status.{transactionStatus}
 use Rattle.transaction.specs.Payload.{extractPayload}
-use Rattle.tables.specs.Details.{detailsOf, withType, withDetail, fresh}
+use Rattle.details.specs.Details.{detailsOf, withType, withDetail, fresh}
 use Rattle.group.specs.Control.{setupGroup, controlGroup}
 use Rattle.group.specs.Data.{beginGroup, repeatGroup, otherGroup}
 use Rattle.group.specs.Group.{groupStatus}
 use Rattle.rules.specs.Groups.{groupUpdate, groupEarlyStart, groupEarlyAppend}
 use Rattle.rules.specs.Transactions.{transactionUpdate}
 use Rattle.rules.specs.Events.{eventUpdate}
 use Rattle.rules.specs.Decoder.{handleRawPacket, handleEvent, handleDetail, finish}
 use Rattle.rules.specs.Demand.{packet, event, detail, finishing}
 use Rattle.rules.proofs.Runs.{Leaves}
 ";
 
 const PROOF: &str = "unfolding step bits bytes crc5Of crc16Of after formatOf tokenOk splitOk dataOk handshakeOk formatOk checkedOf transactionStatus \

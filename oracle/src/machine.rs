@@ -247,7 +247,7 @@ impl Mechanism for Machine {
 
 // ---- group_status alone, for a comparison on states that no trace need reach
 
-/// The words of a state, in the order of `pivotspark_group_status` (crates/capi).
+/// The words of a state, in the order of `pivotspark_group_status` (crates/pivotspark).
 pub type State = [u64; 23];
 
 /// The source's `group_status` on a state: status, effect (kind, number, waited, id), then last_success, setup (there, bytes),

@@ -19,7 +19,7 @@ const USAGE: &str = "usage: oracle COMMAND
   coverage N SEED        plays the traces of `compare traces N SEED` by the Rust alone: which cases of decoder.rs they meet
   traces DIR             writes the traces of the repository and the listings that they must give
   traces --check DIR     compares them with what stands in DIR
-  lemmas SEED RUNS CALLS writes the sequences of `traces` and RUNS random runs of CALLS records as lemmas of crates/rules (proofs/Oracle.antt)
+  lemmas SEED RUNS CALLS writes the sequences of `traces` and RUNS random runs of CALLS records as lemmas of crates/runs (proofs/Oracle.antt)
 options:
   --program              room and buffer of the program `listing` (docs/SIZES.md); otherwise the largest that 01 allows
   --room LOG=ROWS        room of one log; LOG is one of

@@ -1,4 +1,5 @@
--- No part of what the CRCs are: names that the contracts of this crate's private functions use, and no public contract cites.
+-- Inner (cited by private contracts alone): no part of what the CRCs are: names that the contracts of this crate's private functions use, and no public
+-- contract cites.
 -- Assumes nothing.
 use Prim.Native.Nat.{ℕ, _*_, _/_, _%_, _^_}
 use lib.Bits.{bitXor}

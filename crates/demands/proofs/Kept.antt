@@ -7,25 +7,26 @@ use mathlib.Core.List.{List, [], _++_}
 use lib.ListN.{length, getD}
 use Rattle.transaction.specs.Table.{pick}
 use Rattle.transaction.specs.declared.Transaction.{Transaction}
-use Rattle.tables.specs.Details as details
-use Rattle.tables.specs.Table.{wordAt, entryAt}
-use Rattle.tables.specs.TableLaws.{entry-ext}
-use Rattle.tables.specs.Word as word
-use Rattle.tables.specs.declared.Device.{Device}
-use Rattle.tables.specs.declared.Endpoint.{Endpoint}
+use Rattle.details.specs.Details as details
+use Rattle.endpoints.specs.Table.{wordAt, entryAt, newEndpoint}
+use Rattle.endpoints.specs.TableLaws.{entry-ext}
+use Rattle.endpoints.specs.Word as word
+use Rattle.details.specs.declared.Device.{Device}
+use Rattle.endpoints.specs.declared.Endpoint.{Endpoint}
 use Rattle.rules.specs.Decoder.{fresh}
-use Rattle.rules.specs.Demand.{Call, call, begin}
+use Rattle.rules.specs.Demand.{Call, call}
+use Rattle.rules.specs.Reach.{begin}
 use Rattle.rules.specs.Rows.{Row}
-use Rattle.rules.specs.World.{World, newEndpoint}
+use Rattle.rules.specs.World.{World}
 use Rattle.rules.proofs.Counted.{Counted, counts}
 use Rattle.rules.proofs.Demand.{Sound, Like, sound, sound-like, always}
-use Rattle.judge.specs.FreshLaws.{fresh-beyond}
-use Rattle.judge.specs.declared.Counts.{Counts}
-use Rattle.judge.specs.declared.Decoder.{Decoder}
-use Rattle.outcome.specs.Outcome.{countsAfter, decoderOf, accepts, worldAt}
-use Rattle.outcome.specs.State.{Logs, State}
-use Rattle.calls.specs.Fresh.{made as madeState, Makes}
-use Rattle.calls.specs.FreshLaws.{fresh-stands}
+use Rattle.record.specs.FreshLaws.{fresh-beyond}
+use Rattle.record.specs.declared.Counts.{Counts}
+use Rattle.record.specs.declared.Decoder.{Decoder}
+use Rattle.call.specs.Outcome.{countsAfter, decoderOf, accepts, worldAt}
+use Rattle.call.specs.State.{Logs, State}
+use Rattle.start.specs.Fresh.{made as madeState, Makes}
+use Rattle.start.specs.FreshLaws.{fresh-stands}
 use Rattle.demands.specs.Sequence.{Sequence, made, then, Told}
 use Rattle.demands.proofs.Steps.{Moved, moved, stayed}
 use Rattle.demands.proofs.Told.{began, counts-left, told-then, told-made}

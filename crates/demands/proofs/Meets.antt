@@ -5,10 +5,11 @@ use mathlib.Core.Path.{_≡_, refl, sym, ap, _∙_}
 use mathlib.Core.List.{List, [], _∷_, _++_}
 use borrow.Author.Tests.{eq-eqb}
 use lib.ListN.{length, getD}
-use Rattle.tables.specs.declared.Found.the-variants.{At}
-use Rattle.tables.specs.declared.Phase.{Phase}
-use Rattle.tables.specs.declared.Phase.the-variants.{None, Early, Active, Ended}
-use Rattle.rules.specs.Demand.{Demand3, linksOf, OnLinks}
+use Rattle.details.specs.declared.Found.the-variants.{At}
+use Rattle.endpoints.specs.declared.Phase.{Phase}
+use Rattle.endpoints.specs.declared.Phase.the-variants.{None, Early, Active, Ended}
+use Rattle.rules.specs.Demand.{Demand3, linksOf}
+use Rattle.rules.specs.Reach.{OnLinks}
 use Rattle.rules.specs.Marks.{Mark, other, started, ended, item, closed, mark, marks, closings, items, lastEnded, Asserted}
 use Rattle.rules.specs.Rows.{Row, E}
 use Rattle.rules.specs.World.{phase}
@@ -16,8 +17,8 @@ use Rattle.rules.proofs.Demand.{ended-length, groups-of, unclosed}
 use Rattle.rules.proofs.Facts.{extra, first-there}
 use Rattle.rules.proofs.Links.{start-rows, closing-rows, links-of, event-of}
 use Rattle.rules.proofs.Loops.{waitOf}
-use Rattle.outcome.specs.Outcome.{worldAt}
-use Rattle.outcome.specs.State.{State}
+use Rattle.call.specs.Outcome.{worldAt}
+use Rattle.call.specs.State.{State}
 use Rattle.demands.specs.Sequence.{Sequence, Extra, groupsStarted, closingItems, groupsEnded, AssertHolds, Meets}
 use Rattle.demands.proofs.Kept.{Kept, kept}
 use Rattle.demands.proofs.Never.{not-1, never-ill}

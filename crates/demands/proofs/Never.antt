@@ -6,9 +6,9 @@ use mathlib.Core.Bool.{Bool, true, false, cond}
 use mathlib.Core.List.{List}
 use Rattle.rules.specs.Demand.{Call, packet, event, detail, finishing}
 use Rattle.rules.specs.Rows.{Row}
-use Rattle.judge.specs.Answers.{Tests, firstOf}
-use Rattle.outcome.specs.Outcome.{isIll}
-use Rattle.outcome.specs.State.{State}
+use Rattle.record.specs.Answers.{Tests, firstOf}
+use Rattle.call.specs.Outcome.{isIll}
+use Rattle.call.specs.State.{State}
 use Rattle.sound.specs.Sound.{isSound}
 use Rattle.sound.proofs.Keeps.{kept}
 use Rattle.demands.specs.Sequence.{Does, Sequence, made, then}

@@ -5,13 +5,13 @@ use mathlib.Core.Bool.{Bool, true, false}
 use Rattle.rules.specs.Decoder.{handleEvent, finish}
 use Rattle.rules.specs.Demand.{Call, packet, event, detail, finishing, call}
 use Rattle.rules.specs.Endpoints.{deviceFor}
-use Rattle.judge.specs.Answers.{Tests, firstOf, detailTests}
-use Rattle.judge.specs.AnswersLaws.{Passed}
-use Rattle.judge.specs.RoomLaws.{Within}
-use Rattle.outcome.specs.Outcome.{isIll, countsAfter, Left, Answers, accepts, worldAt}
-use Rattle.outcome.specs.OutcomeLaws.{sound}
-use Rattle.outcome.specs.State.{State, roomOf}
-use Rattle.calls.specs.Detail.{Details}
+use Rattle.record.specs.Answers.{Tests, firstOf, detailTests}
+use Rattle.record.specs.AnswersLaws.{Passed}
+use Rattle.record.specs.RoomLaws.{Within}
+use Rattle.call.specs.Outcome.{isIll, countsAfter, Left, Answers, accepts, worldAt}
+use Rattle.call.specs.OutcomeLaws.{sound}
+use Rattle.call.specs.State.{State, roomOf}
+use Rattle.start.specs.Detail.{Details}
 use Rattle.packet.specs.Call.{testsOf}
 use Rattle.events.specs.Call.{eventTestsOf, finishTestsOf}
 use Rattle.sound.proofs.Keeps.{passed, room-left, detail-room}

@@ -5,20 +5,21 @@ use mathlib.Core.Path.{_≡_, refl, sym, ap, _∙_}
 use mathlib.Core.List.{List, [], _++_}
 use lib.ListN.{length, take, drop, length-append}
 use lib.Seq.{sets, sets-eq, length-take-le, take-at}
-use Rattle.tables.specs.Details as details
-use Rattle.tables.specs.declared.Device.{Device}
+use Rattle.rows.specs.Widths.{endpointWidth, eventWidth, groupWidth, linkWidth, packetWidth, requestWidth, transactionWidth}
+use Rattle.details.specs.Details as details
+use Rattle.details.specs.declared.Device.{Device}
 use Rattle.rules.specs.Decoder.{fresh}
 use Rattle.rules.specs.Demand.{Call, call}
 use Rattle.rules.specs.Rows.{Row, log}
 use Rattle.rules.proofs.Counted.{Counted, counts, rowsIn, log-words, log-behind, rows-words}
-use Rattle.judge.specs.Fresh.{countsOf}
-use Rattle.judge.specs.RoomLaws.{Within, within}
-use Rattle.judge.specs.declared.Counts.{Counts}
-use Rattle.judge.specs.declared.Decoder.{Decoder}
-use Rattle.outcome.specs.Outcome.{countsAfter, decoderOf, worldAt}
-use Rattle.outcome.specs.State.{Logs, State, roomBy, roomOf}
-use Rattle.calls.specs.Fresh.{made, Makes}
-use Rattle.calls.specs.FreshLaws.{fitted}
+use Rattle.record.specs.Fresh.{countsOf}
+use Rattle.record.specs.RoomLaws.{Within, within}
+use Rattle.record.specs.declared.Counts.{Counts}
+use Rattle.record.specs.declared.Decoder.{Decoder}
+use Rattle.call.specs.Outcome.{countsAfter, decoderOf, worldAt}
+use Rattle.call.specs.State.{Logs, State, roomBy, roomOf}
+use Rattle.start.specs.Fresh.{made, Makes}
+use Rattle.start.specs.FreshLaws.{fitted}
 use Rattle.demands.specs.Sequence.{Told}
 use Rattle.demands.proofs.Steps.{Moved}
 
@@ -45,16 +46,16 @@ behind k js base l l′ n m e p q h = grown l l′ n m (log k base) (log k js) e
 pub record Filled (n m : Counts) (js : List Row) : Type 0 where
   pub bytes : m .bytes ≡ n .bytes + length (log 0 js)
   pub devices : m .devices ≡ n .devices + length (log 1 js)
-  pub endpoints : m .endpoints * 3 ≡ n .endpoints * 3 + length (log 2 js)
-  pub packets : m .packets * 2 ≡ n .packets * 2 + length (log 3 js)
-  pub events : m .events * 2 ≡ n .events * 2 + length (log 4 js)
-  pub transactions : m .transactions ≡ n .transactions + length (log 5 js)
-  pub groups : m .groups * 3 ≡ n .groups * 3 + length (log 6 js)
-  pub marks : m .marks ≡ n .marks + length (log 7 js)
+  pub endpoints : m .endpoints * endpointWidth ≡ n .endpoints * endpointWidth + length (log 2 js)
+  pub packets : m .packets * packetWidth ≡ n .packets * packetWidth + length (log 3 js)
+  pub events : m .events * eventWidth ≡ n .events * eventWidth + length (log 4 js)
+  pub transactions : m .transactions * transactionWidth ≡ n .transactions * transactionWidth + length (log 5 js)
+  pub groups : m .groups * groupWidth ≡ n .groups * groupWidth + length (log 6 js)
+  pub statebytes : m .statebytes ≡ n .statebytes + length (log 7 js)
   pub states : m .states ≡ n .states + length (log 8 js)
   pub items : m .items ≡ n .items + length (log 9 js)
-  pub links : m .links * 4 ≡ n .links * 4 + length (log 10 js)
-  pub requests : m .requests * 3 ≡ n .requests * 3 + length (log 11 js)
+  pub links : m .links * linkWidth ≡ n .links * linkWidth + length (log 10 js)
+  pub requests : m .requests * requestWidth ≡ n .requests * requestWidth + length (log 11 js)
 
 pub began : (s : State) → Counted (worldAt s) (worldAt s)
 began s = record { bytes-are = omega arith; devices-are = omega arith; endpoints-are = omega arith; packets-are = omega arith; transactions-are = omega arith; groups-are = omega arith; marks-are = omega arith; items-are = omega arith }
@@ -73,9 +74,9 @@ filled k s =
       endpoints = rw (log-words 2 js) (c .endpoints-are);
       packets = rw (log-words 3 js) (c .packets-are);
       events = omega arith;
-      transactions = rw (log-words 5 js) (c .transactions-are);
+      transactions = rw (log-words 5 js) (omega (arith, c .transactions-are));
       groups = rw (log-words 6 js) (c .groups-are);
-      marks = rw (log-words 7 js) (c .marks-are);
+      statebytes = rw (log-words 7 js) (c .marks-are);
       states = refl;
       items = rw (log-words 9 js) (c .items-are);
       links = omega arith;
@@ -99,16 +100,16 @@ module _ {k : Call} {s s′ : State} (m : Moved k s s′) where
       record {
         bytes = behind 0 j js (s .logs .bytes) (s′ .logs .bytes) (s .decoder .counts .bytes) (s′ .decoder .counts .bytes) (t .bytes) (p .bytes) (f .bytes) (r .bytes);
         devices = behind 1 j js (s .logs .devices) (s′ .logs .devices) (s .decoder .counts .devices) (s′ .decoder .counts .devices) (t .devices) (p .devices) (f .devices) (r .devices);
-        endpoints = behind 2 j js (s .logs .endpoints) (s′ .logs .endpoints) (s .decoder .counts .endpoints * 3) (s′ .decoder .counts .endpoints * 3) (t .endpoints) (p .endpoints) (f .endpoints) (omega (arith, r .endpoints));
-        packets = behind 3 j js (s .logs .packets) (s′ .logs .packets) (s .decoder .counts .packets * 2) (s′ .decoder .counts .packets * 2) (t .packets) (p .packets) (f .packets) (omega (arith, r .packets));
-        events = behind 4 j js (s .logs .events) (s′ .logs .events) (s .decoder .counts .events * 2) (s′ .decoder .counts .events * 2) (t .events) (p .events) (f .events) (omega (arith, r .events));
-        transactions = behind 5 j js (s .logs .transactions) (s′ .logs .transactions) (s .decoder .counts .transactions) (s′ .decoder .counts .transactions) (t .transactions) (p .transactions) (f .transactions) (r .transactions);
-        groups = behind 6 j js (s .logs .groups) (s′ .logs .groups) (s .decoder .counts .groups * 3) (s′ .decoder .counts .groups * 3) (t .groups) (p .groups) (f .groups) (omega (arith, r .groups));
-        marks = behind 7 j js (s .logs .marks) (s′ .logs .marks) (s .decoder .counts .marks) (s′ .decoder .counts .marks) (t .marks) (p .marks) (f .marks) (r .marks);
+        endpoints = behind 2 j js (s .logs .endpoints) (s′ .logs .endpoints) (s .decoder .counts .endpoints * endpointWidth) (s′ .decoder .counts .endpoints * endpointWidth) (t .endpoints) (p .endpoints) (f .endpoints) (omega (arith, r .endpoints));
+        packets = behind 3 j js (s .logs .packets) (s′ .logs .packets) (s .decoder .counts .packets * packetWidth) (s′ .decoder .counts .packets * packetWidth) (t .packets) (p .packets) (f .packets) (omega (arith, r .packets));
+        events = behind 4 j js (s .logs .events) (s′ .logs .events) (s .decoder .counts .events * eventWidth) (s′ .decoder .counts .events * eventWidth) (t .events) (p .events) (f .events) (omega (arith, r .events));
+        transactions = behind 5 j js (s .logs .transactions) (s′ .logs .transactions) (s .decoder .counts .transactions * transactionWidth) (s′ .decoder .counts .transactions * transactionWidth) (t .transactions) (p .transactions) (f .transactions) (omega (arith, r .transactions));
+        groups = behind 6 j js (s .logs .groups) (s′ .logs .groups) (s .decoder .counts .groups * groupWidth) (s′ .decoder .counts .groups * groupWidth) (t .groups) (p .groups) (f .groups) (omega (arith, r .groups));
+        statebytes = behind 7 j js (s .logs .statebytes) (s′ .logs .statebytes) (s .decoder .counts .statebytes) (s′ .decoder .counts .statebytes) (t .statebytes) (p .statebytes) (f .statebytes) (r .statebytes);
         states = behind 8 j js (s .logs .states) (s′ .logs .states) (s .decoder .counts .states) (s′ .decoder .counts .states) (t .states) (p .states) (f .states) (r .states);
         items = behind 9 j js (s .logs .items) (s′ .logs .items) (s .decoder .counts .items) (s′ .decoder .counts .items) (t .items) (p .items) (f .items) (r .items);
-        links = behind 10 j js (s .logs .links) (s′ .logs .links) (s .decoder .counts .links * 4) (s′ .decoder .counts .links * 4) (t .links) (p .links) (f .links) (omega (arith, r .links));
-        requests = behind 11 j js (s .logs .requests) (s′ .logs .requests) (s .decoder .counts .requests * 3) (s′ .decoder .counts .requests * 3) (t .requests) (p .requests) (f .requests) (omega (arith, r .requests));
+        links = behind 10 j js (s .logs .links) (s′ .logs .links) (s .decoder .counts .links * linkWidth) (s′ .decoder .counts .links * linkWidth) (t .links) (p .links) (f .links) (omega (arith, r .links));
+        requests = behind 11 j js (s .logs .requests) (s′ .logs .requests) (s .decoder .counts .requests * requestWidth) (s′ .decoder .counts .requests * requestWidth) (t .requests) (p .requests) (f .requests) (omega (arith, r .requests));
       }
 
 -- ---- of a fresh decoder
@@ -124,7 +125,7 @@ first-told v t l r =
       events = refl;
       transactions = refl;
       groups = refl;
-      marks = refl;
+      statebytes = refl;
       states = refl;
       items = refl;
       links = refl;

@@ -1,25 +1,28 @@
--- Demand 3 over every sequence of calls, on the rows in the logs: what is claimed (proofs/Meets.antt proves it). Words in quotation marks are the demand's.
+-- To be believed: demand 3 over every sequence of calls, on the rows in the logs: what is claimed (proofs/Meets.antt proves it). Words in quotation marks are
+-- the demand's.
 -- What it leans on: rules, specs/Rows (a row's log and its words there), specs/Marks (`First`: the first item after an end; `lastEnded`) and specs/Demand
--- (`Standing`, `Demand3`, `linksOf`, `Quiet`); outcome, specs/Outcome (`Answers`: what a call leaves), with the tests of each call beside its contract.
+-- (`Standing`, `Demand3`, `linksOf`, `Quiet`); call, specs/Outcome (`Answers`: what a call leaves), with the tests of each call beside its contract.
+-- Hold it to: demand 3, sentence by sentence (docs/PROVED.md); 01, "Answer numbers": "none of those calls answers 1"
 use Prim.Native.Nat.{ℕ, suc, _*_, _<_}
 use mathlib.Core.Path.{_≡_}
 use mathlib.Core.Bool.{false}
 use mathlib.Core.List.{List, [], _∷_, _++_}
 use lib.ListN.{length, take, getD}
+use Rattle.rows.specs.Widths.{endpointWidth, eventWidth, groupWidth, linkWidth, packetWidth, requestWidth, transactionWidth}
 use Rattle.transaction.specs.Table.{pick}
-use Rattle.tables.specs.declared.Device.{Device}
-use Rattle.tables.specs.declared.Found.the-variants.{At}
-use Rattle.tables.specs.declared.Phase.{Phase}
-use Rattle.tables.specs.declared.Phase.the-variants.{None, Early, Active, Ended}
+use Rattle.details.specs.declared.Device.{Device}
+use Rattle.details.specs.declared.Found.the-variants.{At}
+use Rattle.endpoints.specs.declared.Phase.{Phase}
+use Rattle.endpoints.specs.declared.Phase.the-variants.{None, Early, Active, Ended}
 use Rattle.rules.specs.Decoder.{fresh}
 use Rattle.rules.specs.Demand.{Call, packet, event, detail, finishing, call, Demand3, linksOf, Quiet}
 use Rattle.rules.specs.Marks.{marks, endings, lastEnded}
 use Rattle.rules.specs.Rows.{Row, E, log}
 use Rattle.rules.specs.World.{eventEp, phase}
-use Rattle.outcome.specs.Outcome.{isIll, accepts, worldAt}
-use Rattle.outcome.specs.State.{Logs, State}
-use Rattle.calls.specs.Detail.{Details}
-use Rattle.calls.specs.Fresh.{Makes}
+use Rattle.call.specs.Outcome.{isIll, accepts, worldAt}
+use Rattle.call.specs.State.{Logs, State}
+use Rattle.start.specs.Detail.{Details}
+use Rattle.start.specs.Fresh.{Makes}
 use Rattle.packet.specs.Call.{PacketCall}
 use Rattle.events.specs.Call.{EventCall, FinishCall}
 
@@ -45,26 +48,26 @@ pub data Sequence : List Row → State → Type 0 where
 
 -- ---- the logs and the history: events end groups and log no row of it, so the ends stand in the history alone (`Over`). All else is in both:
 
--- each log, up to its count, has the history's rows for it, in order, and no others; the numbers are widths and logs of rules, Rows
+-- each log, up to its count, has the history's rows for it, in order, and no others; the numbers are logs of rules, Rows
 pub record Told (js : List Row) (s : State) : Type 0 where
   pub bytes : take (s .decoder .counts .bytes) (s .logs .bytes) ≡ log 0 js
   pub devices : take (s .decoder .counts .devices) (s .logs .devices) ≡ log 1 js
-  pub endpoints : take (s .decoder .counts .endpoints * 3) (s .logs .endpoints) ≡ log 2 js
-  pub packets : take (s .decoder .counts .packets * 2) (s .logs .packets) ≡ log 3 js
-  pub events : take (s .decoder .counts .events * 2) (s .logs .events) ≡ log 4 js
-  pub transactions : take (s .decoder .counts .transactions) (s .logs .transactions) ≡ log 5 js
-  pub groups : take (s .decoder .counts .groups * 3) (s .logs .groups) ≡ log 6 js
-  pub marks : take (s .decoder .counts .marks) (s .logs .marks) ≡ log 7 js
+  pub endpoints : take (s .decoder .counts .endpoints * endpointWidth) (s .logs .endpoints) ≡ log 2 js
+  pub packets : take (s .decoder .counts .packets * packetWidth) (s .logs .packets) ≡ log 3 js
+  pub events : take (s .decoder .counts .events * eventWidth) (s .logs .events) ≡ log 4 js
+  pub transactions : take (s .decoder .counts .transactions * transactionWidth) (s .logs .transactions) ≡ log 5 js
+  pub groups : take (s .decoder .counts .groups * groupWidth) (s .logs .groups) ≡ log 6 js
+  pub statebytes : take (s .decoder .counts .statebytes) (s .logs .statebytes) ≡ log 7 js
   pub states : take (s .decoder .counts .states) (s .logs .states) ≡ log 8 js
   pub items : take (s .decoder .counts .items) (s .logs .items) ≡ log 9 js
-  pub links : take (s .decoder .counts .links * 4) (s .logs .links) ≡ log 10 js
-  pub requests : take (s .decoder .counts .requests * 3) (s .logs .requests) ≡ log 11 js
+  pub links : take (s .decoder .counts .links * linkWidth) (s .logs .links) ≡ log 10 js
+  pub requests : take (s .decoder .counts .requests * requestWidth) (s .logs .requests) ≡ log 11 js
 
 -- ---- demand 3, of endpoint e
 
 -- the link rows in the log, each of four words: the kind (G is 1, E is 3), the endpoint, and two numbers
 abbrev pub linkRows : State → List ℕ
-linkRows s = take (s .decoder .counts .links * 4) (s .logs .links)
+linkRows s = take (s .decoder .counts .links * linkWidth) (s .logs .links)
 
 -- "the groups started": its G rows
 abbrev pub groupsStarted : ℕ → State → ℕ

@@ -1,13 +1,9 @@
--- The cases of the code's Act and Turn in the words of the rules (rules, Events), and the rows of an event.
+-- Inner (cited by private contracts alone): the cases of the code's Act and Turn in the words of the rules (rules, Events), and which rows an event has.
 use mathlib.Core.Bool.{Bool, true, false, not}
 use Prim.Native.Nat.{ℕ}
 use Rattle.rules.specs.Events as rules
-use Rattle.rules.specs.World.{_▷_}
 use Rattle.rules.specs.declared.Slot.{Slot}
 use Rattle.rules.specs.declared.Slot.the-variants.{Empty, Current, Suspended}
-use Rattle.update.specs.Update.{when}
-use Rattle.update.specs.Tally.{addTransaction, addLink, addEntry, addItem}
-use Rattle.update.specs.declared.tally.Tally.{Tally}
 use Rattle.event.specs.declared.Act.{Act}
 use Rattle.event.specs.declared.Act.the-variants.{Nothing, Single, Group, Subgroup, Keepalive}
 use Rattle.event.specs.declared.Turn.{Turn}
@@ -37,15 +33,6 @@ addsGroup rules.single k = true
 addsGroup rules.group k = true
 addsGroup rules.subgroup k = false
 addsGroup rules.keepalive k = not k
-
--- a transaction row and its T row; a G row, a group row with its state row, and an item
-unfoldable pub tallyAct : rules.Act → Bool → ℕ → Tally → Tally
-tallyAct a k n t =
-    t ▷ when (addsRow a) addTransaction
-    ▷ when (addsRow a) addLink
-    ▷ when (addsGroup a k) addLink
-    ▷ when (addsGroup a k) (addEntry n)
-    ▷ when (addsGroup a k) addItem
 
 -- handle_event has ended or suspended the transaction
 abbrev pub isCurrent : Slot → Bool

@@ -1,17 +1,11 @@
 // What an event does to the event endpoint and to the event state, decided from values alone (document 000, event_update).
 
 use rules::EventState;
-use update::tally::Tally;
-use update::tally::tally_entry;
-use update::tally::tally_item;
-use update::tally::tally_link;
-use update::tally::tally_transaction;
 ghost use mathlib.Core.Path.{_≡_};
 ghost use Prim.Native.Nat.{_≤_, _^_};
 ghost use Rattle.rules.specs.Events.{turnOf, _then_};
 ghost use Rattle.rules.specs.declared.EventState.the-variants.{Idle, LsKeepaliveGroup, AwaitDeviceChirp, PartialDeviceChirp, ValidDeviceChirp, AwaitHostChirp, PartialHostChirp, ValidHostChirp};
-ghost use Rattle.update.specs.Tally.{Within};
-ghost use Rattle.event.specs.Event.{actOf, told, addsRow, addsGroup, tallyAct};
+ghost use Rattle.event.specs.Event.{actOf, told, addsRow, addsGroup};
 
 // Event kinds (01, Rules of a group); 7 is any other.
 pub const LS_KEEPALIVE: u8 = 0;
@@ -173,19 +167,4 @@ pub fn adds_group(act: Act, keepalive: bool) -> bool
         Act::Subgroup => false,
         Act::Keepalive => !keepalive,
     }
-}
-
-// The rows of an event, behind those of its packet.
-pub fn tally_act(act: Act, keepalive: bool, endpoints: usize, t: Tally) -> Tally
-    requires { ⌜ endpoints ≤ 128 ⌝ }
-    requires { ⌜ Within (2 ^ 48) t ⌝ }
-    ensures { λ r. ⌜ r ≡ tallyAct (actOf act) keepalive endpoints t ⌝ }
-{
-    let row = adds_row(act);
-    let group = adds_group(act, keepalive);
-    let t = tally_transaction(row, t);
-    let t = tally_link(row, t);
-    let t = tally_link(group, t);
-    let t = tally_entry(group, endpoints, t);
-    tally_item(group, t)
 }

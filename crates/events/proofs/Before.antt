@@ -9,12 +9,13 @@ use Rattle.rules.specs.World.{World, withSlot, withKeepalive}
 use Rattle.update.specs.Update.{when}
 use Rattle.write.specs.Memory.{Memory, Room}
 use Rattle.event.specs.Event.{isCurrent}
-use Rattle.outcome.specs.Outcome.{isIll, worldAt}
-use Rattle.outcome.specs.State.{State, roomOf, Known}
-use Rattle.steps.specs.Ending.{slotEnded, endingOf, endPlayed}
-use Rattle.steps.specs.Step.{ended}
-use Rattle.reckon.proofs.Events.{suspended, settled}
-use Rattle.reckon.proofs.Formed.{three}
+use Rattle.call.specs.Outcome.{isIll, worldAt}
+use Rattle.call.specs.State.{State, roomOf}
+use Rattle.call.specs.Share.{Known}
+use Rattle.plan.specs.Ending.{slotEnded, endingOf, endPlayed}
+use Rattle.plan.specs.Step.{ended}
+use Rattle.tally.proofs.Events.{suspended, settled}
+use Rattle.tally.proofs.Formed.{three}
 use Rattle.events.specs.After.{slotAfter, keepaliveThen}
 use Rattle.events.specs.Ended.{endedMemory, settledMemory, SettlesIf}
 use Rattle.events.proofs.Ends.{reached-slot, reached-keepalive, reached-all}
@@ -90,5 +91,5 @@ module _ (s : State) (sane : isIll s ≡ false) where
     pub settles-if : (r : Bool) → Room (memoryThen r s)
         → SettlesIf r (endingOf (worldAt s)) (s .decoder .counts .endpoints) (s .decoder .transaction .id) (startPid (s .decoder .transaction .style)) (memoryAt s)
     unfolding settledMemory
-    settles-if true m on = endable s sane known byte (record { groups = m .groups; states = m .states; marks = m .marks; items = m .items; links = m .links })
+    settles-if true m on = endable s sane known byte (record { groups = m .groups; states = m .states; statebytes = m .statebytes; items = m .items; links = m .links })
     settles-if false m on = absurd (false≢true on)

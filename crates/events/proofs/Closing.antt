@@ -4,15 +4,15 @@ use native.Mathlib.Omega.{arith}
 use mathlib.Core.Bool.{Bool, true, false}
 use mathlib.Core.List.{List}
 use mathlib.Core.Path.{_≡_, sym, ap, _∙_, subst}
-use Rattle.tables.specs.Phases.{ended}
-use Rattle.tables.specs.Table.{entryAt, storeAt}
-use Rattle.tables.specs.TableLaws.{load-store-same}
-use Rattle.tables.specs.declared.Endpoint.{Endpoint}
+use Rattle.endpoints.specs.Each.{ended}
+use Rattle.endpoints.specs.Table.{entryAt, storeAt}
+use Rattle.endpoints.specs.TableLaws.{load-store-same}
+use Rattle.endpoints.specs.declared.Endpoint.{Endpoint}
 use Rattle.update.specs.Update.{when}
 use Rattle.write.specs.Memory.{Memory, Room, memory}
-use Rattle.carry.specs.Carried.{carried}
-use Rattle.steps.specs.declared.Ending.{Ending}
-use Rattle.eventdo.specs.Rows.{allEnded}
+use Rattle.write_update.specs.Carried.{carried}
+use Rattle.plan.specs.declared.Ending.{Ending}
+use Rattle.write_event.specs.Rows.{allEnded}
 use Rattle.events.specs.Ended.{closedOn, endedMemory, allSettled, settledMemory, Endable}
 
 when-on : (b : Bool) (f : Memory → Memory) (m : Memory) → b ≡ true → when b f m ≡ f m
@@ -20,7 +20,7 @@ when-on b f m e = rw e
 
 -- memory with another table
 abbrev pub onTable : List ℕ → Memory → Memory
-onTable t m = memory (m .tally) t (m .groups) (m .states) (m .marks) (m .items) (m .links)
+onTable t m = memory (m .written) t (m .groups) (m .statebytes) (m .states) (m .items) (m .links)
 
 module _ (e : Ending) (n id pid : ℕ) (m : Memory) (a : Endable e n id pid m) (on : e .ends ≡ true) where
   pub store-asks : e .old < 128

@@ -3,16 +3,17 @@ use Prim.Native.Nat.{ℕ, _≤_}
 use native.Mathlib.Omega.{arith}
 use mathlib.Core.List.{List}
 use mathlib.Core.Path.{_≡_, ap, _∙_}
-use Rattle.tables.specs.Phases.{inPhase, active}
-use Rattle.tables.specs.Word as word
-use Rattle.tables.specs.declared.Device.{Device}
+use Rattle.endpoints.specs.Phases.{inPhase}
+use Rattle.endpoints.specs.Each.{active}
+use Rattle.endpoints.specs.Word as word
+use Rattle.details.specs.declared.Device.{Device}
 use Rattle.rules.specs.Events.{Act, turnOf}
-use Rattle.judge.specs.World.{worldOf}
-use Rattle.judge.specs.declared.Counts.{Counts}
-use Rattle.judge.specs.declared.Decoder.{Decoder}
-use Rattle.steps.specs.Ending.{endingOf}
-use Rattle.steps.specs.declared.Ending.{Ending}
-use Rattle.reckon.proofs.Formed.{count-few}
+use Rattle.record.specs.World.{worldOf}
+use Rattle.record.specs.declared.Counts.{Counts}
+use Rattle.record.specs.declared.Decoder.{Decoder}
+use Rattle.plan.specs.Ending.{endingOf}
+use Rattle.plan.specs.declared.Ending.{Ending}
+use Rattle.tally.proofs.Formed.{count-few}
 use Rattle.events.specs.After.{resetsBy, sumOf, eventTally}
 use Rattle.events.specs.declared.sum.Sum.{Sum}
 

@@ -14,21 +14,21 @@ use Rattle.rules.specs.declared.Slot.{Slot}
 use Rattle.update.specs.Update.{when, act}
 use Rattle.write.specs.HoldsLaws.{holds-altered}
 use Rattle.write.specs.Memory.{Memory}
-use Rattle.carry.specs.CarriedLaws.{holds-carried}
-use Rattle.carry.specs.TabledLaws.{carried-tabled}
-use Rattle.judge.specs.TabledLaws.{tabled-store, tabled-ended}
-use Rattle.outcome.specs.State.{State}
-use Rattle.steps.specs.Sound.{EndFits}
-use Rattle.steps.specs.Step.{ended}
-use Rattle.steps.specs.declared.End.{End}
-use Rattle.tables.specs.Details.{fresh}
-use Rattle.steps.specs.Devices.{addsDevice, addressOf}
-use Rattle.steps.proofs.Devices.{placed, ended-devices}
-use Rattle.steps.proofs.Frame.{Rest, act-rest, act-log}
-use Rattle.steps.proofs.Played.{event-untouched, keepalive-untouched, ended-keeps, ended-tied}
-use Rattle.eventdo.specs.EndedLaws.{over-log, ended-holds as all-holds}
-use Rattle.eventdo.specs.Rows.{allEnded}
-use Rattle.eventdo.specs.RowsLaws.{holds-alike, slot-alike, keepalive-alike}
+use Rattle.write_update.specs.CarriedLaws.{holds-carried}
+use Rattle.write_update.specs.TabledLaws.{carried-tabled}
+use Rattle.record.specs.TabledLaws.{tabled-store, tabled-ended}
+use Rattle.call.specs.State.{State}
+use Rattle.plan.specs.Sound.{EndFits}
+use Rattle.plan.specs.Step.{ended}
+use Rattle.plan.specs.declared.End.{End}
+use Rattle.details.specs.Details.{fresh}
+use Rattle.plan.specs.Devices.{addsDevice, addressOf}
+use Rattle.plan.proofs.Devices.{placed, ended-devices}
+use Rattle.plan.proofs.Frame.{Rest, act-rest, act-log}
+use Rattle.plan.proofs.Played.{event-untouched, keepalive-untouched, ended-keeps, ended-tied}
+use Rattle.write_event.specs.EndedLaws.{over-log, ended-holds as all-holds}
+use Rattle.write_event.specs.Rows.{allEnded}
+use Rattle.write_event.specs.RowsLaws.{holds-alike, slot-alike, keepalive-alike}
 use Rattle.events.specs.Ended.{closedOn}
 use Rattle.events.proofs.Reached.{HoldsAt, Reached}
 

@@ -13,34 +13,31 @@ use Rattle.rules.specs.World.{World, withSlot}
 use Rattle.update.specs.Update.{when}
 use Rattle.write.specs.HoldsLaws.{holds-room}
 use Rattle.write.specs.Memory.{Memory}
-use Rattle.write.specs.declared.Tally.{Tally}
-use Rattle.judge.specs.Answers.{firstOf, finishTests}
-use Rattle.judge.specs.RoomLaws.{within}
-use Rattle.judge.specs.declared.Counts.{Counts}
-use Rattle.judge.specs.declared.Decoder.{Decoder}
-use Rattle.outcome.specs.Outcome.{Left, isIll, isFull, isOver, worldAt}
-use Rattle.outcome.specs.OutcomeLaws.{unique, refused, accepted}
-use Rattle.outcome.specs.State.{State, state, logs, roomOf, Known}
-use Rattle.steps.specs.Ending.{slotEnded, endingOf, endPlayed}
-use Rattle.steps.specs.Step.{ended}
-use Rattle.steps.specs.declared.Ending.{Ending}
-use Rattle.steps.proofs.Ends.{finish-is}
-use Rattle.reckon.specs.Tallies.{tallyEnding}
-use Rattle.reckon.proofs.Counts.{counts-after, world-has}
-use Rattle.reckon.proofs.Formed.{finish-full-is}
-use Rattle.reckon.proofs.Quiet.{ending-totals}
-use Rattle.reckon.proofs.Unpassed.{ending-over}
+use Rattle.write.specs.declared.Written.{Written}
+use Rattle.record.specs.Answers.{firstOf, finishTests}
+use Rattle.record.specs.RoomLaws.{within}
+use Rattle.record.specs.declared.Counts.{Counts}
+use Rattle.record.specs.declared.Decoder.{Decoder}
+use Rattle.call.specs.Outcome.{Left, isIll, isFull, isOver, worldAt}
+use Rattle.call.specs.OutcomeLaws.{refused, accepted}
+use Rattle.call.specs.State.{State, state, logs, roomOf}
+use Rattle.call.specs.Share.{Known, writtenOf}
+use Rattle.plan.specs.Ending.{slotEnded, endingOf, endPlayed}
+use Rattle.plan.specs.Step.{ended}
+use Rattle.plan.specs.declared.Ending.{Ending}
+use Rattle.plan.proofs.Ends.{finish-is}
+use Rattle.tally.specs.Tallies.{tallyEnding}
+use Rattle.tally.proofs.Counts.{counts-after, world-has}
+use Rattle.tally.proofs.Formed.{finish-full-is}
+use Rattle.tally.proofs.Quiet.{ending-totals}
+use Rattle.tally.proofs.Unpassed.{ending-over}
 use Rattle.events.specs.After.{sumOf, finishedDecoder}
 use Rattle.events.specs.Call.{finishTestsOf, FinishCall}
-use Rattle.events.specs.Ended.{endedMemory, Endable, tallyOf}
+use Rattle.events.specs.Ended.{endedMemory, Endable}
 use Rattle.events.specs.declared.sum.Sum.{Sum}
 use Rattle.events.proofs.Ends.{reached-slot}
 use Rattle.events.proofs.Reached.{firstMemory, memoryAt, space, left-of}
 use Rattle.events.proofs.Sane.{totalled, formed, end-adds, reached-end, endable}
-
--- 01: "any two permitted outcomes coincide"
-pub finish-unique : (s : State) (a b : ℕ) (s′ s″ : State) → FinishCall s a s′ → FinishCall s b s″ → (a ≡ b) × (s′ ≡ s″)
-finish-unique s a b s′ s″ x y = unique x y
 
 module _ (s : State) where
   -- the end of its transaction, and what that comes to
@@ -82,8 +79,8 @@ module _ (s : State) (sane : isIll s ≡ false) (known : Known (s .table)) where
     -- the state that it leaves
     abbrev pub finishedState : State
     finishedState =
-        state (finishedDecoder (s .decoder) (sumAt s) (endedAt s .tally)) (s .devices) (endedAt s .table)
-        (logs (s .logs .bytes) (s .logs .devices) (s .logs .endpoints) (s .logs .packets) (s .logs .events) (s .logs .transactions) (endedAt s .groups) (endedAt s .marks) (endedAt s .states) (endedAt s .items) (endedAt s .links) (s .logs .requests))
+        state (finishedDecoder (s .decoder) (sumAt s) (endedAt s .written)) (s .devices) (endedAt s .table)
+        (logs (s .logs .bytes) (s .logs .devices) (s .logs .endpoints) (s .logs .packets) (s .logs .events) (s .logs .transactions) (endedAt s .groups) (endedAt s .statebytes) (endedAt s .states) (endedAt s .items) (endedAt s .links) (s .logs .requests))
 
     played-left : Left (endPlayed (endAt s) (worldAt s)) true s finishedState
     unfolding sumOf endPlayed
@@ -115,30 +112,30 @@ sum-at s e room r p q h =
     h ∙ ap (λ (x : Ending). sumOf (s .decoder .counts) (tallyEnding x (s .decoder .counts .endpoints) (s .decoder .waiting)) room) p
     ∙ ap (sumOf (s .decoder .counts) (tallyEnding (endAt s) (s .decoder .counts .endpoints) (s .decoder .waiting))) q
 
-pub end-asks : (s : State) (e : Ending) (pid : ℕ) (h : Tally) → e ≡ endAt s → pid ≡ startPid (s .decoder .transaction .style) → h ≡ tallyOf (s .decoder)
+pub end-asks : (s : State) (e : Ending) (pid : ℕ) (h : Written) → e ≡ endAt s → pid ≡ startPid (s .decoder .transaction .style) → h ≡ writtenOf (s .decoder)
     → Endable (endAt s) (s .decoder .counts .endpoints) (s .decoder .transaction .id) (startPid (s .decoder .transaction .style)) (memoryAt s)
     → Endable e (s .decoder .counts .endpoints) (s .decoder .transaction .id) pid (firstMemory s h)
 end-asks s e pid h p q r a =
     subst (λ (x : Ending). Endable x (s .decoder .counts .endpoints) (s .decoder .transaction .id) pid (firstMemory s h)) (sym p)
     (subst (λ (x : ℕ). Endable (endAt s) (s .decoder .counts .endpoints) (s .decoder .transaction .id) x (firstMemory s h)) (sym q)
-    (subst (λ (x : Tally). Endable (endAt s) (s .decoder .counts .endpoints) (s .decoder .transaction .id) (startPid (s .decoder .transaction .style)) (firstMemory s x)) (sym r) a))
+    (subst (λ (x : Written). Endable (endAt s) (s .decoder .counts .endpoints) (s .decoder .transaction .id) (startPid (s .decoder .transaction .style)) (firstMemory s x)) (sym r) a))
 
-pub ended-at : (s : State) (e : Ending) (pid : ℕ) (h : Tally) (m : Memory) → e ≡ endAt s → pid ≡ startPid (s .decoder .transaction .style) → h ≡ tallyOf (s .decoder)
+pub ended-at : (s : State) (e : Ending) (pid : ℕ) (h : Written) (m : Memory) → e ≡ endAt s → pid ≡ startPid (s .decoder .transaction .style) → h ≡ writtenOf (s .decoder)
     → m ≡ endedMemory e (s .decoder .counts .endpoints) (s .decoder .transaction .id) pid (firstMemory s h) → m ≡ endedAt s
 ended-at s e pid h m p q r a =
     a ∙ ap (λ (x : Ending). endedMemory x (s .decoder .counts .endpoints) (s .decoder .transaction .id) pid (firstMemory s h)) p
     ∙ ap (λ (x : ℕ). endedMemory (endAt s) (s .decoder .counts .endpoints) (s .decoder .transaction .id) x (firstMemory s h)) q
-    ∙ ap (λ (x : Tally). endedMemory (endAt s) (s .decoder .counts .endpoints) (s .decoder .transaction .id) (startPid (s .decoder .transaction .style)) (firstMemory s x)) r
+    ∙ ap (λ (x : Written). endedMemory (endAt s) (s .decoder .counts .endpoints) (s .decoder .transaction .id) (startPid (s .decoder .transaction .style)) (firstMemory s x)) r
 
 -- the state with this memory
 abbrev pub stateOf : State → Decoder → Memory → State
 stateOf s d m =
     state d (s .devices) (m .table)
-    (logs (s .logs .bytes) (s .logs .devices) (s .logs .endpoints) (s .logs .packets) (s .logs .events) (s .logs .transactions) (m .groups) (m .marks) (m .states) (m .items) (m .links) (s .logs .requests))
+    (logs (s .logs .bytes) (s .logs .devices) (s .logs .endpoints) (s .logs .packets) (s .logs .events) (s .logs .transactions) (m .groups) (m .statebytes) (m .states) (m .items) (m .links) (s .logs .requests))
 
-pub finish-returns : (s : State) (m : Memory) (d : Decoder) (sum : Sum) → FinishCall s 0 (stateOf s (finishedDecoder (s .decoder) (sumAt s) (endedAt s .tally)) (endedAt s)) → m ≡ endedAt s → sum ≡ sumAt s
-    → d ≡ finishedDecoder (s .decoder) sum (m .tally) → FinishCall s 0 (stateOf s d m)
+pub finish-returns : (s : State) (m : Memory) (d : Decoder) (sum : Sum) → FinishCall s 0 (stateOf s (finishedDecoder (s .decoder) (sumAt s) (endedAt s .written)) (endedAt s)) → m ≡ endedAt s → sum ≡ sumAt s
+    → d ≡ finishedDecoder (s .decoder) sum (m .written) → FinishCall s 0 (stateOf s d m)
 finish-returns s m d sum a p q r =
     subst (λ (x : Decoder). FinishCall s 0 (stateOf s x m)) (sym r)
-    (subst (λ (x : Sum). FinishCall s 0 (stateOf s (finishedDecoder (s .decoder) x (m .tally)) m)) (sym q)
-    (subst (λ (x : Memory). FinishCall s 0 (stateOf s (finishedDecoder (s .decoder) (sumAt s) (x .tally)) x)) (sym p) a))
+    (subst (λ (x : Sum). FinishCall s 0 (stateOf s (finishedDecoder (s .decoder) x (m .written)) m)) (sym q)
+    (subst (λ (x : Memory). FinishCall s 0 (stateOf s (finishedDecoder (s .decoder) (sumAt s) (x .written)) x)) (sym p) a))

@@ -8,34 +8,36 @@ use borrow.Author.Tests.{eqb-true, le-ltb}
 use lib.Dec.{eqb, ltb}
 use lib.ListN.{length}
 use lib.Seq.{sets}
+use Rattle.rows.specs.Widths.{eventWidth, packetWidth, transactionWidth}
 use Rattle.rows.specs.Sets.{opt}
 use Rattle.transaction.specs.Payload.{startPid}
 use Rattle.transaction.specs.Table.{pick}
-use Rattle.tables.specs.Phases.{active}
+use Rattle.endpoints.specs.Each.{active}
 use Rattle.rules.specs.Decoder.{suspend, endAllActive, endAll, handleEvent}
 use Rattle.rules.specs.Events as rules
 use Rattle.rules.specs.Rows.{log}
-use Rattle.rules.specs.World.{World, withKeepalive}
-use Rattle.update.specs.Tally.{inLog, waitingOf, Adds}
-use Rattle.update.specs.declared.tally.Tally.{Tally}
+use Rattle.rules.specs.World.{World, withKeepalive, waitingOf}
+use Rattle.tally.specs.Tally.{inLog, Adds}
+use Rattle.tally.specs.declared.add.Tally.{Tally}
 use Rattle.write.specs.Memory.{Memory}
 use Rattle.event.specs.Event.{addsRow}
-use Rattle.eventdo.specs.TabledLaws.{event-rows-tabled}
-use Rattle.judge.specs.Answers.{firstOf}
-use Rattle.judge.specs.RoomLaws.{Within, within}
-use Rattle.outcome.specs.Outcome.{Left, isIll, isFull, isOver, worldAt}
-use Rattle.outcome.specs.OutcomeLaws.{unique, refused, accepted}
-use Rattle.outcome.specs.State.{State, state, logs, roomBy, roomOf, Known}
-use Rattle.steps.specs.Ending.{endingOf}
-use Rattle.steps.proofs.Ends.{ending-is}
-use Rattle.reckon.specs.Event.{eventPlayed}
-use Rattle.reckon.specs.Tallies.{tallyKeepalive, tallyEvent, addCounts}
-use Rattle.reckon.proofs.Anew.{ending-acts, actives-table}
-use Rattle.reckon.proofs.Counts.{counts-after, state-full, world-has}
-use Rattle.reckon.proofs.Events.{keepalive-adds, event-played-adds}
-use Rattle.reckon.proofs.Formed.{waiting-is}
-use Rattle.reckon.proofs.Quiet.{ending-totals}
-use Rattle.reckon.proofs.Unpassed.{keepalive-over, event-over}
+use Rattle.write_event.specs.TabledLaws.{event-rows-tabled}
+use Rattle.record.specs.Answers.{firstOf}
+use Rattle.record.specs.RoomLaws.{Within, within}
+use Rattle.call.specs.Outcome.{Left, isIll, isFull, isOver, worldAt}
+use Rattle.call.specs.OutcomeLaws.{refused, accepted}
+use Rattle.call.specs.State.{State, state, logs, roomBy, roomOf}
+use Rattle.call.specs.Share.{Known}
+use Rattle.plan.specs.Ending.{endingOf}
+use Rattle.plan.proofs.Ends.{ending-is}
+use Rattle.tally.specs.Event.{eventPlayed}
+use Rattle.tally.specs.Tallies.{tallyKeepalive, tallyEvent, addCounts}
+use Rattle.tally.proofs.Anew.{ending-acts, actives-table}
+use Rattle.tally.proofs.Counts.{counts-after, state-full, world-has}
+use Rattle.tally.proofs.Events.{keepalive-adds, event-played-adds}
+use Rattle.tally.proofs.Formed.{waiting-is}
+use Rattle.tally.proofs.Quiet.{ending-totals}
+use Rattle.tally.proofs.Unpassed.{keepalive-over, event-over}
 use Rattle.events.specs.After.{resetsBy, keepaliveThen, sumOf, eventTally, eventDecoder}
 use Rattle.events.specs.Call.{eventTestsOf, EventCall}
 use Rattle.events.specs.Ended.{SettlesIf}
@@ -44,10 +46,6 @@ use Rattle.events.proofs.Before.{beforeOf, memoryThen, rests, slot-is, 
 use Rattle.events.proofs.Reached.{memoryAt, Reached, space, left-of}
 use Rattle.events.proofs.Sane.{totalled, formed, suits}
 use Rattle.events.proofs.Tail.{rowsMemory, AbleAt, Tailed, rowed, room-before, tailed}
-
--- 01: "any two permitted outcomes coincide"
-pub event-unique : (kind code time : ℕ) (s : State) (a b : ℕ) (s′ s″ : State) → EventCall kind code time s a s′ → EventCall kind code time s b s″ → (a ≡ b) × (s′ ≡ s″)
-event-unique kind code time s a b s′ s″ x y = unique x y
 
 -- ---- the world after it
 
@@ -153,7 +151,7 @@ module _ (s : State) (sane : isIll s ≡ false) (known : Known (s .table)) (goin
     pub event-settles : SettlesIf (resetsBy kind) (endingOf (worldAt s)) (s .decoder .counts .endpoints) (s .decoder .transaction .id) (startPid (s .decoder .transaction .style)) (memoryAt s)
     event-settles = settles-if s sane known byte (resetsBy kind) (room-before _ _ _ _ _ settled event-ables)
 
-    pub event-puts : ((s .decoder .counts .packets + 1) * 2 ≤ length (s .logs .packets)) × (((s .decoder .counts .events + 1) * 2 ≤ length (s .logs .events)) × (s .decoder .counts .transactions + length (opt (addsRow (turn .act)) (s .decoder .counts .packets ∷ [])) ≤ length (s .logs .transactions)))
+    pub event-puts : ((s .decoder .counts .packets + 1) * packetWidth ≤ length (s .logs .packets)) × (((s .decoder .counts .events + 1) * eventWidth ≤ length (s .logs .events)) × (s .decoder .counts .transactions * transactionWidth + length (opt (addsRow (turn .act)) (s .decoder .counts .packets ∷ [])) ≤ length (s .logs .transactions)))
     unfolding addCounts roomBy inLog
     event-puts =
         let a = event-adds s sane code time kind in
@@ -174,12 +172,12 @@ module _ (s : State) (sane : isIll s ≡ false) (known : Known (s .table)) (goin
 
     abbrev pub eventState : State
     eventState =
-        state (eventDecoder (s .decoder) (resetsBy kind) turn (eventSum kind s) (eventMemory .tally)) (s .devices) (eventMemory .table)
+        state (eventDecoder (s .decoder) (resetsBy kind) turn (eventSum kind s) (eventMemory .written)) (s .devices) (eventMemory .table)
         (logs (s .logs .bytes) (s .logs .devices) (s .logs .endpoints)
-        (sets (s .logs .packets) (s .decoder .counts .packets * 2) (s .decoder .counts .bytes ∷ time ∷ []))
-        (sets (s .logs .events) (s .decoder .counts .events * 2) (s .decoder .counts .packets ∷ code ∷ []))
-        (sets (s .logs .transactions) (s .decoder .counts .transactions) (opt (addsRow (turn .act)) (s .decoder .counts .packets ∷ [])))
-        (eventMemory .groups) (eventMemory .marks) (eventMemory .states) (eventMemory .items) (eventMemory .links) (s .logs .requests))
+        (sets (s .logs .packets) (s .decoder .counts .packets * packetWidth) (s .decoder .counts .bytes ∷ time ∷ []))
+        (sets (s .logs .events) (s .decoder .counts .events * eventWidth) (s .decoder .counts .packets ∷ code ∷ []))
+        (sets (s .logs .transactions) (s .decoder .counts .transactions * transactionWidth) (opt (addsRow (turn .act)) (s .decoder .counts .packets ∷ [])))
+        (eventMemory .groups) (eventMemory .statebytes) (eventMemory .states) (eventMemory .items) (eventMemory .links) (s .logs .requests))
 
     final-left : Left final (s .decoder .finished) s eventState
     unfolding sumOf

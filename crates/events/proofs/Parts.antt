@@ -5,23 +5,25 @@ use mathlib.Core.List.{List, [], _∷_}
 use mathlib.Core.Path.{_≡_, sym, ap, _∙_, subst}
 use lib.ListN.{length}
 use lib.Seq.{sets}
+use Rattle.rows.specs.Widths.{eventWidth, packetWidth, transactionWidth}
 use Rattle.rows.specs.Sets.{opt}
 use Rattle.transaction.specs.Payload.{startPid}
 use Rattle.rules.specs.Events as rules
 use Rattle.write.specs.Memory.{Memory}
-use Rattle.write.specs.declared.Tally.{Tally}
+use Rattle.write.specs.declared.Written.{Written}
 use Rattle.event.specs.Event.{actOf, told, addsRow, addsGroup}
-use Rattle.eventdo.specs.Rows.{Able, eventRows, startsGroup}
-use Rattle.judge.specs.declared.Counts.{Counts}
-use Rattle.judge.specs.declared.Decoder.{Decoder}
-use Rattle.outcome.specs.Outcome.{worldAt}
-use Rattle.outcome.specs.State.{State, state, logs, roomOf}
-use Rattle.steps.specs.Ending.{endingOf}
-use Rattle.steps.specs.declared.Ending.{Ending}
+use Rattle.write_event.specs.Rows.{Able, eventRows, startsGroup}
+use Rattle.record.specs.declared.Counts.{Counts}
+use Rattle.record.specs.declared.Decoder.{Decoder}
+use Rattle.call.specs.Outcome.{worldAt}
+use Rattle.call.specs.State.{State, state, logs, roomOf}
+use Rattle.plan.specs.Ending.{endingOf}
+use Rattle.plan.specs.declared.Ending.{Ending}
 use Rattle.events.specs.After.{resetsBy, keepaliveThen, sumOf, Decides, eventDecoder}
 use Rattle.events.specs.Call.{EventCall}
-use Rattle.events.specs.Ended.{settledMemory, SettlesIf, tallyOf}
-use Rattle.events.specs.declared.decide.Decided.{Decided}
+use Rattle.events.specs.Ended.{settledMemory, SettlesIf}
+use Rattle.call.specs.Share.{writtenOf}
+use Rattle.events.specs.declared.decided.Decided.{Decided}
 use Rattle.events.specs.declared.sum.Sum.{Sum}
 use Rattle.events.proofs.Before.{memoryThen}
 use Rattle.events.proofs.Happens.{tallyAt, eventSum}
@@ -57,34 +59,34 @@ module _ (s : State) (kind : ℕ) (room : Counts) (r : Decided) (q : Decides (s 
         start = g ∙ ap startsGroup act-at;
       }
 
-  module _ (pid : ℕ) (h : Tally) (e : pid ≡ startPid (s .decoder .transaction .style)) (f : h ≡ tallyOf (s .decoder)) where
+  module _ (pid : ℕ) (h : Written) (e : pid ≡ startPid (s .decoder .transaction .style)) (f : h ≡ writtenOf (s .decoder)) where
     pub settles-at : SettlesIf (resetsBy kind) (endingOf (worldAt s)) (s .decoder .counts .endpoints) (s .decoder .transaction .id) (startPid (s .decoder .transaction .style)) (memoryAt s)
         → SettlesIf (r .resets) (r .end) (s .decoder .counts .endpoints) (s .decoder .transaction .id) pid (firstMemory s h)
     settles-at a =
         subst (λ (b : Bool). SettlesIf b (r .end) (s .decoder .counts .endpoints) (s .decoder .transaction .id) pid (firstMemory s h)) (sym (q .resets))
         (subst (λ (x : Ending). SettlesIf (resetsBy kind) x (s .decoder .counts .endpoints) (s .decoder .transaction .id) pid (firstMemory s h)) (sym (q .end))
         (subst (λ (p : ℕ). SettlesIf (resetsBy kind) (endingOf (worldAt s)) (s .decoder .counts .endpoints) (s .decoder .transaction .id) p (firstMemory s h)) (sym e)
-        (subst (λ (t : Tally). SettlesIf (resetsBy kind) (endingOf (worldAt s)) (s .decoder .counts .endpoints) (s .decoder .transaction .id) (startPid (s .decoder .transaction .style)) (firstMemory s t)) (sym f) a)))
+        (subst (λ (t : Written). SettlesIf (resetsBy kind) (endingOf (worldAt s)) (s .decoder .counts .endpoints) (s .decoder .transaction .id) (startPid (s .decoder .transaction .style)) (firstMemory s t)) (sym f) a)))
 
     pub settled-at : (m : Memory) → m ≡ settledMemory (r .resets) (r .end) (s .decoder .counts .endpoints) (s .decoder .transaction .id) pid (firstMemory s h) → m ≡ memoryThen (resetsBy kind) s
     settled-at m a =
         a ∙ ap (λ (b : Bool). settledMemory b (r .end) (s .decoder .counts .endpoints) (s .decoder .transaction .id) pid (firstMemory s h)) (q .resets)
         ∙ ap (λ (x : Ending). settledMemory (resetsBy kind) x (s .decoder .counts .endpoints) (s .decoder .transaction .id) pid (firstMemory s h)) (q .end)
         ∙ ap (λ (p : ℕ). settledMemory (resetsBy kind) (endingOf (worldAt s)) (s .decoder .counts .endpoints) (s .decoder .transaction .id) p (firstMemory s h)) e
-        ∙ ap (λ (t : Tally). settledMemory (resetsBy kind) (endingOf (worldAt s)) (s .decoder .counts .endpoints) (s .decoder .transaction .id) (startPid (s .decoder .transaction .style)) (firstMemory s t)) f
+        ∙ ap (λ (t : Written). settledMemory (resetsBy kind) (endingOf (worldAt s)) (s .decoder .counts .endpoints) (s .decoder .transaction .id) (startPid (s .decoder .transaction .style)) (firstMemory s t)) f
 
   -- the record
-  pub decoder-at : room ≡ roomOf (s .logs) → (d : Decoder) (h : Tally) → d ≡ eventDecoder (s .decoder) (r .resets) (told (r .turn)) (r .sum) h → d ≡ eventDecoder (s .decoder) (resetsBy kind) (turnAt s kind) (eventSum kind s) h
+  pub decoder-at : room ≡ roomOf (s .logs) → (d : Decoder) (h : Written) → d ≡ eventDecoder (s .decoder) (r .resets) (told (r .turn)) (r .sum) h → d ≡ eventDecoder (s .decoder) (resetsBy kind) (turnAt s kind) (eventSum kind s) h
   decoder-at e d h a =
       a ∙ ap (λ (b : Bool). eventDecoder (s .decoder) b (told (r .turn)) (r .sum) h) (q .resets)
       ∙ ap (λ (t : rules.Turn). eventDecoder (s .decoder) (resetsBy kind) t (r .sum) h) (q .turn)
       ∙ ap (λ (x : Sum). eventDecoder (s .decoder) (resetsBy kind) (turnAt s kind) x h) (sum-at e)
 
 module _ (s : State) (kind : ℕ) {row group start : Bool} (f : Flags s kind row group start) where
-  pub puts-at : ((s .decoder .counts .packets + 1) * 2 ≤ length (s .logs .packets)) × (((s .decoder .counts .events + 1) * 2 ≤ length (s .logs .events)) × (s .decoder .counts .transactions + length (opt (addsRow (turnAt s kind .act)) (s .decoder .counts .packets ∷ [])) ≤ length (s .logs .transactions)))
-      → ((s .decoder .counts .packets + 1) * 2 ≤ length (s .logs .packets)) × (((s .decoder .counts .events + 1) * 2 ≤ length (s .logs .events)) × (s .decoder .counts .transactions + length (opt row (s .decoder .counts .packets ∷ [])) ≤ length (s .logs .transactions)))
+  pub puts-at : ((s .decoder .counts .packets + 1) * packetWidth ≤ length (s .logs .packets)) × (((s .decoder .counts .events + 1) * eventWidth ≤ length (s .logs .events)) × (s .decoder .counts .transactions * transactionWidth + length (opt (addsRow (turnAt s kind .act)) (s .decoder .counts .packets ∷ [])) ≤ length (s .logs .transactions)))
+      → ((s .decoder .counts .packets + 1) * packetWidth ≤ length (s .logs .packets)) × (((s .decoder .counts .events + 1) * eventWidth ≤ length (s .logs .events)) × (s .decoder .counts .transactions * transactionWidth + length (opt row (s .decoder .counts .packets ∷ [])) ≤ length (s .logs .transactions)))
   puts-at a =
-      subst (λ (b : Bool). ((s .decoder .counts .packets + 1) * 2 ≤ length (s .logs .packets)) × (((s .decoder .counts .events + 1) * 2 ≤ length (s .logs .events)) × (s .decoder .counts .transactions + length (opt b (s .decoder .counts .packets ∷ [])) ≤ length (s .logs .transactions)))) (sym (f .row)) a
+      subst (λ (b : Bool). ((s .decoder .counts .packets + 1) * packetWidth ≤ length (s .logs .packets)) × (((s .decoder .counts .events + 1) * eventWidth ≤ length (s .logs .events)) × (s .decoder .counts .transactions * transactionWidth + length (opt b (s .decoder .counts .packets ∷ [])) ≤ length (s .logs .transactions)))) (sym (f .row)) a
 
   module _ (m : Memory) (e : m ≡ memoryThen (resetsBy kind) s) where
     pub able-at : AbleAt s (turnAt s kind) (aliveAt s kind) (memoryThen (resetsBy kind) s) → Able row group start (s .decoder .counts .endpoints) (s .decoder .counts .transactions) m
@@ -104,24 +106,24 @@ module _ (s : State) (kind : ℕ) {row group start : Bool} (f : Flags s kind row
 -- ---- the state that the code leaves
 
 abbrev pub leaves : State → Decoder → List ℕ → List ℕ → List ℕ → Memory → State
-leaves s d p e t m = state d (s .devices) (m .table) (logs (s .logs .bytes) (s .logs .devices) (s .logs .endpoints) p e t (m .groups) (m .marks) (m .states) (m .items) (m .links) (s .logs .requests))
+leaves s d p e t m = state d (s .devices) (m .table) (logs (s .logs .bytes) (s .logs .devices) (s .logs .endpoints) p e t (m .groups) (m .statebytes) (m .states) (m .items) (m .links) (s .logs .requests))
 
 -- its packet, event and transaction rows
 abbrev pub packetsAt : State → ℕ → List ℕ
-packetsAt s time = sets (s .logs .packets) (s .decoder .counts .packets * 2) (s .decoder .counts .bytes ∷ time ∷ [])
+packetsAt s time = sets (s .logs .packets) (s .decoder .counts .packets * packetWidth) (s .decoder .counts .bytes ∷ time ∷ [])
 
 abbrev pub eventsAt : State → ℕ → List ℕ
-eventsAt s code = sets (s .logs .events) (s .decoder .counts .events * 2) (s .decoder .counts .packets ∷ code ∷ [])
+eventsAt s code = sets (s .logs .events) (s .decoder .counts .events * eventWidth) (s .decoder .counts .packets ∷ code ∷ [])
 
 abbrev pub transactionsAt : State → Bool → List ℕ
-transactionsAt s row = sets (s .logs .transactions) (s .decoder .counts .transactions) (opt row (s .decoder .counts .packets ∷ []))
+transactionsAt s row = sets (s .logs .transactions) (s .decoder .counts .transactions * transactionWidth) (opt row (s .decoder .counts .packets ∷ []))
 
 module _ (s : State) (kind code time : ℕ) where
   abbrev rowsAfter : Memory
   rowsAfter = rowsMemory s (turnAt s kind) (aliveAt s kind) (memoryThen (resetsBy kind) s)
 
   abbrev decoderAt : Memory → Decoder
-  decoderAt m = eventDecoder (s .decoder) (resetsBy kind) (turnAt s kind) (eventSum kind s) (m .tally)
+  decoderAt m = eventDecoder (s .decoder) (resetsBy kind) (turnAt s kind) (eventSum kind s) (m .written)
 
   abbrev Happens : State → Type 0
   Happens s′ = EventCall kind code time s 0 s′

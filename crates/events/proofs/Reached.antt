@@ -7,34 +7,35 @@ use mathlib.Core.Path.{_≡_, refl, sym, ap, _∙_, subst}
 use lib.Dec.{eqb}
 use lib.ListN.{length, getD}
 use lib.Seq.{sets}
+use Rattle.rows.specs.Widths.{eventWidth, packetWidth, transactionWidth}
 use Rattle.transaction.specs.Payload.{startPid}
-use Rattle.tables.specs.Search.{blank}
+use Rattle.details.specs.Search.{blank}
 use Rattle.rules.specs.Rows.{Row, log}
-use Rattle.rules.specs.World.{World}
+use Rattle.rules.specs.World.{World, waitingOf}
 use Rattle.rules.specs.declared.EventState.{EventState}
 use Rattle.rules.specs.declared.Slot.{Slot}
-use Rattle.update.specs.Tally.{inLog, waitingOf, Adds}
-use Rattle.update.specs.declared.tally.Tally.{Tally}
+use Rattle.tally.specs.Tally.{inLog, Adds}
+use Rattle.tally.specs.declared.add.Tally.{Tally}
 use Rattle.write.specs.Holds.{Holds, Space}
 use Rattle.write.specs.HoldsLaws.{holds-start}
 use Rattle.write.specs.Memory.{Memory, memory}
-use Rattle.write.specs.declared.Tally.{Tally as Written}
-use Rattle.judge.specs.FormedLaws.{WellFormed}
-use Rattle.judge.specs.RoomLaws.{Within}
-use Rattle.judge.specs.TabledLaws.{Tabled, tabled-start}
-use Rattle.judge.specs.declared.Counts.{Counts}
-use Rattle.outcome.specs.Outcome.{Appends, Left, countsAfter, decoderOf, worldAt}
-use Rattle.outcome.specs.State.{Logs, State, state, logs, roomBy, roomOf, Known}
-use Rattle.steps.proofs.Played.{tiedTo, Tied}
-use Rattle.reckon.specs.Tallies.{addCounts}
-use Rattle.events.specs.Ended.{tallyOf, tied}
+use Rattle.write.specs.declared.Written.{Written}
+use Rattle.record.specs.FormedLaws.{WellFormed}
+use Rattle.record.specs.RoomLaws.{Within}
+use Rattle.record.specs.TabledLaws.{Tabled, tabled-start}
+use Rattle.record.specs.declared.Counts.{Counts}
+use Rattle.call.specs.Outcome.{Appends, Left, countsAfter, decoderOf, worldAt}
+use Rattle.call.specs.State.{Logs, State, state, logs, roomBy, roomOf}
+use Rattle.call.specs.Share.{Known, writtenOf, tied}
+use Rattle.plan.proofs.Played.{tiedTo, Tied}
+use Rattle.tally.specs.Tallies.{addCounts}
 
 -- the memory of a state, and with another tally
 abbrev pub firstMemory : State → Written → Memory
-firstMemory s h = memory h (s .table) (s .logs .groups) (s .logs .states) (s .logs .marks) (s .logs .items) (s .logs .links)
+firstMemory s h = memory h (s .table) (s .logs .groups) (s .logs .statebytes) (s .logs .states) (s .logs .items) (s .logs .links)
 
 abbrev pub memoryAt : State → Memory
-memoryAt s = firstMemory s (tallyOf (s .decoder))
+memoryAt s = firstMemory s (writtenOf (s .decoder))
 
 abbrev pub HoldsAt : State → World → Memory → Type 0
 HoldsAt s w m = Holds (s .decoder .counts .endpoints) (s .decoder .transaction .id) (startPid (s .decoder .transaction .style)) (memoryAt s) w m
@@ -77,7 +78,7 @@ unfolding addCounts roomBy inLog
 space s t v a w =
     record {
       groups = let e = a .words 6 in let g = w .groups in omega (arith, e, g);
-      marks = let e = a .words 7 in let g = w .marks in omega (arith, e, g);
+      statebytes = let e = a .words 7 in let g = w .statebytes in omega (arith, e, g);
       states = let e = a .words 8 in let g = w .states in omega (arith, e, g);
       items = let e = a .words 9 in let g = w .items in omega (arith, e, g);
       links = let e = a .words 10 in let g = w .links in omega (arith, e, g);
@@ -91,16 +92,16 @@ pub record Besides (w : World) (n : Counts) (l : Logs) (packets events transacti
   pub devices : log 1 (w .journal) ≡ []
   pub endpoints : log 2 (w .journal) ≡ []
   pub requests : log 11 (w .journal) ≡ []
-  pub packetRows : packets ≡ sets (l .packets) (n .packets * 2) (log 3 (w .journal))
-  pub eventRows : events ≡ sets (l .events) (n .events * 2) (log 4 (w .journal))
-  pub transactionRows : transactions ≡ sets (l .transactions) (n .transactions) (log 5 (w .journal))
+  pub packetRows : packets ≡ sets (l .packets) (n .packets * packetWidth) (log 3 (w .journal))
+  pub eventRows : events ≡ sets (l .events) (n .events * eventWidth) (log 4 (w .journal))
+  pub transactionRows : transactions ≡ sets (l .transactions) (n .transactions * transactionWidth) (log 5 (w .journal))
 
 none-written : (l : List ℕ) (at k : ℕ) (js : List Row) → log k js ≡ [] → l ≡ sets l at (log k js)
 none-written l at k js e = ap (sets l at) (sym e)
 
 module _ (s : State) (w : World) (m : Memory) (holds : HoldsAt s w m) (table : Tabled (s .decoder .counts .endpoints) (s .table) (m .table)) where
   appends : (p e t : List ℕ) → Besides w (s .decoder .counts) (s .logs) p e t
-      → Appends w (s .decoder .counts) (s .logs) (logs (s .logs .bytes) (s .logs .devices) (s .logs .endpoints) p e t (m .groups) (m .marks) (m .states) (m .items) (m .links) (s .logs .requests))
+      → Appends w (s .decoder .counts) (s .logs) (logs (s .logs .bytes) (s .logs .devices) (s .logs .endpoints) p e t (m .groups) (m .statebytes) (m .states) (m .items) (m .links) (s .logs .requests))
   appends p e t b =
       record {
         bytes = none-written (s .logs .bytes) _ 0 (w .journal) (b .bytes);
@@ -110,17 +111,17 @@ module _ (s : State) (w : World) (m : Memory) (holds : HoldsAt s w m) (table : T
         events = b .eventRows;
         transactions = b .transactionRows;
         groups = holds .groups .written;
-        marks = holds .marks .written;
+        statebytes = holds .statebytes .written;
         states = holds .states .written;
         items = holds .items .written;
         links = holds .links .written;
         requests = none-written (s .logs .requests) _ 11 (w .journal) (b .requests);
       }
 
-  tied-is : Tied (s .decoder .transaction) (w .transaction) → tied (s .decoder .transaction) (m .tally) ≡ w .transaction
+  tied-is : Tied (s .decoder .transaction) (w .transaction) → tied (s .decoder .transaction) (m .written) ≡ w .transaction
   tied-is h =
       let t = s .decoder .transaction in
-      ap (λ (b : Bool). tiedTo t b (m .tally .link)) (holds .linked) ∙ ap (tiedTo t (w .transaction .linked)) (holds .link) ∙ sym h
+      ap (λ (b : Bool). tiedTo t b (m .written .link)) (holds .linked) ∙ ap (tiedTo t (w .transaction .linked)) (holds .link) ∙ sym h
 
   -- what it leaves is what the rules leave
   pub left-of : (size : length (s .table) ≡ 2176) → ((j : ℕ) → w .devices j ≡ getD (s .devices) j blank) → Tied (s .decoder .transaction) (w .transaction)
@@ -128,8 +129,8 @@ module _ (s : State) (w : World) (m : Memory) (holds : HoldsAt s w m) (table : T
       → countsAfter (s .decoder .counts) w ≡ c → w .slot ≡ slot → w .eventState ≡ event → w .keepalive ≡ keepalive → waitingOf w ≡ waiting
       → (p e t : List ℕ) → Besides w (s .decoder .counts) (s .logs) p e t
       → Left w f s
-      (state (record { counts = c; slot = slot; transaction = tied (s .decoder .transaction) (m .tally); last = m .tally .last; event = event; keepalive = keepalive; waiting = waiting; finished = f }) (s .devices) (m .table)
-      (logs (s .logs .bytes) (s .logs .devices) (s .logs .endpoints) p e t (m .groups) (m .marks) (m .states) (m .items) (m .links) (s .logs .requests)))
+      (state (record { counts = c; slot = slot; transaction = tied (s .decoder .transaction) (m .written); last = m .written .last; event = event; keepalive = keepalive; waiting = waiting; finished = f }) (s .devices) (m .table)
+      (logs (s .logs .bytes) (s .logs .devices) (s .logs .endpoints) p e t (m .groups) (m .statebytes) (m .states) (m .items) (m .links) (s .logs .requests)))
   unfolding decoderOf
   left-of size devices tie f c slot event keepalive waiting ec es ee ek ew p e t b =
       record {

@@ -5,12 +5,12 @@ use mathlib.Core.Bool.{Bool, true, false, not, cond}
 use mathlib.Core.Path.{_≡_, refl, sym, ap, _∙_}
 use lib.Dec.{ltb}
 use Rattle.rules.specs.World.{World}
-use Rattle.judge.specs.Answers.{firstOf, eventTests}
-use Rattle.judge.specs.declared.Counts.{Counts}
-use Rattle.outcome.specs.Outcome.{Answers, accepts, isIll}
-use Rattle.outcome.specs.OutcomeLaws.{refused, ill-by}
-use Rattle.outcome.specs.State.{State, roomOf}
-use Rattle.events.specs.After.{firstTests}
+use Rattle.record.specs.Answers.{firstOf, eventTests}
+use Rattle.record.specs.declared.Counts.{Counts}
+use Rattle.call.specs.Outcome.{Answers, accepts, isIll}
+use Rattle.call.specs.OutcomeLaws.{refused, ill-by}
+use Rattle.call.specs.State.{State, roomOf}
+use Rattle.call.specs.Share.{firstTests}
 
 pub flipped : (b c : Bool) → not b ≡ c → b ≡ not c
 flipped true c e = ap not e
@@ -29,7 +29,7 @@ passes false true kind e = absurd (omega arith)
 passes false false true e = absurd (omega arith)
 passes false false false e = (refl, (refl, refl))
 
-module _ (s : State) (room : Counts) (kind a : ℕ) (r : room ≡ roomOf (s .logs)) (h : a ≡ firstTests (s .decoder) (s .devices) (s .table) room kind) where
+module _ (s : State) (room : Counts) (kind a : ℕ) (r : room ≡ roomOf (s .logs)) (h : a ≡ firstTests (s .decoder) (s .devices) (s .table) room kind 7 4) where
   first-is : a ≡ cond (isIll s) 1 (cond (s .decoder .finished) 2 (cond (ltb 7 kind) 4 0))
   first-is = h ∙ ap (λ (b : Bool). cond b 1 (cond (s .decoder .finished) 2 (cond (ltb 7 kind) 4 0))) (ill-by s room r)
 

@@ -4,28 +4,29 @@ use native.Mathlib.Omega.{arith}
 use mathlib.Core.Bool.{Bool, true, false}
 use mathlib.Core.Path.{_≡_, subst}
 use Rattle.transaction.specs.Payload.{startPid}
-use Rattle.tables.specs.Table.{entryAt}
-use Rattle.tables.specs.TableLaws.{fits-entry}
-use Rattle.update.specs.Tally.{Adds}
+use Rattle.endpoints.specs.Table.{entryAt}
+use Rattle.endpoints.specs.TableLaws.{fits-entry}
+use Rattle.tally.specs.Tally.{Adds}
 use Rattle.update.specs.Update.{when}
 use Rattle.write.specs.Memory.{Room}
-use Rattle.judge.specs.FormedLaws.{WellFormed}
-use Rattle.outcome.specs.Outcome.{isIll, worldAt}
-use Rattle.outcome.specs.OutcomeLaws.{sound}
-use Rattle.outcome.specs.State.{State, roomOf, Known}
-use Rattle.plan.specs.Ready.{Ready, ready}
-use Rattle.steps.specs.Ending.{currentEndpoint, endingOf, endPlayed}
-use Rattle.steps.specs.Sound.{EndFits}
-use Rattle.steps.specs.Step.{ended, endOf}
-use Rattle.steps.proofs.Small.{Few, FewAll, few-more, group-small, ended-few}
-use Rattle.steps.proofs.Sound.{fits-ending}
-use Rattle.reckon.specs.Suited.{EndingSuits, Totalled}
-use Rattle.reckon.specs.Tallies.{Under, tallyEnding}
-use Rattle.reckon.proofs.Bounds.{under}
-use Rattle.reckon.proofs.Counted.{ending-adds}
-use Rattle.reckon.proofs.Formed.{current-stands, waiting-is, waiting-few}
-use Rattle.reckon.proofs.Planned.{ending-suits}
-use Rattle.reckon.proofs.Quiet.{ending-totals}
+use Rattle.record.specs.FormedLaws.{WellFormed}
+use Rattle.call.specs.Outcome.{isIll, worldAt}
+use Rattle.call.specs.OutcomeLaws.{sound}
+use Rattle.call.specs.State.{State, roomOf}
+use Rattle.call.specs.Share.{Known}
+use Rattle.decide.specs.Ready.{Ready, ready}
+use Rattle.plan.specs.Ending.{currentEndpoint, endingOf, endPlayed}
+use Rattle.plan.specs.Sound.{EndFits}
+use Rattle.plan.specs.Step.{ended, endOf}
+use Rattle.plan.proofs.Small.{Few, FewAll, few-more, group-small, ended-few}
+use Rattle.plan.proofs.Sound.{fits-ending}
+use Rattle.tally.specs.Suited.{EndingSuits, Totalled}
+use Rattle.tally.specs.Tallies.{Under, tallyEnding}
+use Rattle.tally.proofs.Bounds.{under}
+use Rattle.tally.proofs.Counted.{ending-adds}
+use Rattle.tally.proofs.Formed.{current-stands, waiting-is, waiting-few}
+use Rattle.tally.proofs.Planned.{ending-suits}
+use Rattle.tally.proofs.Quiet.{ending-totals}
 use Rattle.events.specs.Ended.{closedOn, endedMemory, Endable}
 use Rattle.events.proofs.Ends.{reached-ended, reached-when}
 use Rattle.events.proofs.Reached.{memoryAt, Reached, reached-start}

@@ -6,9 +6,10 @@ use mathlib.Core.List.{List, [], _∷_}
 use mathlib.Core.Path.{_≡_, refl, sym, ap, _∙_, subst}
 use borrow.Author.Tests.{ne-eqb}
 use lib.ListN.{length, getD}
+use Rattle.rows.specs.Widths.{linkWidth}
 use Rattle.rows.specs.Sets.{opt}
-use Rattle.tables.specs.Search.{blank}
-use Rattle.tables.specs.declared.Device.{Device}
+use Rattle.details.specs.Search.{blank}
+use Rattle.details.specs.declared.Device.{Device}
 use Rattle.rules.specs.Decoder.{pushPacket}
 use Rattle.rules.specs.Events as rules
 use Rattle.rules.specs.Rows.{Row, PacketRow, EventRow, log}
@@ -17,14 +18,14 @@ use Rattle.rules.specs.declared.EventState.{EventState}
 use Rattle.rules.specs.declared.Slot.{Slot}
 use Rattle.update.specs.Update.{when}
 use Rattle.write.specs.Holds.{Space}
-use Rattle.write.specs.Memory.{Memory, Room, linkTally}
+use Rattle.write.specs.Memory.{Memory, Room, linkWritten}
 use Rattle.event.specs.Event.{addsRow, addsGroup, isCurrent}
-use Rattle.eventdo.specs.ActedLaws.{below, requests, keepaliveAfter, event-acted, event-keepalive}
-use Rattle.eventdo.specs.Rows.{Able, eventLinked, eventRows, startsGroup}
-use Rattle.eventdo.specs.RowsLaws.{holds-alike, packet-alike, event-row-alike, event-able, event-update-holds}
-use Rattle.eventdo.proofs.Rooms.{room-groups, room-states, room-marks, room-items, first-asks}
-use Rattle.outcome.specs.State.{State}
-use Rattle.steps.proofs.Played.{Tied}
+use Rattle.write_event.specs.ActedLaws.{below, requests, keepaliveAfter, event-acted, event-keepalive}
+use Rattle.write_event.specs.Rows.{Able, eventLinked, eventRows, startsGroup}
+use Rattle.write_event.specs.RowsLaws.{holds-alike, packet-alike, event-row-alike, event-able, event-update-holds}
+use Rattle.write_event.proofs.Rooms.{room-groups, room-states, room-statebytes, room-items, first-asks}
+use Rattle.call.specs.State.{State}
+use Rattle.plan.proofs.Played.{Tied}
 use Rattle.events.proofs.Before.{Grows}
 use Rattle.events.proofs.Reached.{memoryAt, HoldsAt, Aside, Reached}
 
@@ -34,14 +35,14 @@ pub room-before : (row group start : Bool) (n id : ℕ) (m : Memory) → Able ro
 unfolding eventRows
 room-before row group start n id m a = by row group (a .room) (first-asks row group start n id m a .1)
   where
-    by : (row group : Bool) → Room (eventRows row group start n id m) → when row linkTally (m .tally) .links * 4 ≤ length (m .links) → Room m
+    by : (row group : Bool) → Room (eventRows row group start n id m) → when row linkWritten (m .written) .links * linkWidth ≤ length (m .links) → Room m
     by false false r l = r
-    by true false r l = record { groups = r .groups; states = r .states; marks = r .marks; items = r .items; links = omega (arith, l) }
+    by true false r l = record { groups = r .groups; states = r .states; statebytes = r .statebytes; items = r .items; links = omega (arith, l) }
     by false true r l =
-        record { groups = omega (arith, room-groups n start m r); states = omega (arith, room-states n start m r); marks = omega (arith, room-marks n start m r); items = omega (arith, room-items n start m r); links = l }
+        record { groups = omega (arith, room-groups n start m r); states = omega (arith, room-states n start m r); statebytes = omega (arith, room-statebytes n start m r); items = omega (arith, room-items n start m r); links = l }
     by true true r l =
         let v = eventLinked id m in
-        record { groups = omega (arith, room-groups n start v r); states = omega (arith, room-states n start v r); marks = omega (arith, room-marks n start v r); items = omega (arith, room-items n start v r); links = omega (arith, l) }
+        record { groups = omega (arith, room-groups n start v r); states = omega (arith, room-states n start v r); statebytes = omega (arith, room-statebytes n start v r); items = omega (arith, room-items n start v r); links = omega (arith, l) }
 
 -- ---- the rows
 

@@ -1,33 +1,28 @@
--- What the two calls leave, as the code puts it together: the sum and the record.
+-- Inner (cited by private contracts alone): what the two calls leave, as the code puts it together: the sum and the record.
 use Prim.Native.Nat.{ℕ}
-use mathlib.Core.Bool.{Bool, true, false, cond, not, _&&_, _||_}
+use mathlib.Core.Bool.{Bool, true, false, not, _&&_}
 use mathlib.Core.Path.{_≡_}
 use mathlib.Core.List.{List}
-use lib.Dec.{eqb, ltb}
-use Rattle.tables.specs.Phases.{active}
-use Rattle.tables.specs.declared.Device.{Device}
+use lib.Dec.{eqb}
+use Rattle.endpoints.specs.Each.{active}
+use Rattle.details.specs.declared.Device.{Device}
 use Rattle.rules.specs.Decoder.{suspendAt}
 use Rattle.rules.specs.Events.{Act, Turn, turnOf}
 use Rattle.rules.specs.declared.Slot.{Slot}
-use Rattle.update.specs.declared.tally.Tally.{Tally}
-use Rattle.write.specs.declared.Tally.{Tally as Written}
-use Rattle.judge.specs.Formed.{wellFormed}
-use Rattle.judge.specs.Room.{fitting, long}
-use Rattle.judge.specs.declared.Counts.{Counts}
-use Rattle.judge.specs.World.{worldOf}
-use Rattle.judge.specs.declared.Decoder.{Decoder}
+use Rattle.tally.specs.declared.add.Tally.{Tally}
+use Rattle.write.specs.declared.Written.{Written}
+use Rattle.record.specs.Room.{fitting}
+use Rattle.record.specs.declared.Counts.{Counts}
+use Rattle.record.specs.World.{worldOf}
+use Rattle.record.specs.declared.Decoder.{Decoder}
 use Rattle.event.specs.Event.{told}
-use Rattle.eventdo.specs.ActedLaws.{keepaliveAfter}
-use Rattle.steps.specs.Ending.{slotEnded, endingOf}
-use Rattle.steps.specs.declared.Ending.{Ending}
-use Rattle.reckon.specs.Tallies.{tallyKeepalive, tallyEvent, addCounts}
-use Rattle.events.specs.Ended.{tied}
-use Rattle.events.specs.declared.decide.Decided.{Decided}
+use Rattle.write_event.specs.ActedLaws.{keepaliveAfter}
+use Rattle.plan.specs.Ending.{slotEnded, endingOf}
+use Rattle.plan.specs.declared.Ending.{Ending}
+use Rattle.tally.specs.Tallies.{tallyKeepalive, tallyEvent, addCounts}
+use Rattle.call.specs.Share.{tied}
+use Rattle.events.specs.declared.decided.Decided.{Decided}
 use Rattle.events.specs.declared.sum.Sum.{Sum}
-
--- the tests that come first: 1, 2 and, by the event's kind, 4
-abbrev pub firstTests : Decoder → List Device → List ℕ → Counts → ℕ → ℕ
-firstTests d v t room kind = cond (long room || not (wellFormed d v t room)) 1 (cond (d .finished) 2 (cond (ltb 7 kind) 4 0))
 
 -- with the rows of t behind n
 unfoldable pub sumOf : Counts → Tally → Counts → Sum

@@ -1,11 +1,12 @@
--- The event call (handle_event) and finish: their tests in 01's order, and what the rules leave.
+-- To be believed: the event call (handle_event) and finish: their tests in 01's order, and what the rules leave.
+-- Hold it to: handle_event and finish of decoder.rs; 01, "Answer numbers": 1, 2, 4, 7, 9
 use Prim.Native.Nat.{ℕ}
 use mathlib.Core.Bool.{true}
 use Rattle.rules.specs.Decoder.{handleEvent, finish}
 use Rattle.rules.specs.World.{World}
-use Rattle.judge.specs.Answers.{Tests, eventTests, finishTests}
-use Rattle.outcome.specs.Outcome.{Answers, isIll, isFull, isOver, worldAt}
-use Rattle.outcome.specs.State.{State}
+use Rattle.record.specs.Answers.{Tests, eventTests, finishTests}
+use Rattle.call.specs.Outcome.{Answers, isIll, isFull, isOver, worldAt}
+use Rattle.call.specs.State.{State}
 
 -- the tests of an event of this kind that by the rules ends in the world w
 abbrev pub eventTestsOf : ℕ → World → State → Tests

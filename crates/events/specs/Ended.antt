@@ -1,28 +1,16 @@
--- The current transaction's end by an event or by finish, on memory (write, Memory), and what carrying it out asks.
+-- Inner (cited by private contracts alone): the current transaction's end by an event or by finish, on memory (write, Memory), and what carrying it out asks.
 use Prim.Native.Nat.{ℕ, _+_, _^_, _<_, _≤_}
 use mathlib.Core.Bool.{Bool, true}
 use mathlib.Core.Path.{_≡_}
 use lib.ListN.{length}
-use Rattle.tables.specs.Table.{Fits}
-use Rattle.transaction.specs.declared.Transaction.{Transaction}
+use Rattle.endpoints.specs.TableLaws.{Fits}
 use Rattle.rules.specs.Groups.{becomes}
 use Rattle.update.specs.Update.{when}
 use Rattle.write.specs.Memory.{Memory, Room, altered}
-use Rattle.write.specs.declared.Tally.{Tally}
-use Rattle.carry.specs.Carried.{carried}
-use Rattle.eventdo.specs.Rows.{allEnded}
-use Rattle.judge.specs.declared.Decoder.{Decoder}
-use Rattle.steps.specs.declared.End.{End}
-use Rattle.steps.specs.declared.Ending.{Ending}
-
--- where a call begins to write
-abbrev pub tallyOf : Decoder → Tally
-tallyOf d =
-    record { groups = d .counts .groups; states = d .counts .states; marks = d .counts .marks; items = d .counts .items; links = d .counts .links; last = d .last; linked = d .transaction .linked; link = d .transaction .link }
-
--- a transaction with the T row that it has by now
-abbrev pub tied : Transaction → Tally → Transaction
-tied t h = record { style = t .style; id = t .id; last = t .last; endpoint = t .endpoint; kind = t .kind; linked = h .linked; link = h .link; ready = t .ready; setup = t .setup; filled = t .filled; payload = t .payload }
+use Rattle.write_update.specs.Carried.{carried}
+use Rattle.write_event.specs.Rows.{allEnded}
+use Rattle.plan.specs.declared.End.{End}
+use Rattle.plan.specs.declared.Ending.{Ending}
 
 -- on endpoint x, one of n, of the transaction in row id that began with pid: the entry as group_status leaves it, and the update
 abbrev pub closedOn : ℕ → End → ℕ → ℕ → ℕ → Memory → Memory

@@ -1,3 +1,4 @@
 pub mod Call
+pub mod CallLaws
 pub mod Ended
 pub mod After

@@ -1,37 +1,41 @@
 // The two calls on a record and logs that are known to be right: they require what the public calls test.
-use crate::decide::decide;
-use crate::decide::keepalive_after;
-use crate::decide::slot_after;
-use crate::decide::starts_group;
+use crate::decided::decide;
+use crate::decided::keepalive_after;
+use crate::decided::slot_after;
+use crate::decided::starts_group;
 use crate::ending::end_here;
 use crate::ending::settle;
 use crate::ending::slot_ended;
-use crate::ending::tally_of;
-use crate::ending::tie;
 use crate::sum::Sum;
 use crate::sum::sum_finish;
+use call::known;
+use call::room_of;
+use call::tie;
+use call::written_of;
+use decide::plan_ending;
+use details::Device;
 use event::Turn;
 use event::adds_group;
 use event::adds_row;
-use eventdo::event_rows;
-use judge::Counts;
-use judge::Decoder;
-use outcome::known;
-use outcome::room_of;
-use plan::plan_ending;
-use tables::Device;
+use record::Counts;
+use record::Decoder;
+use rows::width;
 use transaction::payload::start_pid;
-use write::Tally;
+use write::Written;
+use write::leaf::put_transaction;
+use write_event::event_rows;
 ghost use mathlib.Core.Bool.{false};
 ghost use mathlib.Core.List.{[], _∷_};
 ghost use mathlib.Core.Path.{_≡_};
 ghost use Prim.Native.Nat.{_+_, _*_, _≤_};
 ghost use lib.ListN.{length};
 ghost use lib.Seq.{sets};
+ghost use Rattle.rows.specs.Widths.{eventWidth, packetWidth, transactionWidth};
+ghost use Rattle.rules.specs.Rows.{naming, transactionWords};
 ghost use Rattle.rows.specs.Sets.{opt};
 ghost use Rattle.event.specs.Event.{told};
-ghost use Rattle.outcome.specs.Outcome.{isIll};
-ghost use Rattle.outcome.specs.State.{state, logs};
+ghost use Rattle.call.specs.Outcome.{isIll};
+ghost use Rattle.call.specs.State.{state, logs};
 ghost use Rattle.events.specs.After.{finishedDecoder, eventDecoder};
 ghost use Rattle.events.specs.Call.{EventCall, FinishCall};
 
@@ -45,8 +49,8 @@ pub struct Inner {
 }
 
 // The record after finish.
-fn finished_decoder(d: Decoder, sum: Sum, tally: Tally) -> Decoder
-    ensures { λ r. ⌜ r ≡ finishedDecoder d sum tally ⌝ }
+fn finished_decoder(d: Decoder, sum: Sum, written: Written) -> Decoder
+    ensures { λ r. ⌜ r ≡ finishedDecoder d sum written ⌝ }
 {
     let counts = sum.counts;
     let slot = d.slot;
@@ -54,8 +58,8 @@ fn finished_decoder(d: Decoder, sum: Sum, tally: Tally) -> Decoder
     Decoder {
         counts,
         slot: slot_ended(slot),
-        transaction: tie(d.transaction, tally),
-        last: tally.last,
+        transaction: tie(d.transaction, written),
+        last: written.last,
         event,
         keepalive: d.keepalive,
         waiting: sum.waiting,
@@ -75,15 +79,15 @@ pub fn finish_in(
     events: &[u64],
     transactions: &[u64],
     groups: &mut [u64],
-    marks: &mut [u8],
+    statebytes: &mut [u8],
     states: &mut [u64],
     items: &mut [u64],
     links: &mut [u64],
     requests: &[u64],
 ) -> Inner
-    requires { ⌜ isIll (state d devices (now table) (logs (now bytes) (now «device_rows») (now «endpoint_rows») (now packets) (now events) (now transactions) (now groups) (now marks) (now states) (now items) (now links) (now requests))) ≡ false ⌝ }
+    requires { ⌜ isIll (state d devices (now table) (logs (now bytes) (now «device_rows») (now «endpoint_rows») (now packets) (now events) (now transactions) (now groups) (now statebytes) (now states) (now items) (now links) (now requests))) ≡ false ⌝ }
     requires { ⌜ d .finished ≡ false ⌝ }
-    ensures { λ r. ⌜ FinishCall (state d devices (now (table .entry)) (logs (now (bytes .entry)) (now («device_rows» .entry)) (now («endpoint_rows» .entry)) (now (packets .entry)) (now (events .entry)) (now (transactions .entry)) (now (groups .entry)) (now (marks .entry)) (now (states .entry)) (now (items .entry)) (now (links .entry)) (now (requests .entry)))) (r .answer) (state (r .decoder) devices (now (table .exit)) (logs (now (bytes .exit)) (now («device_rows» .exit)) (now («endpoint_rows» .exit)) (now (packets .exit)) (now (events .exit)) (now (transactions .exit)) (now (groups .exit)) (now (marks .exit)) (now (states .exit)) (now (items .exit)) (now (links .exit)) (now (requests .exit)))) ⌝ }
+    ensures { λ r. ⌜ FinishCall (state d devices (now (table .entry)) (logs (now (bytes .entry)) (now («device_rows» .entry)) (now («endpoint_rows» .entry)) (now (packets .entry)) (now (events .entry)) (now (transactions .entry)) (now (groups .entry)) (now (statebytes .entry)) (now (states .entry)) (now (items .entry)) (now (links .entry)) (now (requests .entry)))) (r .answer) (state (r .decoder) devices (now (table .exit)) (logs (now (bytes .exit)) (now («device_rows» .exit)) (now («endpoint_rows» .exit)) (now (packets .exit)) (now (events .exit)) (now (transactions .exit)) (now (groups .exit)) (now (statebytes .exit)) (now (states .exit)) (now (items .exit)) (now (links .exit)) (now (requests .exit)))) ⌝ }
 {
     let room = room_of(
         bytes.len(),
@@ -93,7 +97,7 @@ pub fn finish_in(
         events.len(),
         transactions.len(),
         groups.len(),
-        marks.len(),
+        statebytes.len(),
         states.len(),
         items.len(),
         links.len(),
@@ -111,22 +115,22 @@ pub fn finish_in(
             decoder: d,
         };
     }
-    let tally = end_here(
+    let written = end_here(
         e,
         held.id,
         start_pid(style),
-        tally_of(d),
+        written_of(d),
         n.endpoints,
         table,
         groups,
-        marks,
+        statebytes,
         states,
         items,
         links,
     );
     Inner {
         answer: 0,
-        decoder: finished_decoder(d, sum, tally),
+        decoder: finished_decoder(d, sum, written),
     }
 }
 
@@ -140,23 +144,23 @@ fn put_event(
     events: &mut [u64],
     transactions: &mut [u64],
 )
-    requires { ⌜ (n .packets + 1) * 2 ≤ length (now packets) ⌝ }
-    requires { ⌜ (n .events + 1) * 2 ≤ length (now events) ⌝ }
-    requires { ⌜ n .transactions + length (opt row (n .packets ∷ [])) ≤ length (now transactions) ⌝ }
-    ensures { λ r. ⌜ now (packets .exit) ≡ sets (now (packets .entry)) (n .packets * 2) (n .bytes ∷ time ∷ []) ⌝ }
-    ensures { λ r. ⌜ now (events .exit) ≡ sets (now (events .entry)) (n .events * 2) (n .packets ∷ code ∷ []) ⌝ }
-    ensures { λ r. ⌜ now (transactions .exit) ≡ sets (now (transactions .entry)) (n .transactions) (opt row (n .packets ∷ [])) ⌝ }
+    requires { ⌜ (n .packets + 1) * packetWidth ≤ length (now packets) ⌝ }
+    requires { ⌜ (n .events + 1) * eventWidth ≤ length (now events) ⌝ }
+    requires { ⌜ n .transactions * transactionWidth + length (opt row (transactionWords (naming (n .packets)))) ≤ length (now transactions) ⌝ }
+    ensures { λ r. ⌜ now (packets .exit) ≡ sets (now (packets .entry)) (n .packets * packetWidth) (n .bytes ∷ time ∷ []) ⌝ }
+    ensures { λ r. ⌜ now (events .exit) ≡ sets (now (events .entry)) (n .events * eventWidth) (n .packets ∷ code ∷ []) ⌝ }
+    ensures { λ r. ⌜ now (transactions .exit) ≡ sets (now (transactions .entry)) (n .transactions * transactionWidth) (opt row (transactionWords (naming (n .packets)))) ⌝ }
 {
     let p = n.packets;
     let e = n.events;
-    rows::put2(packets, p * 2, n.bytes as u64, time);
-    rows::put2(events, e * 2, p as u64, code as u64);
-    rows::put1_if(row, transactions, n.transactions, p as u64);
+    rows::put2(packets, p * width::PACKET, n.bytes as u64, time);
+    rows::put2(events, e * width::EVENT, p as u64, code as u64);
+    put_transaction(row, transactions, n.transactions, p as u64);
 }
 
 // The record after an event.
-fn event_decoder(d: Decoder, resets: bool, turn: Turn, sum: Sum, tally: Tally) -> Decoder
-    ensures { λ r. ⌜ r ≡ eventDecoder d resets (told turn) sum tally ⌝ }
+fn event_decoder(d: Decoder, resets: bool, turn: Turn, sum: Sum, written: Written) -> Decoder
+    ensures { λ r. ⌜ r ≡ eventDecoder d resets (told turn) sum written ⌝ }
 {
     let counts = sum.counts;
     let slot = d.slot;
@@ -165,8 +169,8 @@ fn event_decoder(d: Decoder, resets: bool, turn: Turn, sum: Sum, tally: Tally) -
     Decoder {
         counts,
         slot: slot_after(resets, slot),
-        transaction: tie(d.transaction, tally),
-        last: tally.last,
+        transaction: tie(d.transaction, written),
+        last: written.last,
         event: next,
         keepalive: keepalive_after(act, d.keepalive & !resets),
         waiting: sum.waiting,
@@ -189,16 +193,16 @@ pub fn event_in(
     events: &mut [u64],
     transactions: &mut [u64],
     groups: &mut [u64],
-    marks: &mut [u8],
+    statebytes: &mut [u8],
     states: &mut [u64],
     items: &mut [u64],
     links: &mut [u64],
     requests: &[u64],
 ) -> Inner
-    requires { ⌜ isIll (state d devices (now table) (logs (now bytes) (now «device_rows») (now «endpoint_rows») (now packets) (now events) (now transactions) (now groups) (now marks) (now states) (now items) (now links) (now requests))) ≡ false ⌝ }
+    requires { ⌜ isIll (state d devices (now table) (logs (now bytes) (now «device_rows») (now «endpoint_rows») (now packets) (now events) (now transactions) (now groups) (now statebytes) (now states) (now items) (now links) (now requests))) ≡ false ⌝ }
     requires { ⌜ d .finished ≡ false ⌝ }
     requires { ⌜ kind ≤ 7 ⌝ }
-    ensures { λ r. ⌜ EventCall kind code time (state d devices (now (table .entry)) (logs (now (bytes .entry)) (now («device_rows» .entry)) (now («endpoint_rows» .entry)) (now (packets .entry)) (now (events .entry)) (now (transactions .entry)) (now (groups .entry)) (now (marks .entry)) (now (states .entry)) (now (items .entry)) (now (links .entry)) (now (requests .entry)))) (r .answer) (state (r .decoder) devices (now (table .exit)) (logs (now (bytes .exit)) (now («device_rows» .exit)) (now («endpoint_rows» .exit)) (now (packets .exit)) (now (events .exit)) (now (transactions .exit)) (now (groups .exit)) (now (marks .exit)) (now (states .exit)) (now (items .exit)) (now (links .exit)) (now (requests .exit)))) ⌝ }
+    ensures { λ r. ⌜ EventCall kind code time (state d devices (now (table .entry)) (logs (now (bytes .entry)) (now («device_rows» .entry)) (now («endpoint_rows» .entry)) (now (packets .entry)) (now (events .entry)) (now (transactions .entry)) (now (groups .entry)) (now (statebytes .entry)) (now (states .entry)) (now (items .entry)) (now (links .entry)) (now (requests .entry)))) (r .answer) (state (r .decoder) devices (now (table .exit)) (logs (now (bytes .exit)) (now («device_rows» .exit)) (now («endpoint_rows» .exit)) (now (packets .exit)) (now (events .exit)) (now (transactions .exit)) (now (groups .exit)) (now (statebytes .exit)) (now (states .exit)) (now (items .exit)) (now (links .exit)) (now (requests .exit)))) ⌝ }
 {
     let room = room_of(
         bytes.len(),
@@ -208,7 +212,7 @@ pub fn event_in(
         events.len(),
         transactions.len(),
         groups.len(),
-        marks.len(),
+        statebytes.len(),
         states.len(),
         items.len(),
         links.len(),
@@ -232,37 +236,37 @@ pub fn event_in(
     let row = adds_row(act);
     let group = adds_group(act, d.keepalive & !c.resets);
     let start = starts_group(act);
-    let tally = settle(
+    let written = settle(
         c.resets,
         end,
         held.id,
         start_pid(style),
-        tally_of(d),
+        written_of(d),
         n.endpoints,
         table,
         groups,
-        marks,
+        statebytes,
         states,
         items,
         links,
     );
     put_event(n, row, code, time, packets, events, transactions);
-    let tally = event_rows(
+    let written = event_rows(
         row,
         group,
         start,
-        tally,
+        written,
         n.endpoints,
         n.transactions as u64,
         table,
         groups,
+        statebytes,
         states,
-        marks,
         items,
         links,
     );
     Inner {
         answer: 0,
-        decoder: event_decoder(d, c.resets, turn, sum, tally),
+        decoder: event_decoder(d, c.resets, turn, sum, written),
     }
 }

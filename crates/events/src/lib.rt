@@ -1,40 +1,24 @@
 // The event call and finish (handle_event and finish of decoder.rs). Everything is decided first: a refused call returns before the first write.
-mod decide;
+mod decided;
 pub mod ending;
 pub mod inner;
 mod sum;
 
 use crate::inner::event_in;
 use crate::inner::finish_in;
-use judge::Counts;
-use judge::Decoder;
-use outcome::Called;
-use outcome::is_ill;
-use outcome::room_of;
-use tables::Device;
+use call::Called;
+use call::first_tests;
+use call::room_of;
+use details::Device;
+use record::Decoder;
 ghost use mathlib.Core.Path.{_≡_};
-ghost use Rattle.outcome.specs.State.{state, logs};
-ghost use Rattle.events.specs.After.{firstTests};
+ghost use Rattle.call.specs.State.{state, logs};
 ghost use Rattle.events.specs.Call.{EventCall, FinishCall};
 
-// The last event kind (01, Rules of a group).
-const LAST_KIND: u8 = 7;
+// The last event kind (01, Rules of a group), and the answer to one above it.
+const LAST_KIND: usize = 7;
 
-// Answers 1, 2 and 4, and 0 where none of them is given.
-fn first_tests(d: Decoder, devices: [Device; 64], table: &[u64; 2176], room: Counts, kind: u8) -> u8
-    ensures { λ r. ⌜ r ≡ firstTests d devices (now (table .entry)) room kind ⌝ }
-{
-    if is_ill(d, devices, table, room) {
-        return 1;
-    }
-    if d.finished {
-        return 2;
-    }
-    if LAST_KIND < kind {
-        return 4;
-    }
-    0
-}
+const NO_KIND: u8 = 4;
 
 // An event of this kind, with this code at this time. The devices are the caller's, in and out; the logs come in the order of their numbers (rules, Rows).
 pub fn event(
@@ -51,13 +35,13 @@ pub fn event(
     events: &mut [u64],
     transactions: &mut [u64],
     groups: &mut [u64],
-    marks: &mut [u8],
+    statebytes: &mut [u8],
     states: &mut [u64],
     items: &mut [u64],
     links: &mut [u64],
     requests: &[u64],
 ) -> Called
-    ensures { λ r. ⌜ EventCall kind code time (state d devices (now (table .entry)) (logs (now (bytes .entry)) (now («device_rows» .entry)) (now («endpoint_rows» .entry)) (now (packets .entry)) (now (events .entry)) (now (transactions .entry)) (now (groups .entry)) (now (marks .entry)) (now (states .entry)) (now (items .entry)) (now (links .entry)) (now (requests .entry)))) (r .answer) (state (r .decoder) (r .devices) (now (table .exit)) (logs (now (bytes .exit)) (now («device_rows» .exit)) (now («endpoint_rows» .exit)) (now (packets .exit)) (now (events .exit)) (now (transactions .exit)) (now (groups .exit)) (now (marks .exit)) (now (states .exit)) (now (items .exit)) (now (links .exit)) (now (requests .exit)))) ⌝ }
+    ensures { λ r. ⌜ EventCall kind code time (state d devices (now (table .entry)) (logs (now (bytes .entry)) (now («device_rows» .entry)) (now («endpoint_rows» .entry)) (now (packets .entry)) (now (events .entry)) (now (transactions .entry)) (now (groups .entry)) (now (statebytes .entry)) (now (states .entry)) (now (items .entry)) (now (links .entry)) (now (requests .entry)))) (r .answer) (state (r .decoder) (r .devices) (now (table .exit)) (logs (now (bytes .exit)) (now («device_rows» .exit)) (now («endpoint_rows» .exit)) (now (packets .exit)) (now (events .exit)) (now (transactions .exit)) (now (groups .exit)) (now (statebytes .exit)) (now (states .exit)) (now (items .exit)) (now (links .exit)) (now (requests .exit)))) ⌝ }
 {
     let room = room_of(
         bytes.len(),
@@ -67,13 +51,13 @@ pub fn event(
         events.len(),
         transactions.len(),
         groups.len(),
-        marks.len(),
+        statebytes.len(),
         states.len(),
         items.len(),
         links.len(),
         requests.len(),
     );
-    let answer = first_tests(d, devices, table, room, kind);
+    let answer = first_tests(d, devices, table, room, kind as usize, LAST_KIND, NO_KIND);
     if answer != 0 {
         return Called {
             answer,
@@ -95,7 +79,7 @@ pub fn event(
         events,
         transactions,
         groups,
-        marks,
+        statebytes,
         states,
         items,
         links,
@@ -121,13 +105,13 @@ pub fn finish(
     events: &[u64],
     transactions: &[u64],
     groups: &mut [u64],
-    marks: &mut [u8],
+    statebytes: &mut [u8],
     states: &mut [u64],
     items: &mut [u64],
     links: &mut [u64],
     requests: &[u64],
 ) -> Called
-    ensures { λ r. ⌜ FinishCall (state d devices (now (table .entry)) (logs (now (bytes .entry)) (now («device_rows» .entry)) (now («endpoint_rows» .entry)) (now (packets .entry)) (now (events .entry)) (now (transactions .entry)) (now (groups .entry)) (now (marks .entry)) (now (states .entry)) (now (items .entry)) (now (links .entry)) (now (requests .entry)))) (r .answer) (state (r .decoder) (r .devices) (now (table .exit)) (logs (now (bytes .exit)) (now («device_rows» .exit)) (now («endpoint_rows» .exit)) (now (packets .exit)) (now (events .exit)) (now (transactions .exit)) (now (groups .exit)) (now (marks .exit)) (now (states .exit)) (now (items .exit)) (now (links .exit)) (now (requests .exit)))) ⌝ }
+    ensures { λ r. ⌜ FinishCall (state d devices (now (table .entry)) (logs (now (bytes .entry)) (now («device_rows» .entry)) (now («endpoint_rows» .entry)) (now (packets .entry)) (now (events .entry)) (now (transactions .entry)) (now (groups .entry)) (now (statebytes .entry)) (now (states .entry)) (now (items .entry)) (now (links .entry)) (now (requests .entry)))) (r .answer) (state (r .decoder) (r .devices) (now (table .exit)) (logs (now (bytes .exit)) (now («device_rows» .exit)) (now («endpoint_rows» .exit)) (now (packets .exit)) (now (events .exit)) (now (transactions .exit)) (now (groups .exit)) (now (statebytes .exit)) (now (states .exit)) (now (items .exit)) (now (links .exit)) (now (requests .exit)))) ⌝ }
 {
     let room = room_of(
         bytes.len(),
@@ -137,14 +121,14 @@ pub fn finish(
         events.len(),
         transactions.len(),
         groups.len(),
-        marks.len(),
+        statebytes.len(),
         states.len(),
         items.len(),
         links.len(),
         requests.len(),
     );
     // It has no kind, so it is never answered 4.
-    let answer = first_tests(d, devices, table, room, 0);
+    let answer = first_tests(d, devices, table, room, 0, LAST_KIND, NO_KIND);
     if answer != 0 {
         return Called {
             answer,
@@ -163,7 +147,7 @@ pub fn finish(
         events,
         transactions,
         groups,
-        marks,
+        statebytes,
         states,
         items,
         links,

@@ -1,18 +1,18 @@
 // What a call comes to, reckoned before anything is written: whether its rows fit, and the counts after it.
 use event::Act;
-use judge::Counts;
-use judge::Decoder;
-use judge::room::fits;
-use reckon::add_counts;
-use reckon::tally_ending;
-use reckon::tally_keepalive;
-use reckon::tally_reset;
-use steps::Ending;
-use update::tally::Tally;
+use plan::Ending;
+use record::Counts;
+use record::Decoder;
+use record::room::fits;
+use tally::add::Tally;
+use tally::add_counts;
+use tally::tally_ending;
+use tally::tally_keepalive;
+use tally::tally_reset;
 ghost use mathlib.Core.Path.{_≡_};
 ghost use Prim.Native.Nat.{_≤_, _^_};
-ghost use Rattle.update.specs.Tally.{Within};
-ghost use Rattle.reckon.specs.Tallies.{Under, tallyEnding};
+ghost use Rattle.tally.specs.Tally.{Within};
+ghost use Rattle.tally.specs.Tallies.{Under, tallyEnding};
 ghost use Rattle.event.specs.Event.{actOf};
 ghost use Rattle.events.specs.After.{sumOf, eventTally};
 

@@ -7,8 +7,8 @@ use native.Mathlib.Nat.{mod-le}
 use native.Mathlib.Omega.{arith}
 use lib.Dec.{eqb}
 use Rattle.usb.specs.Types.{Complete}
-use Rattle.tables.specs.declared.Detail.{Detail}
-use Rattle.tables.specs.declared.Endpoint.{Endpoint}
+use Rattle.details.specs.declared.Detail.{Detail}
+use Rattle.endpoints.specs.declared.Endpoint.{Endpoint}
 use Rattle.transaction.specs.Table.{pick, Row, fits, look}
 use Rattle.transaction.specs.declared.Transaction.{Transaction}
 use Rattle.group.specs.declared.Grouped.{Grouped}
@@ -45,9 +45,9 @@ pub record Kept (e : Endpoint) (n : ℕ) (g : Grouped) : Type 0 where
   pub first : g .endpoint .first ≡ e .first
   pub done : g .endpoint .done ≡ e .done
   pub last : g .endpoint .last ≡ e .last
-  pub waits : g .endpoint .waits ≡ e .waits
-  pub waiting : g .endpoint .waiting ≡ e .waiting
-  pub waiter : g .endpoint .waiter ≡ e .waiter
+  pub pending : g .endpoint .pending ≡ e .pending
+  pub pendinglength : g .endpoint .pendinglength ≡ e .pendinglength
+  pub pendinglink : g .endpoint .pendinglink ≡ e .pendinglink
   pub payload : g .endpoint .payload + leaves (g .effect) ≤ e .payload + n
 
 -- a choice keeps what both sides keep
@@ -65,8 +65,8 @@ look-kept e n [] none xs a k = k
 look-kept e n (r ∷ rs) none xs a k = either-kept (fits (r .tests) xs && r .guard) (r .answer) (look rs none xs) (a .0) (look-kept e n rs none xs (a .1) k)
 
 module _ {g : GroupStatus} (e : Endpoint) (n : ℕ) (f : Effect) (l : leaves f ≤ n) where
-  changed-kept : (b r : Bool) (s p : ℕ) → p + leaves f ≤ e .payload + n → Kept e n (grouped g f (changed e b r s p (e .waits)))
-  changed-kept b r s p h = record { device = refl; address = refl; phase = refl; state = refl; transactions = refl; groups = refl; total = refl; first = refl; done = refl; last = refl; waits = refl; waiting = refl; waiter = refl; payload = h }
+  changed-kept : (b r : Bool) (s p : ℕ) → p + leaves f ≤ e .payload + n → Kept e n (grouped g f (changed e b r s p (e .pending)))
+  changed-kept b r s p h = record { device = refl; address = refl; phase = refl; state = refl; transactions = refl; groups = refl; total = refl; first = refl; done = refl; last = refl; pending = refl; pendinglength = refl; pendinglink = refl; payload = h }
 
   same : Kept e n (grouped g f e)
   same = changed-kept (e .success) (e .ready) (e .setup) (e .payload) (omega arith)

@@ -1,11 +1,12 @@
--- Document 000, group_status: control transfers (USB 2.0, 8.5.3), in the Rust's order.
+-- To be believed: Document 000, group_status: control transfers (USB 2.0, 8.5.3), in the Rust's order.
+-- Hold it to: group_status of decoder.rs, its arms for control transfers (scripts/rows compares the rows); USB 2.0, 8.5.3
 use mathlib.Core.Bool.{Bool, true, _&&_}
 use mathlib.Core.List.{List, [], _∷_}
 use Prim.Native.Nat.{ℕ, _+_, _%_, _^_}
 use lib.Dec.{eqb}
 use Rattle.usb.specs.Pid.{SETUP, IN, OUT, PING}
 use Rattle.usb.specs.Types.{Complete}
-use Rattle.tables.specs.declared.Endpoint.{Endpoint}
+use Rattle.endpoints.specs.declared.Endpoint.{Endpoint}
 use Rattle.transaction.specs.Table.{pick, Row, _gives_, only, look}
 use Rattle.transaction.specs.declared.Transaction.{Transaction}
 use Rattle.group.specs.Setup.{direction, requestType, bRequest, addressOf, withData}
@@ -19,10 +20,10 @@ use Rattle.group.specs.declared.Effect.{Effect}
 use Rattle.group.specs.declared.Effect.the-variants.{NoEffect, NewDevice, Request, PendingData, IndexData}
 
 abbrev pub withSetup : Endpoint → Bool → ℕ → Endpoint
-withSetup e r s = changed e (e .success) r s (e .payload) (e .waits)
+withSetup e r s = changed e (e .success) r s (e .payload) (e .pending)
 
 abbrev pub withPayload : Endpoint → ℕ → Endpoint
-withPayload e n = changed e (e .success) (e .ready) (e .setup) n (e .waits)
+withPayload e n = changed e (e .success) (e .ready) (e .setup) n (e .pending)
 
 -- a SETUP starts a control transfer, and its bytes are kept; a complete split goes on with it
 unfoldable pub setupGroup : Endpoint → Transaction → Step → Grouped

@@ -1,10 +1,11 @@
--- Document 000, group_status: transactions that belong to no control transfer, in the Rust's order.
+-- To be believed: Document 000, group_status: transactions that belong to no control transfer, in the Rust's order.
+-- Hold it to: group_status of decoder.rs, its other arms (scripts/rows compares the rows)
 use mathlib.Core.Bool.{Bool, true, false, _&&_, not}
 use mathlib.Core.List.{List, [], _∷_}
 use lib.Dec.{eqb}
 use Rattle.usb.specs.Pid.{IN, OUT, PING, SOF}
-use Rattle.tables.specs.Kind.{Framing}
-use Rattle.tables.specs.declared.Endpoint.{Endpoint}
+use Rattle.details.specs.Kind.{Framing}
+use Rattle.endpoints.specs.declared.Endpoint.{Endpoint}
 use Rattle.transaction.specs.Table.{pick, Row, _gives_, _when_, any, only, _or_, look}
 use Rattle.group.specs.Step.{grouped, changed, closesOf, effectOf}
 use Rattle.group.specs.declared.step.Step.{Step}
@@ -14,7 +15,7 @@ use Rattle.group.specs.declared.Grouped.{Grouped}
 use Rattle.group.specs.declared.Effect.the-variants.{NoEffect}
 
 abbrev pub withSuccess : Endpoint → Bool → Endpoint
-withSuccess e b = changed e b (e .ready) (e .setup) (e .payload) (e .waits)
+withSuccess e b = changed e b (e .ready) (e .setup) (e .payload) (e .pending)
 
 -- a new transfer, ended at once by a short packet, or a new polling group
 abbrev pub beginStatus : Bool → Bool → GroupStatus

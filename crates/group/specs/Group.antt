@@ -1,10 +1,11 @@
--- Document 000, group_status: what the end of a transaction means for the groups of its endpoint.
+-- To be believed: Document 000, group_status: what the end of a transaction means for the groups of its endpoint.
+-- Hold it to: group_status of decoder.rs, the order of its arms
 use mathlib.Core.Bool.{Bool, _&&_}
 use mathlib.Core.List.{List, [], _∷_}
 use Rattle.usb.specs.Pid.{SETUP}
 use Rattle.usb.specs.Types.{Control}
-use Rattle.tables.specs.declared.Detail.{Detail}
-use Rattle.tables.specs.declared.Endpoint.{Endpoint}
+use Rattle.details.specs.declared.Detail.{Detail}
+use Rattle.endpoints.specs.declared.Endpoint.{Endpoint}
 use Rattle.transaction.specs.Table.{Row, _gives_, _when_, any, only, look}
 use Rattle.transaction.specs.declared.Transaction.{Transaction}
 use Rattle.group.specs.Step.{isActive, stepOf, taken}

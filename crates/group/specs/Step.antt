@@ -1,18 +1,20 @@
--- Document 000, group_status: what its rules go by, and what a payload comes to.
+-- To be believed: Document 000, group_status: what its rules go by, and what a payload comes to.
+-- Hold it to: group_status of decoder.rs, what it takes before its match; 01, "Rules of a group": "Short means ..", payloads that wait
 use mathlib.Core.Bool.{Bool, true, false, _&&_, not}
 use Prim.Native.Nat.{ℕ}
 use lib.Dec.{eqb, ltb}
 use Rattle.usb.specs.Pid.{OUT}
 use Rattle.usb.specs.Types.{Start, Isochronous}
-use Rattle.tables.specs.declared.Detail.{Detail}
-use Rattle.tables.specs.declared.Endpoint.{Endpoint}
-use Rattle.tables.specs.declared.Phase.{Phase}
-use Rattle.tables.specs.declared.Phase.the-variants.{None, Early, Active, Ended}
+use Rattle.details.specs.declared.Detail.{Detail}
+use Rattle.endpoints.specs.declared.Endpoint.{Endpoint}
+use Rattle.endpoints.specs.declared.Phase.{Phase}
+use Rattle.endpoints.specs.declared.Phase.the-variants.{None, Early, Active, Ended}
 use Rattle.transaction.specs.Table.{pick}
 use Rattle.transaction.specs.Payload.{startPid}
 use Rattle.transaction.specs.declared.Style.{Style}
 use Rattle.transaction.specs.declared.Style.the-variants.{Nothing, Simple, Split, Token}
 use Rattle.transaction.specs.declared.Transaction.{Transaction}
+use Rattle.endpoints.specs.Table.{makeEndpoint}
 use Rattle.group.specs.declared.step.Payload.{Payload}
 use Rattle.group.specs.declared.step.Step.{Step}
 use Rattle.group.specs.declared.GroupStatus.{GroupStatus}
@@ -40,7 +42,7 @@ payload k n w i = record { known = k; len = n; waited = w; id = i }
 abbrev pub payloadOf : Endpoint → Transaction → Payload
 payloadOf e t =
     pick (t .filled) (payload true (t .payload) false 0)
-    (pick (e .waits) (payload true (e .waiting) true (e .waiter)) (payload false 0 false 0))
+    (pick (e .pending) (payload true (e .pendinglength) true (e .pendinglink)) (payload false 0 false 0))
 
 -- 01, Rules of a group: payload known, max known, length below max
 abbrev pub isShort : Bool → ℕ → ℕ → Bool
@@ -62,25 +64,8 @@ stepOf e t d success complete = record {
 
 -- the endpoint with these five fields; group_status changes no other
 abbrev pub changed : Endpoint → Bool → Bool → ℕ → ℕ → Bool → Endpoint
-changed e success ready setup payload waits = record {
-  device = e .device;
-  address = e .address;
-  phase = e .phase;
-  state = e .state;
-  transactions = e .transactions;
-  groups = e .groups;
-  total = e .total;
-  first = e .first;
-  done = e .done;
-  last = e .last;
-  success = success;
-  ready = ready;
-  setup = setup;
-  payload = payload;
-  waits = waits;
-  waiting = e .waiting;
-  waiter = e .waiter;
-}
+changed e success ready setup payload pending = makeEndpoint (e .device) (e .address) (e .phase) (e .state) (e .transactions) (e .groups) (e .total) (e .first)
+    (e .done) (e .last) success ready setup payload pending (e .pendinglength) (e .pendinglink)
 
 -- pending_payload is taken, used or not
 abbrev pub taken : Endpoint → Endpoint

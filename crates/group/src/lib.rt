@@ -2,11 +2,11 @@
 mod control;
 mod data;
 mod setup;
-mod step;
+pub mod step;
 
 use crate::step::Step;
-use tables::Detail;
-use tables::Endpoint;
+use details::Detail;
+use endpoints::Endpoint;
 use transaction::Transaction;
 use usb::pid::SETUP;
 use usb::types::CONTROL;

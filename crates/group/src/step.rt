@@ -1,8 +1,8 @@
 // What the rules of a group go by: the locals of the Rust's group_status.
 use crate::Effect;
-use tables::Detail;
-use tables::Endpoint;
-use tables::Phase;
+use details::Detail;
+use endpoints::Endpoint;
+use endpoints::Phase;
 use transaction::Style;
 use transaction::Transaction;
 use transaction::payload::start_pid;
@@ -70,12 +70,12 @@ fn payload_of(e: Endpoint, t: Transaction) -> Payload
             waited: false,
             id: 0,
         }
-    } else if e.waits {
+    } else if e.pending {
         Payload {
             known: true,
-            len: e.waiting,
+            len: e.pendinglength,
             waited: true,
-            id: e.waiter,
+            id: e.pendinglink,
         }
     } else {
         Payload {
@@ -125,7 +125,7 @@ pub fn take_pending(e: Endpoint) -> Endpoint
     ensures { λ r. ⌜ r ≡ taken e ⌝ }
 {
     let mut e = e;
-    e.waits = false;
+    e.pending = false;
     e
 }
 

@@ -4,8 +4,8 @@ use Prim.Native.Nat.{ℕ}
 use mathlib.Core.Path.{_≡_, refl}
 use mathlib.Core.List.{List, [], _++_}
 use Rattle.text.specs.Words.{title}
-use Rattle.judge.specs.declared.Counts.{Counts}
-use Rattle.outcome.specs.State.{Logs}
+use Rattle.record.specs.declared.Counts.{Counts}
+use Rattle.call.specs.State.{Logs}
 use Rattle.lines.specs.Listing.{linesOf, stateLines, listing}
 use Rattle.lines.specs.declared.Kind.the-variants.{Device, Endpoint, Packet, Event, Transaction, Group, Item, Link, Request}
 
@@ -20,7 +20,7 @@ module _ (n : Counts) (l : Logs) where
   fromItems = linesOf Item (n .items) (l .items) ++ fromLinks
 
   abbrev pub fromStates : List ℕ
-  fromStates = stateLines (n .states) (l .states) (n .marks) (l .marks) ++ fromItems
+  fromStates = stateLines (n .states) (l .states) (n .statebytes) (l .statebytes) ++ fromItems
 
   abbrev pub fromGroups : List ℕ
   fromGroups = linesOf Group (n .groups) (l .groups) ++ fromStates

@@ -1,28 +1,31 @@
--- Document 01, "Trace and listing": the listing of the rows that are counted, as one list of bytes; the lines are those of text/specs/Lines.antt.
+-- To be believed: Document 01, "Trace and listing": the listing of the rows that are counted, as one list of bytes; the lines are those of
+-- text/specs/Lines.antt.
 -- Assumes nothing.
-use Prim.Native.Nat.{ℕ, zero, suc, _+_, _*_, _-_, min}
+-- Hold it to: 01, "Trace and listing": "Order of kinds"
+use Prim.Native.Nat.{ℕ, zero, suc, _+_, _*_, _-_, min, _≤_}
 use mathlib.Core.Bool.{cond}
 use mathlib.Core.List.{List, [], _++_}
 use lib.Dec.{ltb}
-use lib.ListN.{getD, take, drop}
+use lib.ListN.{getD, take, drop, length}
+use Rattle.rows.specs.Widths.{deviceWidth, endpointWidth, eventWidth, groupWidth, itemWidth, linkWidth, packetWidth, requestWidth, transactionWidth}
 use Rattle.text.specs.Words.{title}
 use Rattle.text.specs.Lines.{deviceLine, endpointLine, packetLine, eventLine, transactionLine, groupLine, stateLine, itemLine, linkLine, requestLine}
-use Rattle.judge.specs.declared.Counts.{Counts}
-use Rattle.outcome.specs.State.{Logs}
+use Rattle.record.specs.declared.Counts.{Counts}
+use Rattle.call.specs.State.{Logs}
 use Rattle.lines.specs.declared.Kind.{Kind}
 use Rattle.lines.specs.declared.Kind.the-variants.{Device, Endpoint, Packet, Event, Transaction, Group, Item, Link, Request}
 
--- the words of a row (rules, Rows)
+-- the words of a row (rows, Widths)
 abbrev pub widthOf : Kind → ℕ
-widthOf Device = 1
-widthOf Endpoint = 3
-widthOf Packet = 2
-widthOf Event = 2
-widthOf Transaction = 1
-widthOf Group = 3
-widthOf Item = 1
-widthOf Link = 4
-widthOf Request = 3
+widthOf Device = deviceWidth
+widthOf Endpoint = endpointWidth
+widthOf Packet = packetWidth
+widthOf Event = eventWidth
+widthOf Transaction = transactionWidth
+widthOf Group = groupWidth
+widthOf Item = itemWidth
+widthOf Link = linkWidth
+widthOf Request = requestWidth
 
 -- a row's line, from its number and its words; a link line has no row number
 abbrev pub lineOf : Kind → ℕ → List ℕ → List ℕ
@@ -63,10 +66,10 @@ abbrev pub sizeOf : ℕ → ℕ → ℕ
 sizeOf start end = min (end - start) 128
 
 abbrev pub stateBytes : ℕ → List ℕ → ℕ → List ℕ → ℕ → List ℕ
-stateBytes n states m marks i = take (sizeOf (startOf states m i) (endOf states n m i)) (drop (startOf states m i) marks)
+stateBytes n states m statebytes i = take (sizeOf (startOf states m i) (endOf states n m i)) (drop (startOf states m i) statebytes)
 
 unfoldable pub stateLines : ℕ → List ℕ → ℕ → List ℕ → List ℕ
-stateLines n states m marks = each (λ i. stateLine i (stateBytes n states m marks i)) 0 n
+stateLines n states m statebytes = each (λ i. stateLine i (stateBytes n states m statebytes i)) 0 n
 
 -- ---- the whole: "Order of kinds: device, endpoint, packet, event, transaction, group, state, item, link, request"
 
@@ -79,7 +82,26 @@ listing n l =
     ++ (linesOf Event (n .events) (l .events)
     ++ (linesOf Transaction (n .transactions) (l .transactions)
     ++ (linesOf Group (n .groups) (l .groups)
-    ++ (stateLines (n .states) (l .states) (n .marks) (l .marks)
+    ++ (stateLines (n .states) (l .states) (n .statebytes) (l .statebytes)
     ++ (linesOf Item (n .items) (l .items)
     ++ (linesOf Link (n .links) (l .links)
     ++ linesOf Request (n .requests) (l .requests))))))))))
+
+-- every log has the rows that are counted
+pub record Counted (n : Counts) (l : Logs) : Type 0 where
+  pub devices : n .devices ≤ length (l .devices)
+  pub endpoints : n .endpoints * endpointWidth ≤ length (l .endpoints)
+  pub packets : n .packets * packetWidth ≤ length (l .packets)
+  pub events : n .events * eventWidth ≤ length (l .events)
+  pub transactions : n .transactions * transactionWidth ≤ length (l .transactions)
+  pub groups : n .groups * groupWidth ≤ length (l .groups)
+  pub statebytes : n .statebytes ≤ length (l .statebytes)
+  pub states : n .states ≤ length (l .states)
+  pub items : n .items ≤ length (l .items)
+  pub links : n .links * linkWidth ≤ length (l .links)
+  pub requests : n .requests * requestWidth ≤ length (l .requests)
+
+-- how many lines that is, without the title
+abbrev pub rowsOf : Counts → ℕ
+rowsOf n =
+    n .devices + n .endpoints + n .packets + n .events + n .transactions + n .groups + n .states + n .items + n .links + n .requests

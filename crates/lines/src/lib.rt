@@ -1,15 +1,15 @@
 // The whole listing (document 01, "Trace and listing"): a line for each row of the logs, kind by kind, in a lent buffer.
 mod state;
 
-use judge::Counts;
+use record::Counts;
+use rows::width;
 ghost use mathlib.Core.List.{[]};
 ghost use mathlib.Core.Path.{_≡_};
 ghost use Prim.Native.Nat.{_*_, _≤_};
 ghost use lib.ListN.{length};
 ghost use Rattle.text.specs.Append.{Room, Appended};
-ghost use Rattle.outcome.specs.State.{logs};
-ghost use Rattle.lines.specs.Listing.{widthOf, lineOf, linesOf, listing};
-ghost use Rattle.lines.specs.ListingLaws.{Counted};
+ghost use Rattle.call.specs.State.{logs};
+ghost use Rattle.lines.specs.Listing.{widthOf, lineOf, linesOf, listing, Counted};
 
 // The rows whose line is made of their own words; a state row's is made of state bytes.
 pub enum Kind {
@@ -30,14 +30,14 @@ fn width_of(kind: Kind) -> usize
 {
     match kind {
         Kind::Device => 1,
-        Kind::Endpoint => 3,
-        Kind::Packet => 2,
-        Kind::Event => 2,
-        Kind::Transaction => 1,
-        Kind::Group => 3,
+        Kind::Endpoint => width::ENDPOINT,
+        Kind::Packet => width::PACKET,
+        Kind::Event => width::EVENT,
+        Kind::Transaction => width::TRANSACTION,
+        Kind::Group => width::GROUP,
         Kind::Item => 1,
-        Kind::Link => 4,
-        Kind::Request => 3,
+        Kind::Link => width::LINK,
+        Kind::Request => width::REQUEST,
     }
 }
 
@@ -87,16 +87,16 @@ pub fn list(
     events: &[u64],
     transactions: &[u64],
     groups: &[u64],
-    marks: &[u8],
+    statebytes: &[u8],
     states: &[u64],
     items: &[u64],
     links: &[u64],
     requests: &[u64],
     out: &mut [u8],
 ) -> usize
-    requires { ⌜ Counted n (logs [] (now «device_rows») (now «endpoint_rows») (now packets) (now events) (now transactions) (now groups) (now marks) (now states) (now items) (now links) (now requests)) ⌝ }
-    requires { ⌜ Room (now out) 0 (listing n (logs [] (now «device_rows») (now «endpoint_rows») (now packets) (now events) (now transactions) (now groups) (now marks) (now states) (now items) (now links) (now requests))) ⌝ }
-    ensures { λ r. ⌜ Appended (now (out .entry)) 0 (listing n (logs [] (now («device_rows» .entry)) (now («endpoint_rows» .entry)) (now (packets .entry)) (now (events .entry)) (now (transactions .entry)) (now (groups .entry)) (now (marks .entry)) (now (states .entry)) (now (items .entry)) (now (links .entry)) (now (requests .entry)))) (now (out .exit)) r ⌝ }
+    requires { ⌜ Counted n (logs [] (now «device_rows») (now «endpoint_rows») (now packets) (now events) (now transactions) (now groups) (now statebytes) (now states) (now items) (now links) (now requests)) ⌝ }
+    requires { ⌜ Room (now out) 0 (listing n (logs [] (now «device_rows») (now «endpoint_rows») (now packets) (now events) (now transactions) (now groups) (now statebytes) (now states) (now items) (now links) (now requests))) ⌝ }
+    ensures { λ r. ⌜ Appended (now (out .entry)) 0 (listing n (logs [] (now («device_rows» .entry)) (now («endpoint_rows» .entry)) (now (packets .entry)) (now (events .entry)) (now (transactions .entry)) (now (groups .entry)) (now (statebytes .entry)) (now (states .entry)) (now (items .entry)) (now (links .entry)) (now (requests .entry)))) (now (out .exit)) r ⌝ }
 {
     let next = text::title_line(out, 0);
     let next = lines(out, next, Kind::Device, n.devices, device_rows);
@@ -105,7 +105,7 @@ pub fn list(
     let next = lines(out, next, Kind::Event, n.events, events);
     let next = lines(out, next, Kind::Transaction, n.transactions, transactions);
     let next = lines(out, next, Kind::Group, n.groups, groups);
-    let next = state::state_lines(out, next, n.states, states, n.marks, marks);
+    let next = state::state_lines(out, next, n.states, states, n.statebytes, statebytes);
     let next = lines(out, next, Kind::Item, n.items, items);
     let next = lines(out, next, Kind::Link, n.links, links);
     lines(out, next, Kind::Request, n.requests, requests)

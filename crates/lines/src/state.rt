@@ -52,12 +52,12 @@ pub fn state_lines(
     n: usize,
     states: &[u64],
     m: usize,
-    marks: &[u8],
+    statebytes: &[u8],
 ) -> usize
     requires { ⌜ n ≤ length (now states) ⌝ }
-    requires { ⌜ m ≤ length (now marks) ⌝ }
-    requires { ⌜ Room (now out) at (stateLines n (now states) m (now marks)) ⌝ }
-    ensures { λ r. ⌜ Appended (now (out .entry)) at (stateLines n (now (states .entry)) m (now (marks .entry))) (now (out .exit)) r ⌝ }
+    requires { ⌜ m ≤ length (now statebytes) ⌝ }
+    requires { ⌜ Room (now out) at (stateLines n (now states) m (now statebytes)) ⌝ }
+    ensures { λ r. ⌜ Appended (now (out .entry)) at (stateLines n (now (states .entry)) m (now (statebytes .entry))) (now (out .exit)) r ⌝ }
 {
     let mut next = at;
     let mut i: usize = 0;
@@ -65,7 +65,7 @@ pub fn state_lines(
         let start = start_of(states, m, i);
         let end = end_of(states, n, m, i);
         let stop = start + size_of(start, end);
-        next = text::state_line(out, next, i as u64, &marks[start..stop]);
+        next = text::state_line(out, next, i as u64, &statebytes[start..stop]);
         i += 1;
     }
     next

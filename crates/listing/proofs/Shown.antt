@@ -6,16 +6,17 @@ use mathlib.Core.List.{List}
 use mathlib.Core.Path.{_≡_, refl, sym, subst}
 use lib.ListN.{length, replicate, length-replicate}
 use Rattle.text.specs.Append.{Room, Appended}
-use Rattle.text.specs.Lengths.{longest, refused-fits}
-use Rattle.text.specs.Lines.{refusedLine}
+use Rattle.text.specs.Lines.{longest, refusedLine}
+use Rattle.text.specs.Lengths.{refused-fits}
 use Rattle.text.specs.Words.{tooLong}
-use Rattle.judge.specs.RoomLaws.{Within}
-use Rattle.judge.specs.declared.Counts.{Counts}
-use Rattle.outcome.specs.State.{Logs, State, roomBy, roomOf}
-use Rattle.lines.specs.Listing.{listing}
-use Rattle.lines.specs.ListingLaws.{Counted, counted, rowsOf, listing-fits, listed, listing-listed}
+use Rattle.record.specs.RoomLaws.{Within}
+use Rattle.record.specs.declared.Counts.{Counts}
+use Rattle.call.specs.State.{Logs, State, roomBy, roomOf}
+use Rattle.lines.specs.Listing.{listing, Counted, rowsOf}
+use Rattle.lines.specs.ListingLaws.{counted, listing-fits, listed, listing-listed}
 use Rattle.run.specs.Run.{Ran}
-use Rattle.listing.specs.Prints.{mostInput, noTable, noRows, shown, Prints, Printed, Listable, Shows, textRoom}
+use Rattle.listing.specs.Prints.{mostInput, noTable, noRows, shown, Prints, Printed, textRoom}
+use Rattle.listing.specs.Shows.{Listable, Shows}
 use Rattle.listing.specs.PrintsLaws.{ran-within}
 
 -- by the answer

@@ -1,17 +1,15 @@
--- What the program `listing` prints for a trace (document 01, "Trace and listing"). Its sizes are those of docs/SIZES.md.
+-- To be believed: what the program `listing` prints for a trace (document 01, "Trace and listing"). Its sizes are those of docs/SIZES.md.
 -- Assumes nothing.
+-- Hold it to: 01, "Trace and listing": `refused N at B`, `too long`; docs/SIZES.md
 use Prim.Native.Nat.{ℕ, zero, suc, _+_, _*_, _≤_, _<_}
 use mathlib.Core.List.{List}
-use mathlib.Core.Path.{_≡_}
 use lib.ListN.{length, replicate}
 use Rattle.text.specs.Append.{Appended}
-use Rattle.text.specs.Lengths.{longest}
-use Rattle.text.specs.Lines.{refusedLine}
+use Rattle.text.specs.Lines.{longest, refusedLine}
 use Rattle.text.specs.Words.{tooLong}
-use Rattle.judge.specs.declared.Counts.{Counts}
-use Rattle.outcome.specs.State.{Logs, logs, State, roomOf}
-use Rattle.lines.specs.Listing.{listing}
-use Rattle.lines.specs.ListingLaws.{Counted, rowsOf}
+use Rattle.record.specs.declared.Counts.{Counts}
+use Rattle.call.specs.State.{Logs, logs, State, roomOf}
+use Rattle.lines.specs.Listing.{listing, rowsOf}
 use Rattle.run.specs.Run.{Ran}
 
 -- the longest trace that is read
@@ -24,7 +22,8 @@ noTable = replicate 2176 0
 
 abbrev pub noRows : Logs
 noRows =
-    logs (replicate 8192 0) (replicate 64 0) (replicate 384 0) (replicate 1024 0) (replicate 256 0) (replicate 384 0) (replicate 768 0) (replicate 8192 0) (replicate 256 0) (replicate 256 0) (replicate 2560 0) (replicate 192 0)
+    logs (replicate 8192 0) (replicate 64 0) (replicate 384 0) (replicate 1024 0) (replicate 256 0) (replicate 384 0) (replicate 768 0) (replicate 8192 0)
+    (replicate 256 0) (replicate 256 0) (replicate 2560 0) (replicate 192 0)
 
 -- of a run that ended with this answer, at this place, with these counts and logs: the listing where it finished, else "only the line `refused N at B`"
 abbrev pub shown : ℕ → ℕ → Counts → Logs → List ℕ
@@ -34,7 +33,8 @@ shown (suc a) place n l = refusedLine (suc a) place
 -- "Input longer than the program's buffer prints only `too long`"
 pub data Prints (trace : List ℕ) : List ℕ → Type 0 where
   long : mostInput < length trace → Prints trace tooLong
-  runs : {answer place : ℕ} {s : State} → length trace ≤ mostInput → Ran trace noTable noRows answer place s → Prints trace (shown answer place (s .decoder .counts) (s .logs))
+  runs : {answer place : ℕ} {s : State} → length trace ≤ mostInput → Ran trace noTable noRows answer place s
+      → Prints trace (shown answer place (s .decoder .counts) (s .logs))
 
 -- the text is in the buffer, and the result is its length
 pub record Printed (trace before after : List ℕ) (end : ℕ) : Type 0 where
@@ -42,19 +42,6 @@ pub record Printed (trace before after : List ℕ) (end : ℕ) : Type 0 where
   pub prints : Prints trace text
   pub appended : Appended before 0 text after end
   pub within : end ≤ length before
-
--- a run on a table and logs that a caller lent, and the text of it; `within` as above
-pub record Shows (trace t : List ℕ) (l : Logs) (before after : List ℕ) (end : ℕ) : Type 0 where
-  pub answer : ℕ
-  pub place : ℕ
-  pub final : State
-  pub ran : Ran trace t l answer place final
-  pub appended : Appended before 0 (shown answer place (final .decoder .counts) (final .logs)) after end
-  pub within : end ≤ length before
-
--- what `report` asks of the logs: where there is a listing, they have the rows that are counted
-abbrev pub Listable : ℕ → Counts → Logs → Type 0
-Listable answer n l = answer ≡ 0 → Counted n l
 
 -- a buffer for every text of a run on logs with that room: a line for each row, and one more
 abbrev pub textRoom : Logs → ℕ

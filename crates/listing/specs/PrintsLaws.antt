@@ -1,4 +1,4 @@
--- What the contract of `print` rules out: any two texts that it permits coincide. And what a run that finished leaves for the listing.
+-- Laws (proved): what the contract of `print` rules out: any two texts that it permits coincide. And what a run that finished leaves for the listing.
 -- Assumes nothing.
 use Prim.Native.Nat.{ℕ, zero, suc, _+_, _*_, _≤_, _<_}
 use native.Mathlib.Omega.{arith}
@@ -8,20 +8,21 @@ use mathlib.Core.Path.{_≡_, refl, sym, ap, _∙_}
 use lib.ListN.{length}
 use lib.Seq.{length-sets}
 use borrow.Author.Tests.{not-false}
-use Rattle.text.specs.Lengths.{longest, refused-fits}
-use Rattle.text.specs.Lines.{refusedLine}
-use Rattle.judge.specs.AnswersLaws.{accepted}
-use Rattle.judge.specs.RoomLaws.{Within, within}
-use Rattle.judge.specs.declared.Counts.{Counts}
+use Rattle.rows.specs.Widths.{endpointWidth, eventWidth, groupWidth, linkWidth, packetWidth, requestWidth, transactionWidth}
+use Rattle.text.specs.Lines.{longest, refusedLine}
+use Rattle.text.specs.Lengths.{refused-fits}
+use Rattle.record.specs.AnswersLaws.{accepted}
+use Rattle.record.specs.RoomLaws.{Within, within}
+use Rattle.record.specs.declared.Counts.{Counts}
 use Rattle.trace.specs.declared.clock.Clock.{Clock}
 use Rattle.rules.specs.Decoder.{finish}
 use Rattle.rules.specs.Rows.{log}
 use Rattle.rules.specs.World.{World}
-use Rattle.outcome.specs.Outcome.{Appends, accepts, countsAfter, decoderOf, isFull, worldAt}
-use Rattle.outcome.specs.State.{Logs, State, roomBy, roomOf}
+use Rattle.call.specs.Outcome.{Appends, accepts, countsAfter, decoderOf, isFull, worldAt}
+use Rattle.call.specs.State.{Logs, State, roomBy, roomOf}
 use Rattle.events.specs.Call.{FinishCall, finishTestsOf}
-use Rattle.lines.specs.Listing.{listing}
-use Rattle.lines.specs.ListingLaws.{Counted, counted, rowsOf, listing-fits}
+use Rattle.lines.specs.Listing.{listing, Counted, rowsOf}
+use Rattle.lines.specs.ListingLaws.{counted, listing-fits}
 use Rattle.run.specs.Run.{Runs, Ran}
 use Rattle.run.specs.RunLaws.{Same, run-unique}
 use Rattle.listing.specs.Prints.{mostInput, shown, Prints, textRoom}
@@ -41,16 +42,16 @@ same-room {w} {n} {l} {l′} a =
     λ i. roomBy
     ((ap length (a .bytes) ∙ length-sets (l .bytes) (n .bytes) (log 0 (w .journal))) i)
     ((ap length (a .devices) ∙ length-sets (l .devices) (n .devices) (log 1 (w .journal))) i)
-    ((ap length (a .endpoints) ∙ length-sets (l .endpoints) (n .endpoints * 3) (log 2 (w .journal))) i)
-    ((ap length (a .packets) ∙ length-sets (l .packets) (n .packets * 2) (log 3 (w .journal))) i)
-    ((ap length (a .events) ∙ length-sets (l .events) (n .events * 2) (log 4 (w .journal))) i)
-    ((ap length (a .transactions) ∙ length-sets (l .transactions) (n .transactions) (log 5 (w .journal))) i)
-    ((ap length (a .groups) ∙ length-sets (l .groups) (n .groups * 3) (log 6 (w .journal))) i)
-    ((ap length (a .marks) ∙ length-sets (l .marks) (n .marks) (log 7 (w .journal))) i)
+    ((ap length (a .endpoints) ∙ length-sets (l .endpoints) (n .endpoints * endpointWidth) (log 2 (w .journal))) i)
+    ((ap length (a .packets) ∙ length-sets (l .packets) (n .packets * packetWidth) (log 3 (w .journal))) i)
+    ((ap length (a .events) ∙ length-sets (l .events) (n .events * eventWidth) (log 4 (w .journal))) i)
+    ((ap length (a .transactions) ∙ length-sets (l .transactions) (n .transactions * transactionWidth) (log 5 (w .journal))) i)
+    ((ap length (a .groups) ∙ length-sets (l .groups) (n .groups * groupWidth) (log 6 (w .journal))) i)
+    ((ap length (a .statebytes) ∙ length-sets (l .statebytes) (n .statebytes) (log 7 (w .journal))) i)
     ((ap length (a .states) ∙ length-sets (l .states) (n .states) (log 8 (w .journal))) i)
     ((ap length (a .items) ∙ length-sets (l .items) (n .items) (log 9 (w .journal))) i)
-    ((ap length (a .links) ∙ length-sets (l .links) (n .links * 4) (log 10 (w .journal))) i)
-    ((ap length (a .requests) ∙ length-sets (l .requests) (n .requests * 3) (log 11 (w .journal))) i)
+    ((ap length (a .links) ∙ length-sets (l .links) (n .links * linkWidth) (log 10 (w .journal))) i)
+    ((ap length (a .requests) ∙ length-sets (l .requests) (n .requests * requestWidth) (log 11 (w .journal))) i)
 
 -- finish answers 0 only where its rows have room
 finish-within : {a : ℕ} {s s′ : State} → FinishCall s a s′ → a ≡ 0 → Within (s′ .decoder .counts) (roomOf (s′ .logs))

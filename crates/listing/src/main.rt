@@ -1,14 +1,16 @@
 // The program `listing` (01, "Trace and listing"): reads a trace from standard input, and writes its rows, or the line that refuses it, to standard output.
-use judge::Counts;
+use libc::STDERR_FILENO;
 use libc::STDIN_FILENO;
 use libc::STDOUT_FILENO;
+use record::Counts;
 use run::run;
 ghost use Prim.Native.Nat.{_≤_};
 ghost use mathlib.Core.List.{[]};
 ghost use lib.ListN.{length};
 ghost use Rattle.text.specs.Append.{Room, Appended};
-ghost use Rattle.outcome.specs.State.{logs};
-ghost use Rattle.listing.specs.Prints.{noRows, shown, Listable, Printed, Shows, textRoom};
+ghost use Rattle.call.specs.State.{logs};
+ghost use Rattle.listing.specs.Prints.{noRows, shown, Printed, textRoom};
+ghost use Rattle.listing.specs.Shows.{Listable, Shows};
 
 // The longest trace (docs/SIZES.md).
 const INPUT: usize = 16384;
@@ -27,16 +29,16 @@ fn report(
     events: &[u64],
     transactions: &[u64],
     groups: &[u64],
-    marks: &[u8],
+    statebytes: &[u8],
     states: &[u64],
     items: &[u64],
     links: &[u64],
     requests: &[u64],
     out: &mut [u8],
 ) -> usize
-    requires { ⌜ Listable answer n (logs [] (now «device_rows») (now «endpoint_rows») (now packets) (now events) (now transactions) (now groups) (now marks) (now states) (now items) (now links) (now requests)) ⌝ }
-    requires { ⌜ Room (now out) 0 (shown answer place n (logs [] (now «device_rows») (now «endpoint_rows») (now packets) (now events) (now transactions) (now groups) (now marks) (now states) (now items) (now links) (now requests))) ⌝ }
-    ensures { λ r. ⌜ Appended (now (out .entry)) 0 (shown answer place n (logs [] (now («device_rows» .entry)) (now («endpoint_rows» .entry)) (now (packets .entry)) (now (events .entry)) (now (transactions .entry)) (now (groups .entry)) (now (marks .entry)) (now (states .entry)) (now (items .entry)) (now (links .entry)) (now (requests .entry)))) (now (out .exit)) r ⌝ }
+    requires { ⌜ Listable answer n (logs [] (now «device_rows») (now «endpoint_rows») (now packets) (now events) (now transactions) (now groups) (now statebytes) (now states) (now items) (now links) (now requests)) ⌝ }
+    requires { ⌜ Room (now out) 0 (shown answer place n (logs [] (now «device_rows») (now «endpoint_rows») (now packets) (now events) (now transactions) (now groups) (now statebytes) (now states) (now items) (now links) (now requests))) ⌝ }
+    ensures { λ r. ⌜ Appended (now (out .entry)) 0 (shown answer place n (logs [] (now («device_rows» .entry)) (now («endpoint_rows» .entry)) (now (packets .entry)) (now (events .entry)) (now (transactions .entry)) (now (groups .entry)) (now (statebytes .entry)) (now (states .entry)) (now (items .entry)) (now (links .entry)) (now (requests .entry)))) (now (out .exit)) r ⌝ }
 {
     if answer != 0 {
         return text::refused_line(out, 0, answer as u64, place as u64);
@@ -49,7 +51,7 @@ fn report(
         events,
         transactions,
         groups,
-        marks,
+        statebytes,
         states,
         items,
         links,
@@ -69,15 +71,15 @@ fn show(
     events: &mut [u64],
     transactions: &mut [u64],
     groups: &mut [u64],
-    marks: &mut [u8],
+    statebytes: &mut [u8],
     states: &mut [u64],
     items: &mut [u64],
     links: &mut [u64],
     requests: &mut [u64],
     out: &mut [u8],
 ) -> usize
-    requires { ⌜ textRoom (logs (now bytes) (now «device_rows») (now «endpoint_rows») (now packets) (now events) (now transactions) (now groups) (now marks) (now states) (now items) (now links) (now requests)) ≤ length (now out) ⌝ }
-    ensures { λ r. ⌜ Shows (now (trace .entry)) (now (table .entry)) (logs (now (bytes .entry)) (now («device_rows» .entry)) (now («endpoint_rows» .entry)) (now (packets .entry)) (now (events .entry)) (now (transactions .entry)) (now (groups .entry)) (now (marks .entry)) (now (states .entry)) (now (items .entry)) (now (links .entry)) (now (requests .entry))) (now (out .entry)) (now (out .exit)) r ⌝ }
+    requires { ⌜ textRoom (logs (now bytes) (now «device_rows») (now «endpoint_rows») (now packets) (now events) (now transactions) (now groups) (now statebytes) (now states) (now items) (now links) (now requests)) ≤ length (now out) ⌝ }
+    ensures { λ r. ⌜ Shows (now (trace .entry)) (now (table .entry)) (logs (now (bytes .entry)) (now («device_rows» .entry)) (now («endpoint_rows» .entry)) (now (packets .entry)) (now (events .entry)) (now (transactions .entry)) (now (groups .entry)) (now (statebytes .entry)) (now (states .entry)) (now (items .entry)) (now (links .entry)) (now (requests .entry))) (now (out .entry)) (now (out .exit)) r ⌝ }
 {
     let r = run(
         trace,
@@ -89,7 +91,7 @@ fn show(
         events,
         transactions,
         groups,
-        marks,
+        statebytes,
         states,
         items,
         links,
@@ -107,7 +109,7 @@ fn show(
         events,
         transactions,
         groups,
-        marks,
+        statebytes,
         states,
         items,
         links,
@@ -132,7 +134,7 @@ fn print(trace: &[u8], out: &mut [u8]) -> usize
     let mut events = [0u64; 256];
     let mut transactions = [0u64; 384];
     let mut groups = [0u64; 768];
-    let mut marks = [0u8; 8192];
+    let mut statebytes = [0u8; 8192];
     let mut states = [0u64; 256];
     let mut items = [0u64; 256];
     let mut links = [0u64; 2560];
@@ -147,7 +149,7 @@ fn print(trace: &[u8], out: &mut [u8]) -> usize
         &mut events,
         &mut transactions,
         &mut groups,
-        &mut marks,
+        &mut statebytes,
         &mut states,
         &mut items,
         &mut links,
@@ -156,11 +158,47 @@ fn print(trace: &[u8], out: &mut [u8]) -> usize
     )
 }
 
+// What was read: how many bytes, and whether the input came to its end, or filled the buffer, before a read failed.
+struct Input {
+    len: usize,
+    whole: bool,
+}
+
+// Reads standard input into buf. io::read_full does not tell an end from a failure.
+fn read_input(buf: &mut [u8]) -> Input
+    ensures { λ r. ⌜ r .len ≤ length (now (buf .exit)) ⌝ }
+{
+    let mut len: usize = 0;
+    while len < buf.len() {
+        let got = libc::read(STDIN_FILENO, &mut buf[len..]);
+        if got < 0 {
+            return Input { len, whole: false };
+        }
+        let n = io::count(got, &buf[len..]);
+        if n == 0 {
+            return Input { len, whole: true };
+        }
+        len += n;
+    }
+    Input { len, whole: true }
+}
+
+// What failed, said on standard error: a program has no exit status to say it by (docs/DECISIONS.md, 73).
+fn fail(line: &[u8]) {
+    io::write_all(STDERR_FILENO, line);
+}
+
 fn main() {
     // One byte more tells that the trace is too long.
     let mut input = [0u8; INPUT + 1];
-    let n = io::read_full(STDIN_FILENO, &mut input);
+    let read = read_input(&mut input);
+    if !read.whole {
+        fail(b"listing: standard input could not be read\n");
+        return;
+    }
     let mut out = [0u8; TEXT];
-    let end = print(&input[..n], &mut out);
-    io::write_all(STDOUT_FILENO, &out[..end]);
+    let end = print(&input[..read.len], &mut out);
+    if !io::write_all(STDOUT_FILENO, &out[..end]) {
+        fail(b"listing: standard output could not be written\n");
+    }
 }

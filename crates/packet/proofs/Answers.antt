@@ -8,42 +8,44 @@ use borrow.Author.Tests.{le-ltb, eqb-true, eqb-false}
 use lib.Dec.{eqb, ltb}
 use lib.ListN.{length, getD, set}
 use lib.Seq.{sets}
+use Rattle.rows.specs.Widths.{packetWidth}
 use Rattle.transaction.specs.Payload.{startPid}
-use Rattle.tables.specs.Search.{blank}
-use Rattle.tables.specs.Table.{wordAt, entryAt}
-use Rattle.tables.specs.Word as word
-use Rattle.tables.specs.declared.Device.{Device}
+use Rattle.details.specs.Search.{blank}
+use Rattle.endpoints.specs.Table.{wordAt, entryAt}
+use Rattle.endpoints.specs.Word as word
+use Rattle.details.specs.declared.Device.{Device}
 use Rattle.rules.specs.Rows.{log}
-use Rattle.rules.specs.World.{World, withSlot}
+use Rattle.rules.specs.World.{World, withSlot, waitingOf}
 use Rattle.rules.specs.Transactions.{isDropped}
 use Rattle.rules.specs.Decoder.{handleRawPacket}
 use Rattle.rules.specs.declared.EventState.the-variants.{Idle}
 use Rattle.rules.specs.declared.Slot.the-variants.{Empty}
-use Rattle.update.specs.Tally.{Adds, waitingOf}
-use Rattle.update.specs.declared.tally.Tally.{Tally}
-use Rattle.update.proofs.Counted.{adds-none}
-use Rattle.update.proofs.Steps.{packet-adds}
-use Rattle.judge.specs.Answers.{Tests, firstOf, packetTests}
-use Rattle.judge.specs.FormedLaws.{WellFormed}
-use Rattle.judge.specs.Room.{fitting}
-use Rattle.judge.specs.declared.Counts.{Counts}
-use Rattle.judge.specs.declared.Decoder.{Decoder}
-use Rattle.steps.specs.Packet.{planOf, played}
-use Rattle.steps.specs.declared.Plan.{Plan}
-use Rattle.steps.proofs.Packet.{packet-is, dropped-is, withPacket}
-use Rattle.outcome.specs.Outcome.{Answers, Left, DevicesOf, TableOf, Appends, countsAfter, decoderOf, isIll, isFull, isOver, accepts, worldAt}
-use Rattle.outcome.specs.OutcomeLaws.{sound, refused, accepted}
-use Rattle.outcome.specs.State.{Logs, State, logs, state, roomBy, roomOf, Known}
-use Rattle.reckon.specs.Passes.{planPasses}
-use Rattle.reckon.specs.Suited.{Totalled}
-use Rattle.reckon.specs.Tallies.{addCounts}
-use Rattle.reckon.proofs.Counted.{same-adds}
-use Rattle.reckon.proofs.Counts.{counts-after, world-has, state-full}
-use Rattle.reckon.proofs.Formed.{waiting-is, packet-full-is, packet-over-is}
-use Rattle.reckon.proofs.Totals.{totalled-over}
-use Rattle.perform.specs.Asked.{PlanAsks}
-use Rattle.perform.specs.Desk.{Desk, desk, performed}
-use Rattle.perform.specs.declared.Hand.{Hand}
+use Rattle.tally.specs.Tally.{Adds}
+use Rattle.tally.specs.declared.add.Tally.{Tally}
+use Rattle.tally.proofs.Added.{adds-none}
+use Rattle.tally.proofs.Steps.{packet-adds}
+use Rattle.record.specs.Answers.{Tests, firstOf, packetTests}
+use Rattle.record.specs.FormedLaws.{WellFormed}
+use Rattle.record.specs.Room.{fitting}
+use Rattle.record.specs.declared.Counts.{Counts}
+use Rattle.record.specs.declared.Decoder.{Decoder}
+use Rattle.plan.specs.Packet.{planOf, played}
+use Rattle.plan.specs.declared.Plan.{Plan}
+use Rattle.plan.proofs.Packet.{packet-is, dropped-is, withPacket}
+use Rattle.call.specs.Outcome.{Answers, Left, DevicesOf, TableOf, Appends, countsAfter, decoderOf, isIll, isFull, isOver, accepts, worldAt}
+use Rattle.call.specs.OutcomeLaws.{sound, refused, accepted}
+use Rattle.call.specs.State.{Logs, State, logs, state, roomBy, roomOf}
+use Rattle.call.specs.Share.{Known}
+use Rattle.tally.specs.Passes.{planPasses}
+use Rattle.tally.specs.Suited.{Totalled}
+use Rattle.tally.specs.Tallies.{addCounts}
+use Rattle.tally.proofs.Counted.{same-adds}
+use Rattle.tally.proofs.Counts.{counts-after, world-has, state-full}
+use Rattle.tally.proofs.Formed.{waiting-is, packet-full-is, packet-over-is}
+use Rattle.tally.proofs.Totals.{totalled-over}
+use Rattle.write_packet.specs.Asked.{PlanAsks}
+use Rattle.write_packet.specs.Desk.{Desk, desk, performed}
+use Rattle.write_packet.specs.declared.Hand.{Hand}
 use Rattle.packet.specs.After.{sumBy, sumOf, sumPlan, sumDropped, tallyOf, tallyDropped, handOf, droppedDecoder, decoderBy, keeping, changeBy, changed, Placed}
 use Rattle.packet.specs.After as after
 use Rattle.packet.specs.Call.{testsOf, PacketCall}
@@ -109,8 +111,8 @@ module _ (packet : List ℕ) (time : ℕ) (s : State) (h : Passes packet s) (kno
       → PacketCall packet time s a (state (s .decoder) (changed keeping (s .devices)) (s .table) (s .logs))
   refused-call a e r = subst (λ (v : List Device). PacketCall packet time s a (state (s .decoder) v (s .table) (s .logs))) (sym (changed-none keeping (s .devices) refl)) (refused a (e ∙ sum-answer) r)
 
-  pub accepted-call : (b : Begins packet s) (k : Desk) → k ≡ performed p (worldAt s .packets) (entryDesk s) → (y z : List ℕ) → y ≡ sets (s .logs .bytes) (s .decoder .counts .bytes) packet → z ≡ sets (s .logs .packets) (s .decoder .counts .packets * 2) (s .decoder .counts .bytes ∷ time ∷ [])
-      → PacketCall packet time s 0 (state (decoderBy (s .decoder) p (sumPlan (s .decoder) p (length packet) (roomOf (s .logs))) (k .hand)) (changed (changeBy p (s .decoder .counts .devices)) (s .devices)) (k .table) (logs y (k .devices) (k .endpoints) z (s .logs .events) (k .transactions) (k .groups) (k .marks) (k .states) (k .items) (k .links) (k .requests)))
+  pub accepted-call : (b : Begins packet s) (k : Desk) → k ≡ performed p (worldAt s .packets) (entryDesk s) → (y z : List ℕ) → y ≡ sets (s .logs .bytes) (s .decoder .counts .bytes) packet → z ≡ sets (s .logs .packets) (s .decoder .counts .packets * packetWidth) (s .decoder .counts .bytes ∷ time ∷ [])
+      → PacketCall packet time s 0 (state (decoderBy (s .decoder) p (sumPlan (s .decoder) p (length packet) (roomOf (s .logs))) (k .hand)) (changed (changeBy p (s .decoder .counts .devices)) (s .devices)) (k .table) (logs y (k .devices) (k .endpoints) z (s .logs .events) (k .transactions) (k .groups) (k .statebytes) (k .states) (k .items) (k .links) (k .requests)))
   accepted-call b k e y z f g = accepted 0 (sym (b .sum) ∙ sum-answer) refl (left packet time s b k e y z f g)
 
 -- ---- the same, of what the code has: each part with its equation
@@ -121,7 +123,7 @@ none-placed e = subst Placed (sym e) (record { place = omega arith; at = omega a
 -- the desk at the call's entry, with this hand
 abbrev pub deskBy : Hand → State → Desk
 deskBy h s =
-    desk h (s .table) (s .logs .devices) (s .logs .endpoints) (s .logs .transactions) (s .logs .groups) (s .logs .marks) (s .logs .states) (s .logs .items) (s .logs .links) (s .logs .requests)
+    desk h (s .table) (s .logs .devices) (s .logs .endpoints) (s .logs .transactions) (s .logs .groups) (s .logs .statebytes) (s .logs .states) (s .logs .items) (s .logs .links) (s .logs .requests)
 
 pub record Decided (packet : List ℕ) (s : State) (p : Plan) (n : Counts) (z : Sum) : Type 0 where
   pub passes : Passes packet s
@@ -160,7 +162,7 @@ module _ (packet : List ℕ) (time : ℕ) (s : State) {plan : Plan} {room : Coun
     begins =
         record { ill = q .passes .ill; live = q .live; known = q .known; many = q .many; token = q .token; first = q .first; sum = sym (ap (λ (z : Sum). z .answer) sum-at) ∙ ok }
 
-    pub rows-fit : (s .decoder .counts .bytes + length packet ≤ length (s .logs .bytes)) × ((s .decoder .counts .packets + 1) * 2 ≤ length (s .logs .packets))
+    pub rows-fit : (s .decoder .counts .bytes + length packet ≤ length (s .logs .bytes)) × ((s .decoder .counts .packets + 1) * packetWidth ≤ length (s .logs .packets))
     rows-fit = (bytes-fit packet time s begins, packets-fit packet time s begins)
 
     pub few-devices : s .decoder .counts .devices ≤ 64
@@ -175,15 +177,15 @@ module _ (packet : List ℕ) (time : ℕ) (s : State) {plan : Plan} {room : Coun
     placed-by e = subst Placed (sym (e ∙ λ i. changeBy (q .plan i) (s .decoder .counts .devices))) (change-placed packet time s begins)
 
     pub accepted-by : {h : Hand} {k : Desk} {x : Decoder} {c : Change} {y z : List ℕ} → h ≡ handOf (s .decoder) → k ≡ performed plan (s .decoder .counts .packets) (deskBy h s)
-        → y ≡ sets (s .logs .bytes) (s .decoder .counts .bytes) packet → z ≡ sets (s .logs .packets) (s .decoder .counts .packets * 2) (s .decoder .counts .bytes ∷ time ∷ [])
+        → y ≡ sets (s .logs .bytes) (s .decoder .counts .bytes) packet → z ≡ sets (s .logs .packets) (s .decoder .counts .packets * packetWidth) (s .decoder .counts .bytes ∷ time ∷ [])
         → x ≡ decoderBy (s .decoder) plan sum (k .hand) → c ≡ changeBy plan (s .decoder .counts .devices)
-        → PacketCall packet time s 0 (state x (changed c (s .devices)) (k .table) (logs y (k .devices) (k .endpoints) z (s .logs .events) (k .transactions) (k .groups) (k .marks) (k .states) (k .items) (k .links) (k .requests)))
+        → PacketCall packet time s 0 (state x (changed c (s .devices)) (k .table) (logs y (k .devices) (k .endpoints) z (s .logs .events) (k .transactions) (k .groups) (k .statebytes) (k .states) (k .items) (k .links) (k .requests)))
     accepted-by {h} {k} {x} {c} {y} {z} e1 e2 f g e3 e4 =
         let k1 : k ≡ performed (planOf packet (worldAt s)) (s .decoder .counts .packets) (entryDesk s) = e2 ∙ λ i. performed (q .plan i) (s .decoder .counts .packets) (deskBy (e1 i) s) in
         let x1 : x ≡ decoderBy (s .decoder) (planOf packet (worldAt s)) (sumPlan (s .decoder) (planOf packet (worldAt s)) (length packet) (roomOf (s .logs))) (k .hand) = e3 ∙ λ i. decoderBy (s .decoder) (q .plan i) (sum-at i) (k .hand) in
         let c1 : c ≡ changeBy (planOf packet (worldAt s)) (s .decoder .counts .devices) = e4 ∙ λ i. changeBy (q .plan i) (s .decoder .counts .devices) in
-        subst (λ (a : Decoder). PacketCall packet time s 0 (state a (changed c (s .devices)) (k .table) (logs y (k .devices) (k .endpoints) z (s .logs .events) (k .transactions) (k .groups) (k .marks) (k .states) (k .items) (k .links) (k .requests)))) (sym x1)
-        (subst (λ (a : Change). PacketCall packet time s 0 (state (decoderBy (s .decoder) (planOf packet (worldAt s)) (sumPlan (s .decoder) (planOf packet (worldAt s)) (length packet) (roomOf (s .logs))) (k .hand)) (changed a (s .devices)) (k .table) (logs y (k .devices) (k .endpoints) z (s .logs .events) (k .transactions) (k .groups) (k .marks) (k .states) (k .items) (k .links) (k .requests)))) (sym c1)
+        subst (λ (a : Decoder). PacketCall packet time s 0 (state a (changed c (s .devices)) (k .table) (logs y (k .devices) (k .endpoints) z (s .logs .events) (k .transactions) (k .groups) (k .statebytes) (k .states) (k .items) (k .links) (k .requests)))) (sym x1)
+        (subst (λ (a : Change). PacketCall packet time s 0 (state (decoderBy (s .decoder) (planOf packet (worldAt s)) (sumPlan (s .decoder) (planOf packet (worldAt s)) (length packet) (roomOf (s .logs))) (k .hand)) (changed a (s .devices)) (k .table) (logs y (k .devices) (k .endpoints) z (s .logs .events) (k .transactions) (k .groups) (k .statebytes) (k .states) (k .items) (k .links) (k .requests)))) (sym c1)
         (accepted-call packet time s (q .passes) (q .known) (q .live) begins k k1 y z f g))
 
 -- ---- a packet that drops the suspended transaction
@@ -222,8 +224,8 @@ module _ (packet : List ℕ) (time : ℕ) (s : State) (h : Passes packet s) (kno
       turn true = refl
       turn false = refl
 
-  left-dropped : fitting (addCounts (d .counts) t) (roomOf (s .logs)) ≡ true → (y z : List ℕ) → y ≡ sets (s .logs .bytes) (d .counts .bytes) packet → z ≡ sets (s .logs .packets) (d .counts .packets * 2) (d .counts .bytes ∷ time ∷ [])
-      → Left world (d .finished) s (state (droppedDecoder d (after.accepted d t)) (s .devices) (s .table) (logs y (s .logs .devices) (s .logs .endpoints) z (s .logs .events) (s .logs .transactions) (s .logs .groups) (s .logs .marks) (s .logs .states) (s .logs .items) (s .logs .links) (s .logs .requests)))
+  left-dropped : fitting (addCounts (d .counts) t) (roomOf (s .logs)) ≡ true → (y z : List ℕ) → y ≡ sets (s .logs .bytes) (d .counts .bytes) packet → z ≡ sets (s .logs .packets) (d .counts .packets * packetWidth) (d .counts .bytes ∷ time ∷ [])
+      → Left world (d .finished) s (state (droppedDecoder d (after.accepted d t)) (s .devices) (s .table) (logs y (s .logs .devices) (s .logs .endpoints) z (s .logs .events) (s .logs .transactions) (s .logs .groups) (s .logs .statebytes) (s .logs .states) (s .logs .items) (s .logs .links) (s .logs .requests)))
   unfolding decoderOf
   left-dropped e y z f g =
       let n : addCounts (d .counts) t ≡ countsAfter (d .counts) world = sym (counts-after (world-has d (s .devices) (s .table)) adds) in
@@ -240,7 +242,7 @@ module _ (packet : List ℕ) (time : ℕ) (s : State) (h : Passes packet s) (kno
           events = refl;
           transactions = refl;
           groups = refl;
-          marks = refl;
+          statebytes = refl;
           states = refl;
           items = refl;
           links = refl;
@@ -254,22 +256,22 @@ module _ (packet : List ℕ) (time : ℕ) (s : State) (h : Passes packet s) (kno
 
   -- the state with these three parts changed
   abbrev stateBy : Decoder → List ℕ → List ℕ → State
-  stateBy x y z = state x (s .devices) (s .table) (logs y (s .logs .devices) (s .logs .endpoints) z (s .logs .events) (s .logs .transactions) (s .logs .groups) (s .logs .marks) (s .logs .states) (s .logs .items) (s .logs .links) (s .logs .requests))
+  stateBy x y z = state x (s .devices) (s .table) (logs y (s .logs .devices) (s .logs .endpoints) z (s .logs .events) (s .logs .transactions) (s .logs .groups) (s .logs .statebytes) (s .logs .states) (s .logs .items) (s .logs .links) (s .logs .requests))
 
   pub dropped-call : (r : Inner) (y z : List ℕ) → Drops d keeping packet time (roomOf (s .logs)) (s .logs .bytes) (s .logs .packets) r y z
-      → PacketCall packet time s (r .answer) (state (r .decoder) (changed (r .change) (s .devices)) (s .table) (logs y (s .logs .devices) (s .logs .endpoints) z (s .logs .events) (s .logs .transactions) (s .logs .groups) (s .logs .marks) (s .logs .states) (s .logs .items) (s .logs .links) (s .logs .requests)))
+      → PacketCall packet time s (r .answer) (state (r .decoder) (changed (r .change) (s .devices)) (s .table) (logs y (s .logs .devices) (s .logs .endpoints) z (s .logs .events) (s .logs .transactions) (s .logs .groups) (s .logs .statebytes) (s .logs .states) (s .logs .items) (s .logs .links) (s .logs .requests)))
   dropped-call r y z q =
-      subst (λ (v : List Device). PacketCall packet time s (r .answer) (state (r .decoder) v (s .table) (logs y (s .logs .devices) (s .logs .endpoints) z (s .logs .events) (s .logs .transactions) (s .logs .groups) (s .logs .marks) (s .logs .states) (s .logs .items) (s .logs .links) (s .logs .requests))))
+      subst (λ (v : List Device). PacketCall packet time s (r .answer) (state (r .decoder) v (s .table) (logs y (s .logs .devices) (s .logs .endpoints) z (s .logs .events) (s .logs .transactions) (s .logs .groups) (s .logs .statebytes) (s .logs .states) (s .logs .items) (s .logs .links) (s .logs .requests))))
       (sym (ap (λ (c : Change). changed c (s .devices)) (q .change) ∙ changed-none keeping (s .devices) refl))
       (by (fitting (addCounts (d .counts) t) (roomOf (s .logs))) refl)
     where
-      by : (b : Bool) → fitting (addCounts (d .counts) t) (roomOf (s .logs)) ≡ b → PacketCall packet time s (r .answer) (state (r .decoder) (s .devices) (s .table) (logs y (s .logs .devices) (s .logs .endpoints) z (s .logs .events) (s .logs .transactions) (s .logs .groups) (s .logs .marks) (s .logs .states) (s .logs .items) (s .logs .links) (s .logs .requests)))
+      by : (b : Bool) → fitting (addCounts (d .counts) t) (roomOf (s .logs)) ≡ b → PacketCall packet time s (r .answer) (state (r .decoder) (s .devices) (s .table) (logs y (s .logs .devices) (s .logs .endpoints) z (s .logs .events) (s .logs .transactions) (s .logs .groups) (s .logs .statebytes) (s .logs .states) (s .logs .items) (s .logs .links) (s .logs .requests)))
       by true e =
           let q1 = sum-is true e in
           let a : r .answer ≡ 8 = q .answer ∙ ap (λ (z : Sum). cond (eqb (z .answer) 0) 8 (z .answer)) q1 in
           let c : r .decoder ≡ droppedDecoder d (after.accepted d t) = q .decoder ∙ ap (λ (z : Sum). cond (eqb (z .answer) 0) (droppedDecoder d z) d) q1 in
           let u = q .bytes ∙ ap (λ (z : Sum). cond (eqb (z .answer) 0) (sets (s .logs .bytes) (d .counts .bytes) packet) (s .logs .bytes)) q1 in
-          let v = q .packets ∙ ap (λ (z : Sum). cond (eqb (z .answer) 0) (sets (s .logs .packets) (d .counts .packets * 2) (d .counts .bytes ∷ time ∷ [])) (s .logs .packets)) q1 in
+          let v = q .packets ∙ ap (λ (z : Sum). cond (eqb (z .answer) 0) (sets (s .logs .packets) (d .counts .packets * packetWidth) (d .counts .bytes ∷ time ∷ [])) (s .logs .packets)) q1 in
           accepted (r .answer) (a ∙ sym (sum-by true e)) (ap accepts a)
           (subst (λ (x : Decoder). Left (handleRawPacket packet time (worldAt s)) (d .finished) s (stateBy x y z)) (sym c)
           (subst (λ (x : World). Left x (d .finished) s (stateBy (droppedDecoder d (after.accepted d t)) y z)) (sym world-is) (left-dropped e y z u v)))
@@ -278,11 +280,11 @@ module _ (packet : List ℕ) (time : ℕ) (s : State) (h : Passes packet s) (kno
           let a : r .answer ≡ 7 = q .answer ∙ ap (λ (z : Sum). cond (eqb (z .answer) 0) 8 (z .answer)) q1 in
           let c : r .decoder ≡ d = q .decoder ∙ ap (λ (z : Sum). cond (eqb (z .answer) 0) (droppedDecoder d z) d) q1 in
           let u = q .bytes ∙ ap (λ (z : Sum). cond (eqb (z .answer) 0) (sets (s .logs .bytes) (d .counts .bytes) packet) (s .logs .bytes)) q1 in
-          let v = q .packets ∙ ap (λ (z : Sum). cond (eqb (z .answer) 0) (sets (s .logs .packets) (d .counts .packets * 2) (d .counts .bytes ∷ time ∷ [])) (s .logs .packets)) q1 in
+          let v = q .packets ∙ ap (λ (z : Sum). cond (eqb (z .answer) 0) (sets (s .logs .packets) (d .counts .packets * packetWidth) (d .counts .bytes ∷ time ∷ [])) (s .logs .packets)) q1 in
           subst (λ (x : State). PacketCall packet time s (r .answer) x) (λ i. stateBy (sym c i) (sym u i) (sym v i)) (refused (r .answer) (a ∙ sym (sum-by false e)) (ap accepts a))
 
   pub dropped-by : {none : Change} {room : Counts} (r : Inner) (y z : List ℕ) → none ≡ keeping → room ≡ roomOf (s .logs) → Drops d none packet time room (s .logs .bytes) (s .logs .packets) r y z
-      → Placed (r .change) × PacketCall packet time s (r .answer) (state (r .decoder) (changed (r .change) (s .devices)) (s .table) (logs y (s .logs .devices) (s .logs .endpoints) z (s .logs .events) (s .logs .transactions) (s .logs .groups) (s .logs .marks) (s .logs .states) (s .logs .items) (s .logs .links) (s .logs .requests)))
+      → Placed (r .change) × PacketCall packet time s (r .answer) (state (r .decoder) (changed (r .change) (s .devices)) (s .table) (logs y (s .logs .devices) (s .logs .endpoints) z (s .logs .events) (s .logs .transactions) (s .logs .groups) (s .logs .statebytes) (s .logs .states) (s .logs .items) (s .logs .links) (s .logs .requests)))
   dropped-by {none} {room} r y z e f q = (
     none-placed (q .change ∙ e),
     dropped-call r y z
@@ -291,7 +293,7 @@ module _ (packet : List ℕ) (time : ℕ) (s : State) (h : Passes packet s) (kno
   )
 
 -- the room of the two logs that a packet's own rows go to
-pub room-rows : (s : State) {room : Counts} → room ≡ roomOf (s .logs) → (room .bytes ≤ length (s .logs .bytes)) × (room .packets * 2 ≤ length (s .logs .packets))
+pub room-rows : (s : State) {room : Counts} → room ≡ roomOf (s .logs) → (room .bytes ≤ length (s .logs .bytes)) × (room .packets * packetWidth ≤ length (s .logs .packets))
 unfolding roomBy
 room-rows s {room} e =
     let a : room .bytes ≡ length (s .logs .bytes) = ap (λ (n : Counts). n .bytes) e in

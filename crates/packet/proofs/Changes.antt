@@ -7,15 +7,15 @@ use borrow.Author.Tests.{eqb-true, eqb-false}
 use lib.Dec.{eqb}
 use lib.ListN.{length, getD, set, length-set}
 use lib.Seq.{getD-set-same, getD-set-other, set-getD}
-use Rattle.rows.specs.Sets.{one}
+use Rattle.rows.specs.One.{one}
 use Rattle.transaction.specs.Table.{pick}
-use Rattle.tables.specs.Details.{withType, fresh}
-use Rattle.tables.specs.Search.{blank}
-use Rattle.tables.specs.declared.Device.{Device}
-use Rattle.steps.specs.declared.Plan.{Plan}
+use Rattle.details.specs.Details.{withType, fresh}
+use Rattle.details.specs.Search.{blank}
+use Rattle.details.specs.declared.Device.{Device}
+use Rattle.plan.specs.declared.Plan.{Plan}
 use Rattle.update.specs.Update.{when}
-use Rattle.steps.specs.Devices.{changes, rowAfter, addsDevice, addressOf}
-use Rattle.steps.proofs.Devices.{placed}
+use Rattle.plan.specs.Devices.{changes, rowAfter, addsDevice, addressOf}
+use Rattle.plan.proofs.Devices.{placed}
 use Rattle.packet.specs.After.{changeBy, rowBy, addedBy, isChange, rowPut, changed}
 use Rattle.packet.specs.declared.change.Change.{Change}
 

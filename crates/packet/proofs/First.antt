@@ -7,12 +7,13 @@ use native.Mathlib.Omega.{arith}
 use borrow.Author.Tests.{ltb-false}
 use lib.Dec.{eqb, ltb}
 use lib.ListN.{length}
-use Rattle.judge.specs.Answers.{firstOf, packetTests}
-use Rattle.judge.specs.declared.Counts.{Counts}
-use Rattle.outcome.specs.Outcome.{isIll, accepts}
-use Rattle.outcome.specs.OutcomeLaws.{ill-by, refused}
-use Rattle.outcome.specs.State.{State, roomOf}
-use Rattle.packet.specs.Call.{testsOf, firstTests, PacketCall}
+use Rattle.record.specs.Answers.{firstOf, packetTests}
+use Rattle.record.specs.declared.Counts.{Counts}
+use Rattle.call.specs.Outcome.{isIll, accepts}
+use Rattle.call.specs.OutcomeLaws.{ill-by, refused}
+use Rattle.call.specs.State.{State, roomOf}
+use Rattle.packet.specs.Call.{testsOf, PacketCall}
+use Rattle.call.specs.Share.{firstTests}
 use Rattle.packet.proofs.Answers.{Passes}
 
 -- the first three tests, by themselves
@@ -34,7 +35,7 @@ three-none false true long h = absurd (omega arith)
 three-none false false true h = absurd (omega arith)
 three-none false false false h = (refl, (refl, refl))
 
-module _ (packet : List ℕ) (time : ℕ) (s : State) {room : Counts} (e : room ≡ roomOf (s .logs)) {a : ℕ} (f : a ≡ firstTests (s .decoder) (s .devices) (s .table) room (length packet)) where
+module _ (packet : List ℕ) (time : ℕ) (s : State) {room : Counts} (e : room ≡ roomOf (s .logs)) {a : ℕ} (f : a ≡ firstTests (s .decoder) (s .devices) (s .table) room (length packet) 4096 3) where
   is-three : a ≡ three (isIll s) (s .decoder .finished) (ltb 4096 (length packet))
   is-three = f ∙ ap (λ (b : Bool). three b (s .decoder .finished) (ltb 4096 (length packet))) (ill-by s room e)
 

@@ -7,56 +7,58 @@ use native.Mathlib.Omega.{arith}
 use lib.Dec.{eqb, ltb}
 use lib.ListN.{length, getD, set, length-set}
 use lib.Seq.{sets, getD-set-other}
-use Rattle.rows.specs.Sets.{one}
+use Rattle.rows.specs.Widths.{eventWidth, packetWidth}
+use Rattle.rows.specs.One.{one}
 use Rattle.transaction.specs.Payload.{startPid, extractPayload}
 use Rattle.transaction.specs.Status.{transactionStatus}
 use Rattle.usb.specs.Fields.{setupDataOf}
 use Rattle.transaction.specs.declared.Transaction.{Transaction}
 use Rattle.transaction.proofs.Laws.{extract-keeps}
-use Rattle.tables.specs.Search.{blank}
-use Rattle.tables.specs.Table.{wordAt, entryAt, Fits}
-use Rattle.tables.specs.TableLaws.{fits-entry}
-use Rattle.tables.specs.declared.Device.{Device}
-use Rattle.tables.specs.declared.Endpoint.{Endpoint}
+use Rattle.details.specs.Search.{blank}
+use Rattle.endpoints.specs.Table.{wordAt, entryAt}
+use Rattle.endpoints.specs.TableLaws.{Fits, fits-entry}
+use Rattle.details.specs.declared.Device.{Device}
+use Rattle.endpoints.specs.declared.Endpoint.{Endpoint}
 use Rattle.rules.specs.Rows.{Row, log}
-use Rattle.rules.specs.World.{World, _▷_, withId, withLink}
+use Rattle.rules.specs.World.{World, _▷_, withId, withLink, waitingOf}
 use Rattle.rules.specs.Transactions.{isDropped, stateAt}
 use Rattle.rules.specs.Decoder.{handleRawPacket}
 use Rattle.rules.specs.declared.Slot.{Slot}
 use Rattle.rules.specs.declared.Slot.the-variants.{Empty, Current, Suspended}
-use Rattle.update.specs.Tally.{wordsIn, inLog, wordsFor, waitingOf, Adds}
-use Rattle.update.specs.declared.tally.Tally.{Tally}
+use Rattle.tally.specs.Tally.{wordsIn, inLog, wordsFor, Adds}
+use Rattle.tally.specs.declared.add.Tally.{Tally}
 use Rattle.update.specs.Update.{when, decideResume}
-use Rattle.judge.specs.FormedLaws.{WellFormed}
-use Rattle.judge.specs.Room.{fitting}
-use Rattle.judge.specs.RoomLaws.{Within, within, Short}
-use Rattle.judge.specs.declared.Counts.{Counts}
-use Rattle.judge.specs.declared.Decoder.{Decoder}
-use Rattle.steps.specs.Packet.{resumes, slotThen, going, oldEndpoint, transactionThen, planBy, planOf, played}
-use Rattle.steps.specs.Step.{opened, begun}
-use Rattle.steps.specs.Sound.{world1, world2, PlanFits}
-use Rattle.steps.specs.declared.Plan.{Plan}
-use Rattle.steps.proofs.Packet.{packet-is}
-use Rattle.steps.proofs.Played.{played-log, played-event, played-keepalive, played-slot, tiedTo, Tied, played-tied}
-use Rattle.steps.specs.Devices.{changes, addsDevice}
-use Rattle.steps.proofs.Devices.{played-devices, played-device-count, plan-behind}
-use Rattle.steps.proofs.Sound.{Sane, fits-packet, played-count}
-use Rattle.outcome.specs.Outcome.{countsAfter, decoderOf, DevicesOf, TableOf, Appends, Left, isIll, worldAt}
-use Rattle.outcome.specs.OutcomeLaws.{sound}
-use Rattle.outcome.specs.State.{Logs, State, logs, state, roomBy, roomOf, Known}
-use Rattle.reckon.specs.Passes.{planPasses}
-use Rattle.reckon.specs.Tallies.{tallyPlan, addCounts}
-use Rattle.reckon.proofs.Counted.{played-adds}
-use Rattle.reckon.proofs.Counts.{counts-after, world-has}
-use Rattle.reckon.proofs.Formed.{three, old-stands, waiting-is}
-use Rattle.reckon.proofs.Planned.{plan-suits}
+use Rattle.record.specs.FormedLaws.{WellFormed}
+use Rattle.record.specs.Room.{fitting}
+use Rattle.record.specs.RoomLaws.{Within, within, Short}
+use Rattle.record.specs.declared.Counts.{Counts}
+use Rattle.record.specs.declared.Decoder.{Decoder}
+use Rattle.plan.specs.Packet.{resumes, slotThen, going, oldEndpoint, transactionThen, planBy, planOf, played}
+use Rattle.plan.specs.Step.{opened, begun}
+use Rattle.plan.specs.Sound.{world1, world2, PlanFits}
+use Rattle.plan.specs.declared.Plan.{Plan}
+use Rattle.plan.proofs.Packet.{packet-is}
+use Rattle.plan.proofs.Played.{played-log, played-event, played-keepalive, played-slot, tiedTo, Tied, played-tied}
+use Rattle.plan.specs.Devices.{changes, addsDevice}
+use Rattle.plan.proofs.Devices.{played-devices, played-device-count, plan-behind}
+use Rattle.plan.proofs.Sound.{Sane, fits-packet, played-count}
+use Rattle.call.specs.Outcome.{countsAfter, decoderOf, DevicesOf, TableOf, Appends, Left, isIll, worldAt}
+use Rattle.call.specs.OutcomeLaws.{sound}
+use Rattle.call.specs.State.{Logs, State, logs, state, roomBy, roomOf}
+use Rattle.call.specs.Share.{Known, tied}
+use Rattle.tally.specs.Passes.{planPasses}
+use Rattle.tally.specs.Tallies.{tallyPlan, addCounts}
+use Rattle.tally.proofs.Counted.{played-adds}
+use Rattle.tally.proofs.Counts.{counts-after, world-has}
+use Rattle.tally.proofs.Formed.{three, old-stands, waiting-is}
+use Rattle.tally.proofs.Planned.{plan-suits}
 use Rattle.write.specs.Holds.{Space}
-use Rattle.perform.specs.Asked.{RoomAll, PlanAsks}
-use Rattle.perform.specs.Desk.{Desk, desk, performed}
-use Rattle.perform.specs.Held.{HoldsAll, Matches, SpaceAll, Brought}
-use Rattle.perform.specs.PlanLaws.{all-start, room-all, played-holds, ready}
-use Rattle.perform.specs.declared.Hand.{Hand}
-use Rattle.packet.specs.After.{sumBy, sumOf, sumPlan, tallyOf, accepted, handOf, tied, decoderBy, changeBy, changed, Placed}
+use Rattle.write_packet.specs.Asked.{RoomAll, PlanAsks}
+use Rattle.write_packet.specs.Desk.{Desk, desk, performed}
+use Rattle.write_packet.specs.Held.{HoldsAll, Matches, SpaceAll, Brought}
+use Rattle.write_packet.specs.PlanLaws.{all-start, room-all, played-holds, ready}
+use Rattle.write_packet.specs.declared.Hand.{Hand}
+use Rattle.packet.specs.After.{sumBy, sumOf, sumPlan, tallyOf, accepted, handOf, decoderBy, changeBy, changed, Placed}
 use Rattle.packet.specs.declared.change.Change.{Change}
 use Rattle.packet.specs.declared.sum.Sum.{Sum}
 use Rattle.packet.proofs.Changes.{changed-length, changed-beyond, change-told, change-in}
@@ -65,7 +67,7 @@ use Rattle.packet.proofs.Places.{plan-place}
 -- the desk at the call's entry
 abbrev pub entryDesk : State → Desk
 entryDesk s =
-    desk (handOf (s .decoder)) (s .table) (s .logs .devices) (s .logs .endpoints) (s .logs .transactions) (s .logs .groups) (s .logs .marks) (s .logs .states) (s .logs .items) (s .logs .links) (s .logs .requests)
+    desk (handOf (s .decoder)) (s .table) (s .logs .devices) (s .logs .endpoints) (s .logs .transactions) (s .logs .groups) (s .logs .statebytes) (s .logs .states) (s .logs .items) (s .logs .links) (s .logs .requests)
 
 -- what the code knows when it is to write: the tests that were passed, and what is known of the arguments
 pub record Begins (packet : List ℕ) (s : State) : Type 0 where
@@ -140,7 +142,7 @@ module _ (packet : List ℕ) (time : ℕ) (s : State) (b : Begins packet s) wher
       record {
         memory = record {
           groups = omega (arith, words 6, roomy .groups);
-          marks = omega (arith, words 7, roomy .marks);
+          statebytes = omega (arith, words 7, roomy .statebytes);
           states = omega (arith, words 8, roomy .states);
           items = omega (arith, words 9, roomy .items);
           links = omega (arith, words 10, roomy .links);
@@ -166,7 +168,7 @@ module _ (packet : List ℕ) (time : ℕ) (s : State) (b : Begins packet s) wher
   unfolding inLog addCounts roomBy
   bytes-fit = let e = ap length bytes-are in omega (arith, words 0, roomy .bytes, e)
 
-  pub packets-fit : (d .counts .packets + 1) * 2 ≤ length (s .logs .packets)
+  pub packets-fit : (d .counts .packets + 1) * packetWidth ≤ length (s .logs .packets)
   unfolding inLog addCounts roomBy
   packets-fit = let e = ap length packets-are in omega (arith, words 3, roomy .packets, e)
 
@@ -225,7 +227,7 @@ module _ (packet : List ℕ) (time : ℕ) (s : State) (b : Begins packet s) wher
         link = refl;
         lastItem = refl;
         groups = refl;
-        marks = refl;
+        statebytes = refl;
         items = refl;
         transactions = refl;
         devices = refl;
@@ -251,7 +253,7 @@ module _ (packet : List ℕ) (time : ℕ) (s : State) (b : Begins packet s) wher
     now-held : HoldsAll (entryDesk s) after k
     now-held = subst (HoldsAll (entryDesk s) after) (sym e) held
 
-    transaction-is : tied (p .begin .transaction) (k .hand .tally) ≡ after .transaction
+    transaction-is : tied (p .begin .transaction) (k .hand .written) ≡ after .transaction
     transaction-is =
         let a = played-tied p packet time w in
         let m = now-held .memory in
@@ -323,8 +325,8 @@ module _ (packet : List ℕ) (time : ℕ) (s : State) (b : Begins packet s) wher
 
   -- ---- all of it
 
-  module _ (k : Desk) (e : k ≡ performed p (w .packets) (entryDesk s)) (y z : List ℕ) (f : y ≡ sets (s .logs .bytes) (d .counts .bytes) packet) (g : z ≡ sets (s .logs .packets) (d .counts .packets * 2) (d .counts .bytes ∷ time ∷ [])) where
-    logs-are : Appends after (d .counts) (s .logs) (logs y (k .devices) (k .endpoints) z (s .logs .events) (k .transactions) (k .groups) (k .marks) (k .states) (k .items) (k .links) (k .requests))
+  module _ (k : Desk) (e : k ≡ performed p (w .packets) (entryDesk s)) (y z : List ℕ) (f : y ≡ sets (s .logs .bytes) (d .counts .bytes) packet) (g : z ≡ sets (s .logs .packets) (d .counts .packets * packetWidth) (d .counts .bytes ∷ time ∷ [])) where
+    logs-are : Appends after (d .counts) (s .logs) (logs y (k .devices) (k .endpoints) z (s .logs .events) (k .transactions) (k .groups) (k .statebytes) (k .states) (k .items) (k .links) (k .requests))
     logs-are =
         let h = now-held k e in
         let m = h .memory in
@@ -332,11 +334,11 @@ module _ (packet : List ℕ) (time : ℕ) (s : State) (b : Begins packet s) wher
           bytes = f ∙ ap (sets (s .logs .bytes) (d .counts .bytes)) (sym bytes-are);
           devices = h .devices .written;
           endpoints = h .endpoints .written;
-          packets = g ∙ ap (sets (s .logs .packets) (d .counts .packets * 2)) (sym packets-are);
-          events = ap (sets (s .logs .events) (d .counts .events * 2)) (sym events-are);
+          packets = g ∙ ap (sets (s .logs .packets) (d .counts .packets * packetWidth)) (sym packets-are);
+          events = ap (sets (s .logs .events) (d .counts .events * eventWidth)) (sym events-are);
           transactions = h .transactions .written;
           groups = m .groups .written;
-          marks = m .marks .written;
+          statebytes = m .statebytes .written;
           states = m .states .written;
           items = m .items .written;
           links = m .links .written;
@@ -344,8 +346,8 @@ module _ (packet : List ℕ) (time : ℕ) (s : State) (b : Begins packet s) wher
         }
 
     pub left : Left (handleRawPacket packet time w) (d .finished) s
-        (state (decoderBy d p sum (k .hand)) (changed (changeBy p (d .counts .devices)) (s .devices)) (k .table) (logs y (k .devices) (k .endpoints) z (s .logs .events) (k .transactions) (k .groups) (k .marks) (k .states) (k .items) (k .links) (k .requests)))
+        (state (decoderBy d p sum (k .hand)) (changed (changeBy p (d .counts .devices)) (s .devices)) (k .table) (logs y (k .devices) (k .endpoints) z (s .logs .events) (k .transactions) (k .groups) (k .statebytes) (k .states) (k .items) (k .links) (k .requests)))
     left =
-        subst (λ (v : World). Left v (d .finished) s (state (decoderBy d p sum (k .hand)) (changed (changeBy p (d .counts .devices)) (s .devices)) (k .table) (logs y (k .devices) (k .endpoints) z (s .logs .events) (k .transactions) (k .groups) (k .marks) (k .states) (k .items) (k .links) (k .requests))))
+        subst (λ (v : World). Left v (d .finished) s (state (decoderBy d p sum (k .hand)) (changed (changeBy p (d .counts .devices)) (s .devices)) (k .table) (logs y (k .devices) (k .endpoints) z (s .logs .events) (k .transactions) (k .groups) (k .statebytes) (k .states) (k .items) (k .links) (k .requests))))
         (sym (packet-is packet time w (b .live)))
         (record { decoder = decoder-is k e; devices = devices-are; table = table-is k e; logs = logs-are })

@@ -5,7 +5,7 @@ use mathlib.Core.List.{List}
 use Prim.Native.Nat.{ℕ, _+_, _<_, _≤_}
 use lib.Dec.{eqb}
 use lib.ListN.{length}
-use Rattle.rows.specs.Sets.{one}
+use Rattle.rows.specs.One.{one}
 use Rattle.usb.specs.Pid.{SPLIT, MALFORMED}
 use Rattle.usb.specs.Fields.{tokenOf, setupDataOf}
 use Rattle.transaction.specs.Payload.{startPid, extractPayload}
@@ -17,20 +17,20 @@ use Rattle.transaction.specs.declared.Status.the-variants.{New, Continue, Retry
 use Rattle.transaction.specs.declared.Style.{Style}
 use Rattle.transaction.specs.declared.Style.the-variants.{Nothing, Simple, Split, Token}
 use Rattle.transaction.specs.declared.Transaction.{Transaction}
-use Rattle.tables.specs.Details.{detailsOf}
-use Rattle.tables.specs.Kind.{Unknown}
-use Rattle.tables.specs.declared.Endpoint.{Endpoint}
-use Rattle.tables.specs.declared.Found.{Found}
-use Rattle.tables.specs.declared.Found.the-variants.{At, Nothing as Missing}
+use Rattle.details.specs.Details.{detailsOf}
+use Rattle.details.specs.Kind.{Unknown}
+use Rattle.endpoints.specs.declared.Endpoint.{Endpoint}
+use Rattle.details.specs.declared.Found.{Found}
+use Rattle.details.specs.declared.Found.the-variants.{At, Nothing as Missing}
 use Rattle.rules.specs.World.{World, invalidEp}
 use Rattle.rules.specs.Endpoints.{deviceFor, addressFor, found}
 use Rattle.rules.specs.Transactions.{stateAt}
-use Rattle.steps.specs.Step.{endOf}
-use Rattle.steps.specs.Packet.{resumes, slotThen, oldEndpoint, transactionThen, entryThen, standing, newOn, placeAt, placeOf, startOn, startSplit, startPlain, starting, appendingAt, appending, middleOf, isNew, entryEnded, planBy, planOf}
-use Rattle.steps.specs.declared.Middle.{Middle}
-use Rattle.steps.specs.declared.Place.{Place}
-use Rattle.steps.proofs.Bounded.{Within, device-within, found-within}
-use Rattle.steps.specs.Devices.{changes}
+use Rattle.plan.specs.Step.{endOf}
+use Rattle.plan.specs.Packet.{resumes, slotThen, oldEndpoint, transactionThen, entryThen, standing, newOn, placeAt, placeOf, startOn, startSplit, startPlain, starting, appendingAt, appending, middleOf, isNew, entryEnded, planBy, planOf}
+use Rattle.plan.specs.declared.Middle.{Middle}
+use Rattle.plan.specs.declared.Place.{Place}
+use Rattle.plan.proofs.Bounded.{Within, device-within, found-within}
+use Rattle.plan.specs.Devices.{changes}
 
 module _ (w : World) (three : 3 ≤ w .count) (owned : (i : ℕ) → i < w .count → w .endpoints i .device < w .deviceCount) where
   -- of a place whose device is not new

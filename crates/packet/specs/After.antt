@@ -1,29 +1,29 @@
--- What a packet leaves, as the code puts it together: the sum, the record, and the change of the devices. proofs/Left.antt and proofs/Answers.antt tie it to the rules.
+-- Inner (cited by private contracts alone): what a packet leaves, as the code puts it together: the sum, the record, and the change of the devices.
+-- proofs/Left.antt and proofs/Answers.antt tie it to the rules.
 use Prim.Native.Nat.{ℕ, _+_, _<_}
 use mathlib.Core.Bool.{Bool, true, false, _&&_, _||_, not}
 use mathlib.Core.List.{List, []}
 use lib.ListN.{getD, set}
-use Rattle.rows.specs.Sets.{one}
+use Rattle.rows.specs.One.{one}
 use Rattle.transaction.specs.Table.{pick}
-use Rattle.transaction.specs.declared.Transaction.{Transaction}
-use Rattle.tables.specs.Details.{withType, fresh}
-use Rattle.tables.specs.Search.{blank}
-use Rattle.tables.specs.declared.Device.{Device}
+use Rattle.details.specs.Details.{withType, fresh}
+use Rattle.details.specs.Search.{blank}
+use Rattle.details.specs.declared.Device.{Device}
 use Rattle.rules.specs.declared.EventState.the-variants.{Idle}
 use Rattle.rules.specs.declared.Slot.the-variants.{Empty}
 use Rattle.rules.specs.World.{_▷_}
-use Rattle.update.specs.Tally.{none, addPacket}
+use Rattle.tally.specs.Tally.{none, addPacket}
 use Rattle.update.specs.Update.{when}
-use Rattle.update.specs.declared.tally.Tally.{Tally}
-use Rattle.judge.specs.Room.{fitting}
-use Rattle.judge.specs.declared.Counts.{Counts}
-use Rattle.judge.specs.declared.Decoder.{Decoder}
-use Rattle.write.specs.declared.Tally.{Tally as Written}
-use Rattle.perform.specs.declared.Hand.{Hand}
-use Rattle.reckon.specs.Tallies.{tallyPlan, addCounts}
-use Rattle.reckon.specs.Passes.{planPasses}
-use Rattle.steps.specs.Devices.{changes, addsDevice, addressOf}
-use Rattle.steps.specs.declared.Plan.{Plan}
+use Rattle.tally.specs.declared.add.Tally.{Tally}
+use Rattle.record.specs.Room.{fitting}
+use Rattle.record.specs.declared.Counts.{Counts}
+use Rattle.record.specs.declared.Decoder.{Decoder}
+use Rattle.write_packet.specs.declared.Hand.{Hand}
+use Rattle.tally.specs.Tallies.{tallyPlan, addCounts}
+use Rattle.tally.specs.Passes.{planPasses}
+use Rattle.plan.specs.Devices.{changes, rowThen, addsDevice, addressOf}
+use Rattle.plan.specs.declared.Plan.{Plan}
+use Rattle.call.specs.Share.{writtenOf, tied}
 use Rattle.packet.specs.declared.change.Change.{Change}
 use Rattle.packet.specs.declared.sum.Sum.{Sum}
 
@@ -65,25 +65,12 @@ sumPlan d p len room = sumOf (planPasses p) d (tallyOf d p len) room
 abbrev pub handOf : Decoder → Hand
 handOf d =
     record {
-      tally = record {
-        groups = d .counts .groups;
-        states = d .counts .states;
-        marks = d .counts .marks;
-        items = d .counts .items;
-        links = d .counts .links;
-        last = d .last;
-        linked = d .transaction .linked;
-        link = d .transaction .link;
-      };
+      written = writtenOf d;
       transactions = d .counts .transactions;
       devices = d .counts .devices;
       endpoints = d .counts .endpoints;
       requests = d .counts .requests;
     }
-
--- the transaction with the T row that it has by now
-abbrev pub tied : Transaction → Written → Transaction
-tied t h = record { style = t .style; id = t .id; last = t .last; endpoint = t .endpoint; kind = t .kind; linked = h .linked; link = h .link; ready = t .ready; setup = t .setup; filled = t .filled; payload = t .payload }
 
 abbrev pub droppedDecoder : Decoder → Sum → Decoder
 droppedDecoder d s =
@@ -91,7 +78,7 @@ droppedDecoder d s =
 
 abbrev pub decoderBy : Decoder → Plan → Sum → Hand → Decoder
 decoderBy d p s h =
-    record { counts = s .counts; slot = p .slot; transaction = tied (p .begin .transaction) (h .tally); last = h .tally .last; event = Idle; keepalive = d .keepalive; waiting = s .waiting; finished = d .finished }
+    record { counts = s .counts; slot = p .slot; transaction = tied (p .begin .transaction) (h .written); last = h .written .last; event = Idle; keepalive = d .keepalive; waiting = s .waiting; finished = d .finished }
 
 -- ---- the devices
 
@@ -118,7 +105,7 @@ changeBy p n =
 
 -- the two rows then, by what they were
 abbrev pub rowBy : Change → Device → Device
-rowBy c d = when (c .types) (λ x. withType x (c .number) (c .kind)) (pick (c .device) (fresh (c .owner)) d)
+rowBy c d = rowThen (c .device) (c .owner) (c .types) (c .number) (c .kind) d
 
 abbrev pub addedBy : Change → Device → Device
 addedBy c d = pick (c .adds) (fresh (c .address)) d

@@ -1,4 +1,4 @@
--- What a packet that drops the suspended transaction gives and writes: with room its own rows, without nothing.
+-- Inner (cited by private contracts alone): what a packet that drops the suspended transaction gives and writes: with room its own rows, without nothing.
 use Prim.Native.Nat.{ℕ, _*_}
 use mathlib.Core.Bool.{Bool, cond}
 use mathlib.Core.List.{List, [], _∷_}
@@ -6,8 +6,9 @@ use mathlib.Core.Path.{_≡_}
 use lib.Dec.{eqb}
 use lib.ListN.{length}
 use lib.Seq.{sets}
-use Rattle.judge.specs.declared.Counts.{Counts}
-use Rattle.judge.specs.declared.Decoder.{Decoder}
+use Rattle.rows.specs.Widths.{packetWidth}
+use Rattle.record.specs.declared.Counts.{Counts}
+use Rattle.record.specs.declared.Decoder.{Decoder}
 use Rattle.packet.specs.After.{sumDropped, droppedDecoder}
 use Rattle.packet.specs.declared.change.Change.{Change}
 use Rattle.packet.specs.declared.inner.Inner.{Inner}
@@ -21,4 +22,4 @@ pub record Drops (d : Decoder) (none : Change) (packet : List ℕ) (time : ℕ) 
   pub decoder : r .decoder ≡ cond (fitsDropped d (length packet) room) (droppedDecoder d (sumDropped d (length packet) room)) d
   pub change : r .change ≡ none
   pub bytes : b′ ≡ cond (fitsDropped d (length packet) room) (sets b (d .counts .bytes) packet) b
-  pub packets : p′ ≡ cond (fitsDropped d (length packet) room) (sets p (d .counts .packets * 2) (d .counts .bytes ∷ time ∷ [])) p
+  pub packets : p′ ≡ cond (fitsDropped d (length packet) room) (sets p (d .counts .packets * packetWidth) (d .counts .bytes ∷ time ∷ [])) p

@@ -1,17 +1,18 @@
--- What packet_in asks of the devices, which it is not given: what it goes by (plan, Near) is taken from devices with which the state is not ill.
+-- Inner (cited by private contracts alone): what packet_in asks of the devices, which it is not given: what it goes by (plan, Near) is taken from devices with
+-- which the state is not ill.
 use mathlib.Core.Path.{_≡_}
 use mathlib.Core.Bool.{false}
 use mathlib.Core.List.{List}
 use Prim.Native.Nat.{ℕ}
 use lib.ListN.{length}
-use Rattle.tables.specs.declared.Device.{Device}
-use Rattle.judge.specs.World.{worldOf}
-use Rattle.judge.specs.declared.Decoder.{Decoder}
-use Rattle.steps.specs.Packet.{oldEndpoint}
-use Rattle.outcome.specs.Outcome.{isIll}
-use Rattle.outcome.specs.State.{Logs, state}
-use Rattle.plan.specs.Near.{Seen}
-use Rattle.plan.specs.declared.near.Near.{Near}
+use Rattle.details.specs.declared.Device.{Device}
+use Rattle.record.specs.World.{worldOf}
+use Rattle.record.specs.declared.Decoder.{Decoder}
+use Rattle.plan.specs.Packet.{oldEndpoint}
+use Rattle.call.specs.Outcome.{isIll}
+use Rattle.call.specs.State.{Logs, state}
+use Rattle.decide.specs.Near.{Seen}
+use Rattle.decide.specs.declared.near.Near.{Near}
 
 pub record Lent (near : Near) (packet : List ℕ) (d : Decoder) (devices : List Device) (table : List ℕ) (l : Logs) : Type 0 where
   pub ill : isIll (state d devices table l) ≡ false

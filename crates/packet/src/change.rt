@@ -1,15 +1,15 @@
 // What a packet changes of the devices, as flags and numbers: the rows are the caller's, who makes the change.
+use details::Device;
+use details::fresh_device;
+use details::set_endpoint_type;
+use endpoints::entry::flag_word;
 use group::Effect;
-use steps::Plan;
-use tables::Device;
-use tables::details::fresh_device;
-use tables::details::set_endpoint_type;
-use tables::entry::flag_word;
+use plan::Plan;
 ghost use mathlib.Core.Path.{_≡_};
 ghost use Prim.Native.Nat.{_≤_};
 ghost use Rattle.transaction.specs.Table.{pick};
-ghost use Rattle.tables.specs.Details.{fresh};
-ghost use Rattle.steps.specs.Devices.{addsDevice, addressOf};
+ghost use Rattle.details.specs.Details.{fresh};
+ghost use Rattle.plan.specs.Devices.{addsDevice, addressOf};
 ghost use Rattle.packet.specs.After.{keeping, changeBy, rowBy, addedBy, isChange};
 
 // First row `place`, then row `at`; where neither changes, both are 0.

@@ -5,32 +5,35 @@ use crate::change::no_change;
 use crate::sum::Sum;
 use crate::sum::sum_dropped;
 use crate::sum::sum_plan;
-use judge::Counts;
-use judge::Decoder;
-use outcome::bytes_known;
-use outcome::known;
-use outcome::room_of;
-use perform::Hand;
-use perform::perform;
-use plan::near::Near;
-use plan::plan_near;
+use call::bytes_known;
+use call::known;
+use call::room_of;
+use call::tie;
+use call::written_of;
+use decide::near::Near;
+use decide::plan_near;
+use plan::Plan;
+use record::Counts;
+use record::Decoder;
+use rows::width;
 use rules::EventState;
 use rules::Slot;
-use steps::Plan;
 use transaction::Transaction;
 use transaction::payload::start_pid;
-use write::Tally;
+use write_packet::Hand;
+use write_packet::perform;
 ghost use mathlib.Core.Bool.{false};
 ghost use mathlib.Core.List.{[], _∷_};
 ghost use mathlib.Core.Path.{_≡_};
 ghost use Prim.Native.Nat.{_+_, _*_, _≤_, _^_};
 ghost use lib.ListN.{length};
 ghost use lib.Seq.{sets};
+ghost use Rattle.rows.specs.Widths.{packetWidth};
 ghost use Rattle.rules.specs.Transactions.{isDropped};
-ghost use Rattle.outcome.specs.State.{state, logs};
+ghost use Rattle.call.specs.State.{state, logs};
 ghost use Rattle.packet.specs.Call.{PacketCall};
-ghost use Rattle.reckon.specs.Tallies.{Under};
-ghost use Rattle.packet.specs.After.{handOf, tied, droppedDecoder, decoderBy, changed, Placed};
+ghost use Rattle.tally.specs.Tallies.{Under};
+ghost use Rattle.packet.specs.After.{handOf, droppedDecoder, decoderBy, changed, Placed};
 ghost use Rattle.packet.specs.Dropped.{Drops};
 ghost use Rattle.packet.specs.Lent.{SomeLent, ForLent};
 
@@ -57,33 +60,13 @@ fn hand_of(d: Decoder) -> Hand
     ensures { λ r. ⌜ r ≡ handOf d ⌝ }
 {
     let n = d.counts;
-    let t = d.transaction;
     Hand {
-        tally: Tally {
-            groups: n.groups,
-            states: n.states,
-            marks: n.marks,
-            items: n.items,
-            links: n.links,
-            last: d.last,
-            linked: t.linked,
-            link: t.link,
-        },
+        written: written_of(d),
         transactions: n.transactions,
         devices: n.devices,
         endpoints: n.endpoints,
         requests: n.requests,
     }
-}
-
-// The transaction with the T row that it has by now.
-fn tie(t: Transaction, d: Tally) -> Transaction
-    ensures { λ r. ⌜ r ≡ tied t d ⌝ }
-{
-    let mut t = t;
-    t.linked = d.linked;
-    t.link = d.link;
-    t
 }
 
 // The record after a packet that dropped the suspended transaction.
@@ -111,13 +94,13 @@ fn decoder_by(d: Decoder, plan: Plan, sum: Sum, h: Hand) -> Decoder
     let begin = plan.begin;
     let slot = plan.slot;
     let counts = sum.counts;
-    let tally = h.tally;
-    let transaction = tie(begin.transaction, tally);
+    let written = h.written;
+    let transaction = tie(begin.transaction, written);
     Decoder {
         counts,
         slot,
         transaction,
-        last: tally.last,
+        last: written.last,
         event: EventState::Idle,
         keepalive: d.keepalive,
         waiting: sum.waiting,
@@ -128,14 +111,14 @@ fn decoder_by(d: Decoder, plan: Plan, sum: Sum, h: Hand) -> Decoder
 // The packet's bytes, and its row.
 fn put_packet(n: Counts, packet: &[u8], time: u64, bytes: &mut [u8], packets: &mut [u64])
     requires { ⌜ n .bytes + length (now packet) ≤ length (now bytes) ⌝ }
-    requires { ⌜ (n .packets + 1) * 2 ≤ length (now packets) ⌝ }
+    requires { ⌜ (n .packets + 1) * packetWidth ≤ length (now packets) ⌝ }
     ensures { λ r. ⌜ now (bytes .exit) ≡ sets (now (bytes .entry)) (n .bytes) (now (packet .entry)) ⌝ }
-    ensures { λ r. ⌜ now (packets .exit) ≡ sets (now (packets .entry)) (n .packets * 2) (n .bytes ∷ time ∷ []) ⌝ }
+    ensures { λ r. ⌜ now (packets .exit) ≡ sets (now (packets .entry)) (n .packets * packetWidth) (n .bytes ∷ time ∷ []) ⌝ }
 {
     let b = n.bytes;
     let p = n.packets;
     rows::put_bytes(bytes, b, packet);
-    rows::put2(packets, p * 2, b as u64, time);
+    rows::put2(packets, p * width::PACKET, b as u64, time);
 }
 
 // The packet drops the suspended transaction: its own rows are all that is written.
@@ -152,7 +135,7 @@ fn drop_packet(
     requires { ⌜ d .waiting ≤ 128 ⌝ }
     requires { ⌜ Under (2 ^ 40) (d .counts) ⌝ }
     requires { ⌜ room .bytes ≤ length (now bytes) ⌝ }
-    requires { ⌜ room .packets * 2 ≤ length (now packets) ⌝ }
+    requires { ⌜ room .packets * packetWidth ≤ length (now packets) ⌝ }
     ensures { λ r. ⌜ Drops d none (now (packet .entry)) time room (now (bytes .entry)) (now (packets .entry)) r (now (bytes .exit)) (now (packets .exit)) ⌝ }
 {
     let sum = sum_dropped(d, packet.len(), room);
@@ -185,17 +168,17 @@ pub fn packet_in(
     events: &[u64],
     transactions: &mut [u64],
     groups: &mut [u64],
-    marks: &mut [u8],
+    statebytes: &mut [u8],
     states: &mut [u64],
     items: &mut [u64],
     links: &mut [u64],
     requests: &mut [u64],
 ) -> Inner
-    requires { ⌜ SomeLent near (now packet) d (now table) (logs (now bytes) (now «device_rows») (now «endpoint_rows») (now packets) (now events) (now transactions) (now groups) (now marks) (now states) (now items) (now links) (now requests)) ⌝ }
+    requires { ⌜ SomeLent near (now packet) d (now table) (logs (now bytes) (now «device_rows») (now «endpoint_rows») (now packets) (now events) (now transactions) (now groups) (now statebytes) (now states) (now items) (now links) (now requests)) ⌝ }
     requires { ⌜ d .finished ≡ false ⌝ }
     requires { ⌜ length (now packet) ≤ 4096 ⌝ }
     ensures { λ r. ⌜ Placed (r .change) ⌝ }
-    ensures { λ r. ⌜ ForLent near (now (packet .entry)) d (now (table .entry)) (logs (now (bytes .entry)) (now («device_rows» .entry)) (now («endpoint_rows» .entry)) (now (packets .entry)) (now (events .entry)) (now (transactions .entry)) (now (groups .entry)) (now (marks .entry)) (now (states .entry)) (now (items .entry)) (now (links .entry)) (now (requests .entry))) (λ v. PacketCall (now (packet .entry)) time (state d v (now (table .entry)) (logs (now (bytes .entry)) (now («device_rows» .entry)) (now («endpoint_rows» .entry)) (now (packets .entry)) (now (events .entry)) (now (transactions .entry)) (now (groups .entry)) (now (marks .entry)) (now (states .entry)) (now (items .entry)) (now (links .entry)) (now (requests .entry)))) (r .answer) (state (r .decoder) (changed (r .change) v) (now (table .exit)) (logs (now (bytes .exit)) (now («device_rows» .exit)) (now («endpoint_rows» .exit)) (now (packets .exit)) (now (events .entry)) (now (transactions .exit)) (now (groups .exit)) (now (marks .exit)) (now (states .exit)) (now (items .exit)) (now (links .exit)) (now (requests .exit))))) ⌝ }
+    ensures { λ r. ⌜ ForLent near (now (packet .entry)) d (now (table .entry)) (logs (now (bytes .entry)) (now («device_rows» .entry)) (now («endpoint_rows» .entry)) (now (packets .entry)) (now (events .entry)) (now (transactions .entry)) (now (groups .entry)) (now (statebytes .entry)) (now (states .entry)) (now (items .entry)) (now (links .entry)) (now (requests .entry))) (λ v. PacketCall (now (packet .entry)) time (state d v (now (table .entry)) (logs (now (bytes .entry)) (now («device_rows» .entry)) (now («endpoint_rows» .entry)) (now (packets .entry)) (now (events .entry)) (now (transactions .entry)) (now (groups .entry)) (now (statebytes .entry)) (now (states .entry)) (now (items .entry)) (now (links .entry)) (now (requests .entry)))) (r .answer) (state (r .decoder) (changed (r .change) v) (now (table .exit)) (logs (now (bytes .exit)) (now («device_rows» .exit)) (now («endpoint_rows» .exit)) (now (packets .exit)) (now (events .entry)) (now (transactions .exit)) (now (groups .exit)) (now (statebytes .exit)) (now (states .exit)) (now (items .exit)) (now (links .exit)) (now (requests .exit))))) ⌝ }
 {
     let room = room_of(
         bytes.len(),
@@ -205,7 +188,7 @@ pub fn packet_in(
         events.len(),
         transactions.len(),
         groups.len(),
-        marks.len(),
+        statebytes.len(),
         states.len(),
         items.len(),
         links.len(),
@@ -243,7 +226,7 @@ pub fn packet_in(
         endpoint_rows,
         transactions,
         groups,
-        marks,
+        statebytes,
         states,
         items,
         links,

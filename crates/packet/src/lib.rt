@@ -7,41 +7,20 @@ use crate::change::added_by;
 use crate::change::is_change;
 use crate::change::row_by;
 use crate::inner::packet_in;
-use judge::Counts;
-use judge::Decoder;
-use outcome::Called;
-use outcome::is_ill;
-use outcome::room_of;
-use plan::near::look;
-use tables::Device;
+use call::Called;
+use call::first_tests;
+use call::room_of;
+use decide::near::look;
+use details::Device;
+use record::Decoder;
 ghost use mathlib.Core.Path.{_≡_};
-ghost use Rattle.outcome.specs.State.{state, logs};
-ghost use Rattle.packet.specs.Call.{PacketCall, firstTests};
+ghost use Rattle.call.specs.State.{state, logs};
+ghost use Rattle.packet.specs.Call.{PacketCall};
 
-// The longest packet (01, Sizes).
+// The longest packet (01, Sizes), and the answer to a longer one.
 const MOST: usize = 4096;
 
-// Answers 1, 2 and 3, and 0 where none of them is given.
-fn first_tests(
-    d: Decoder,
-    devices: [Device; 64],
-    table: &[u64; 2176],
-    room: Counts,
-    len: usize,
-) -> u8
-    ensures { λ r. ⌜ r ≡ firstTests d devices (now (table .entry)) room len ⌝ }
-{
-    if is_ill(d, devices, table, room) {
-        return 1;
-    }
-    if d.finished {
-        return 2;
-    }
-    if MOST < len {
-        return 3;
-    }
-    0
-}
+const TOO_LONG: u8 = 3;
 
 // The packet of these bytes at this time. The devices are the caller's, in and out; the logs come in the order of their numbers (rules, Rows).
 pub fn packet(
@@ -57,13 +36,13 @@ pub fn packet(
     events: &[u64],
     transactions: &mut [u64],
     groups: &mut [u64],
-    marks: &mut [u8],
+    statebytes: &mut [u8],
     states: &mut [u64],
     items: &mut [u64],
     links: &mut [u64],
     requests: &mut [u64],
 ) -> Called
-    ensures { λ r. ⌜ PacketCall (now (packet .entry)) time (state d devices (now (table .entry)) (logs (now (bytes .entry)) (now («device_rows» .entry)) (now («endpoint_rows» .entry)) (now (packets .entry)) (now (events .entry)) (now (transactions .entry)) (now (groups .entry)) (now (marks .entry)) (now (states .entry)) (now (items .entry)) (now (links .entry)) (now (requests .entry)))) (r .answer) (state (r .decoder) (r .devices) (now (table .exit)) (logs (now (bytes .exit)) (now («device_rows» .exit)) (now («endpoint_rows» .exit)) (now (packets .exit)) (now (events .entry)) (now (transactions .exit)) (now (groups .exit)) (now (marks .exit)) (now (states .exit)) (now (items .exit)) (now (links .exit)) (now (requests .exit)))) ⌝ }
+    ensures { λ r. ⌜ PacketCall (now (packet .entry)) time (state d devices (now (table .entry)) (logs (now (bytes .entry)) (now («device_rows» .entry)) (now («endpoint_rows» .entry)) (now (packets .entry)) (now (events .entry)) (now (transactions .entry)) (now (groups .entry)) (now (statebytes .entry)) (now (states .entry)) (now (items .entry)) (now (links .entry)) (now (requests .entry)))) (r .answer) (state (r .decoder) (r .devices) (now (table .exit)) (logs (now (bytes .exit)) (now («device_rows» .exit)) (now («endpoint_rows» .exit)) (now (packets .exit)) (now (events .entry)) (now (transactions .exit)) (now (groups .exit)) (now (statebytes .exit)) (now (states .exit)) (now (items .exit)) (now (links .exit)) (now (requests .exit)))) ⌝ }
 {
     let room = room_of(
         bytes.len(),
@@ -73,13 +52,13 @@ pub fn packet(
         events.len(),
         transactions.len(),
         groups.len(),
-        marks.len(),
+        statebytes.len(),
         states.len(),
         items.len(),
         links.len(),
         requests.len(),
     );
-    let answer = first_tests(d, devices, table, room, packet.len());
+    let answer = first_tests(d, devices, table, room, packet.len(), MOST, TOO_LONG);
     if answer != 0 {
         return Called {
             answer,
@@ -101,7 +80,7 @@ pub fn packet(
         events,
         transactions,
         groups,
-        marks,
+        statebytes,
         states,
         items,
         links,

@@ -1,17 +1,17 @@
 // What a packet comes to, reckoned before anything is written: the answer, and the counts after it.
-use judge::Counts;
-use judge::Decoder;
-use judge::room::fits;
-use reckon::add_counts;
-use reckon::plan_passes;
-use reckon::tally_plan;
-use steps::Plan;
-use update::tally::tally_none;
-use update::tally::tally_packet;
+use plan::Plan;
+use record::Counts;
+use record::Decoder;
+use record::room::fits;
+use tally::add::tally_none;
+use tally::add::tally_packet;
+use tally::add_counts;
+use tally::plan_passes;
+use tally::tally_plan;
 ghost use mathlib.Core.Bool.{false};
 ghost use mathlib.Core.Path.{_≡_};
 ghost use Prim.Native.Nat.{_≤_, _^_};
-ghost use Rattle.reckon.specs.Tallies.{Under};
+ghost use Rattle.tally.specs.Tallies.{Under};
 ghost use Rattle.packet.specs.After.{refusal, sumDropped, sumPlan};
 
 // The answers of 01's table.

@@ -1,2 +1,5 @@
-pub mod Ready
-pub mod Near
+pub mod Step
+pub mod Packet
+pub mod Ending
+pub mod Sound
+pub mod Devices

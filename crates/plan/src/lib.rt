@@ -1,177 +1,82 @@
-// The steps of a call, decided from values alone before anything is written: nothing here writes.
-mod begin;
-pub mod bytes;
-mod end;
-pub mod near;
-mod place;
-mod slot;
-mod status;
-
-use crate::begin::go_on;
-use crate::begin::middle_of;
-use crate::bytes::setup_of;
-use crate::end::close_if;
-use crate::end::end_if;
-use crate::end::end_of;
-use crate::end::entry_ended;
-use crate::end::last_ended;
-use crate::near::Near;
-use crate::near::look;
-use crate::slot::current_endpoint;
-use crate::slot::entry_then;
-use crate::slot::is_suspended;
-use crate::slot::old_endpoint;
-use crate::slot::slot_then;
-use crate::slot::state_at;
-use crate::slot::transaction_then;
-use crate::slot::with_id;
-use crate::status::completes_by;
-use crate::status::is_last;
-use crate::status::is_new;
-use crate::status::is_success;
-use crate::status::slot_after;
-use judge::Decoder;
-use steps::Begin;
-use steps::Ending;
-use steps::Plan;
-use tables::Device;
-use tables::Endpoint;
-use tables::details::endpoint_details;
-use tables::entry::flag_word;
-use tables::entry::load;
-use transaction::Judged;
+// A call as a few steps, decided from values alone before anything is written: the types. What they mean on a world is in specs/.
+use details::Detail;
+use endpoints::Endpoint;
+use group::Effect;
+use rules::Slot;
 use transaction::Transaction;
-use transaction::payload::extract_payload;
-use transaction::payload::start_pid;
-use transaction::transaction_status;
-use update::decide_resume;
-ghost use mathlib.Core.Path.{_≡_};
-ghost use mathlib.Core.Bool.{true};
-ghost use Prim.Native.Nat.{_<_, _+_, _^_};
-ghost use Rattle.rows.specs.Sets.{one};
-ghost use Rattle.rules.specs.World.{withId};
-ghost use Rattle.update.specs.Update.{decideResume};
-ghost use Rattle.judge.specs.World.{worldOf};
-ghost use Rattle.steps.specs.Packet.{resumes, oldEndpoint, going, planBy, planOf};
-ghost use Rattle.steps.specs.Ending.{endingOf};
-ghost use Rattle.plan.specs.Ready.{Ready, Small};
-ghost use Rattle.plan.specs.Near.{Taken, ForSeen};
+use update::Update;
 
-// A suspended transaction is resumed, in a row of its own.
-fn resume_of(d: Decoder) -> Begin
-    ensures { λ r. ⌜ r ≡ going true (withId (d .counts .transactions) (d .transaction)) decideResume ⌝ }
-{
-    let counts = d.counts;
-    let t = d.transaction;
-    let t = with_id(counts.transactions as u64, t);
-    go_on(true, t, decide_resume())
+// A transaction begins, is resumed, or goes on (transaction_start; transaction_update, 714 to 724; transaction_append).
+pub struct Begin {
+    // A transaction row.
+    pub row: bool,
+    // A device row, of the address `owner`.
+    pub device: bool,
+    // An endpoint row on device `place`, of the address `number`.
+    pub endpoint: bool,
+    // The split's type, `kind`, is stored there.
+    pub types: bool,
+    pub owner: u8,
+    pub place: usize,
+    pub number: u8,
+    pub kind: u8,
+    // The transaction then.
+    pub transaction: Transaction,
+    // What is done to its endpoint.
+    pub update: Update,
 }
 
-// The row of a transaction that begins with the packet.
-fn next_row(d: Decoder) -> u64
-    requires { ⌜ d .counts .transactions < 2 ^ 60 ⌝ }
-    ensures { λ r. ⌜ r ≡ d .counts .transactions + one (resumes (d .slot)) ⌝ }
-{
-    let counts = d.counts;
-    let slot = d.slot;
-    counts.transactions as u64 + flag_word(is_suspended(slot))
+// A transaction ends (group_update).
+pub struct End {
+    // Its endpoint's entry as group_status leaves it.
+    pub entry: Endpoint,
+    pub update: Update,
+    pub effect: Effect,
 }
 
-// By the old transaction, resumed, its endpoint and that one's entry; j is the packet's status.
-fn plan_by(
-    j: Judged,
-    x0: usize,
-    e: Endpoint,
-    t: Transaction,
-    packet: &[u8],
-    d: Decoder,
-    near: Near,
-    table: &[u64; 2176],
-) -> Plan
-    requires { ⌜ Ready d (now table) ⌝ }
-    requires { ⌜ x0 < d .counts .endpoints ⌝ }
-    requires { ⌜ Small (2 ^ 61) e ⌝ }
-    requires { ⌜ Taken near x0 (now packet) d (now table) ⌝ }
-    ensures { λ r. ⌜ ForSeen near x0 (now (packet .entry)) d (now (table .entry)) (λ w. r ≡ planBy j x0 e t (now (packet .entry)) w) ⌝ }
-{
-    let status = j.status;
-    let pid = j.pid;
-    let slot = d.slot;
-    let style = t.style;
-    let brought = extract_payload(t, pid, packet.len(), setup_of(packet));
-    let token = brought.style;
-    let old = near.old;
-    let ends = is_new(status) & (x0 != 0);
-    let end = end_if(ends, x0, e, brought, d.last, old);
-    let e0 = entry_ended(ends, end, start_pid(token), e);
-    let last = last_ended(ends, end, x0, d.last);
-    let n = next_row(d);
-    let m = middle_of(status, x0, e0, pid, packet, n, brought, d, near, table);
-    let begin = m.begin;
-    let own = begin.transaction;
-    let closes = is_last(status) & (own.endpoint != 0);
-    Plan {
-        resumes: is_suspended(slot),
-        resume: resume_of(d),
-        ends,
-        old: x0,
-        brought,
-        end,
-        begin,
-        closes,
-        close: close_if(
-            closes,
-            m,
-            last,
-            is_success(status),
-            completes_by(status, style),
-        ),
-        slot: slot_after(status, slot),
-    }
+// The endpoint of a packet (packet_endpoint).
+pub struct Place {
+    // Its number, and whether it is new.
+    pub x: usize,
+    pub new: bool,
+    // Whether its device is new, and that device.
+    pub device: bool,
+    pub place: usize,
+    // Its address, its details, and its entry when the packet's transaction begins.
+    pub number: u8,
+    pub detail: Detail,
+    pub entry: Endpoint,
 }
 
-// The steps of a packet, by what was taken of the devices for it.
-pub fn plan_near(d: Decoder, near: Near, table: &[u64; 2176], packet: &[u8]) -> Plan
-    requires { ⌜ Ready d (now table) ⌝ }
-    requires { ⌜ Taken near (oldEndpoint (d .slot) (d .transaction)) (now packet) d (now table) ⌝ }
-    ensures { λ r. ⌜ ForSeen near (oldEndpoint (d .slot) (d .transaction)) (now (packet .entry)) d (now (table .entry)) (λ w. r ≡ planOf (now (packet .entry)) w) ⌝ }
-{
-    let counts = d.counts;
-    let slot = d.slot;
-    let held = d.transaction;
-    let x0 = old_endpoint(slot, held);
-    let stored = load(table, x0);
-    let t = transaction_then(slot, counts.transactions as u64, stored, held);
-    let j = transaction_status(state_at(slot_then(slot), t), packet);
-    let e = entry_then(slot, stored);
-    plan_by(j, x0, e, t, packet, d, near, table)
+// The step of a packet's transaction, with the entry and the details of its endpoint then, by which its end is decided.
+pub struct Middle {
+    pub begin: Begin,
+    pub entry: Endpoint,
+    pub detail: Detail,
 }
 
-// The steps of a packet.
-pub fn plan_packet(d: Decoder, devices: [Device; 64], table: &[u64; 2176], packet: &[u8]) -> Plan
-    requires { ⌜ Ready d (now table) ⌝ }
-    ensures { λ r. ⌜ r ≡ planOf (now (packet .entry)) (worldOf d devices (now (table .entry))) ⌝ }
-{
-    let near = look(d, devices, table, packet);
-    plan_near(d, near, table, packet)
+// The steps of a packet, in this order.
+pub struct Plan {
+    // A suspended transaction is resumed.
+    pub resumes: bool,
+    pub resume: Begin,
+    // The old transaction ends, on endpoint `old`, with what the packet brought to it; where not, `end` does nothing.
+    pub ends: bool,
+    pub old: usize,
+    pub brought: Transaction,
+    pub end: End,
+    // A new one begins, or the old one goes on.
+    pub begin: Begin,
+    // It ends, too; where not, `close` does nothing.
+    pub closes: bool,
+    pub close: End,
+    // What the slot is then.
+    pub slot: Slot,
 }
 
-// The end of the current transaction, by an event or by finish.
-pub fn plan_ending(d: Decoder, devices: [Device; 64], table: &[u64; 2176]) -> Ending
-    requires { ⌜ Ready d (now table) ⌝ }
-    ensures { λ r. ⌜ r ≡ endingOf (worldOf d devices (now (table .entry))) ⌝ }
-{
-    let slot = d.slot;
-    let t = d.transaction;
-    let x = current_endpoint(slot, t);
-    let e = load(table, x);
-    let place = e.device as usize;
-    let known = devices[place];
-    let detail = endpoint_details(known, e.address);
-    let end = end_of(x, e, t, detail, d.last, false, false);
-    Ending {
-        ends: x != 0,
-        old: x,
-        end,
-    }
+// The end of the current transaction, on endpoint `old`, where there is one (transaction_end, by an event or by finish).
+pub struct Ending {
+    pub ends: bool,
+    pub old: usize,
+    pub end: End,
 }

@@ -8,6 +8,7 @@ use native.Mathlib.Omega.{arith}
 use borrow.Author.Tests.{eqb-true, ne-eqb}
 use lib.Dec.{eqb}
 use lib.ListN.{length, length-append}
+use Rattle.rows.specs.Widths.{groupWidth, packetWidth}
 use Rattle.usb.specs.Fields.{tokenOf}
 use Rattle.usb.specs.Pid.{SPLIT, MALFORMED}
 use Rattle.transaction.specs.Table.{pick}
@@ -17,13 +18,13 @@ use Rattle.transaction.specs.declared.Status.{Status}
 use Rattle.transaction.specs.declared.Status.the-variants.{New, Continue, Retry, Done, Fail, Ambiguous, Invalid}
 use Rattle.transaction.specs.declared.Style.{Style}
 use Rattle.transaction.specs.declared.Style.the-variants.{Nothing as NoStyle, Simple, Split, Token}
-use Rattle.tables.specs.Kind.{Unknown}
-use Rattle.tables.specs.Table.{withPhase}
-use Rattle.tables.specs.declared.Endpoint.{Endpoint}
-use Rattle.tables.specs.declared.Found.{Found}
-use Rattle.tables.specs.declared.Found.the-variants.{At, Nothing}
-use Rattle.tables.specs.declared.Phase.{Phase}
-use Rattle.tables.specs.declared.Phase.the-variants.{None, Early, Active, Ended}
+use Rattle.details.specs.Kind.{Unknown}
+use Rattle.endpoints.specs.Table.{withPhase}
+use Rattle.endpoints.specs.declared.Endpoint.{Endpoint}
+use Rattle.details.specs.declared.Found.{Found}
+use Rattle.details.specs.declared.Found.the-variants.{At, Nothing}
+use Rattle.endpoints.specs.declared.Phase.{Phase}
+use Rattle.endpoints.specs.declared.Phase.the-variants.{None, Early, Active, Ended}
 use Rattle.group.specs.declared.Effect.{Effect}
 use Rattle.group.specs.declared.Effect.the-variants.{NoEffect, NewDevice, Request, PendingData, IndexData}
 use Rattle.group.specs.declared.Grouped.{Grouped}
@@ -75,8 +76,8 @@ row-width k a b (DeviceRow d) h = let q : k ≡ 1 = sym (eqb-true 1 k h) in rw q
 row-width k a b (EndpointRow d n r) h = let q : k ≡ 2 = sym (eqb-true 2 k h) in rw q
 row-width k a b (PacketRow s t) h = let q : k ≡ 3 = sym (eqb-true 3 k h) in rw q
 row-width k a b (EventRow p c) h = let q : k ≡ 4 = sym (eqb-true 4 k h) in rw q
-row-width k a b (TransactionRow p) h = let q : k ≡ 5 = sym (eqb-true 5 k h) in rw q
-row-width k a b (GroupRow x g s) h = let q : k ≡ 6 = sym (eqb-true 6 k h) in rw q
+row-width k a b (TransactionRow r) h = let q : k ≡ 5 = sym (eqb-true 5 k h) in rw q
+row-width k a b (GroupRow r) h = let q : k ≡ 6 = sym (eqb-true 6 k h) in rw q
 row-width k a b (StateRow s) h = let q : k ≡ 8 = sym (eqb-true 8 k h) in rw q
 row-width k a b (StateBytes ss) h = absurd (b (sym (eqb-true 7 k h)))
 row-width k a b (ItemRow g) h = let q : k ≡ 9 = sym (eqb-true 9 k h) in rw q
@@ -84,7 +85,7 @@ row-width k a b (T x t) h = let q : k ≡ 10 = sym (eqb-true 10 k h) in rw q
 row-width k a b (G x t) h = let q : k ≡ 10 = sym (eqb-true 10 k h) in rw q
 row-width k a b (D x t n) h = let q : k ≡ 10 = sym (eqb-true 10 k h) in rw q
 row-width k a b (E x i) h = let q : k ≡ 10 = sym (eqb-true 10 k h) in rw q
-row-width k a b (RequestRow x s n) h = let q : k ≡ 11 = sym (eqb-true 11 k h) in rw q
+row-width k a b (RequestRow r) h = let q : k ≡ 11 = sym (eqb-true 11 k h) in rw q
 row-width k a b (Over x i) h = let q : k ≡ 12 = sym (eqb-true 12 k h) in rw q
 
 abbrev pub rowsIn : ℕ → List Row → ℕ
@@ -135,9 +136,9 @@ pub record Numbers (n : World) (bytes devices endpoints packets transactions gro
   pub bytes-are : bytes ≡ n .bytes + b
   pub devices-are : devices ≡ n .deviceCount + d
   pub endpoints-are : endpoints * 3 ≡ n .count * 3 + e
-  pub packets-are : packets * 2 ≡ n .packets * 2 + p
+  pub packets-are : packets * 2 ≡ n .packets * packetWidth + p
   pub transactions-are : transactions ≡ n .transactions + t
-  pub groups-are : groups * 3 ≡ n .groups * 3 + g
+  pub groups-are : groups * 3 ≡ n .groups * groupWidth + g
   pub marks-are : marks ≡ n .stateBytes + m
   pub items-are : items ≡ n .items + i
 

@@ -8,15 +8,17 @@ use borrow.Author.Tests.{ltb-true, ltb-false}
 use lib.Dec.{eqb, ltb}
 use lib.ListN.{length, length-append}
 use Rattle.transaction.specs.Table.{pick}
-use Rattle.tables.specs.Details.{fresh}
-use Rattle.tables.specs.declared.Endpoint.{Endpoint}
-use Rattle.tables.specs.declared.Phase.{Phase}
-use Rattle.tables.specs.declared.Phase.the-variants.{None, Early, Active, Ended}
+use Rattle.details.specs.Details.{fresh}
+use Rattle.endpoints.specs.declared.Endpoint.{Endpoint}
+use Rattle.endpoints.specs.declared.Phase.{Phase}
+use Rattle.endpoints.specs.declared.Phase.the-variants.{None, Early, Active, Ended}
 use Rattle.rules.specs.Rows.{Row}
-use Rattle.rules.specs.World.{World, phase, withJournal, newEndpoint}
+use Rattle.rules.specs.World.{World, phase, withJournal}
+use Rattle.endpoints.specs.Table.{newEndpoint}
 use Rattle.rules.specs.Decoder as Decoder
 use Rattle.rules.specs.Marks.{Mark, marks, starts, endings, closings}
-use Rattle.rules.specs.Demand.{Call, call, Reach, begin, next, upTo, Standing, none, open-one, waiting-one, OnMarks}
+use Rattle.rules.specs.Demand.{Call, call, upTo, Standing, none, open-one, waiting-one}
+use Rattle.rules.specs.Reach.{Reach, begin, next, OnMarks}
 use Rattle.rules.proofs.Facts.{Facts, pass, extra, one}
 use Rattle.rules.proofs.Facts as facts
 use Rattle.rules.proofs.Loops.{openOf, waitOf}

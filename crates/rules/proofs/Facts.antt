@@ -7,7 +7,7 @@ use native.Mathlib.Omega.{arith}
 use native.Mathlib.Decide.{decLt}
 use lib.ListN.{length, getD, length-append, List·getD-append}
 use lib.Seq.{getD-append-seam}
-use Rattle.tables.specs.declared.Found.the-variants.{At}
+use Rattle.details.specs.declared.Found.the-variants.{At}
 use Rattle.rules.specs.Marks.{Mark, other, started, ended, item, closed, starts, endings, closings, items, lastEnded, First, Asserted, InTurn}
 use Rattle.rules.specs.Demand.{upTo}
 

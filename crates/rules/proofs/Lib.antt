@@ -10,4 +10,4 @@ pub mod Stands
 pub mod Linked
 pub mod Tokened
 pub mod Runs
-pub mod Oracle
+pub mod Named

@@ -22,13 +22,13 @@ use Rattle.transaction.specs.declared.Style.{Style}
 use Rattle.transaction.specs.declared.Style.the-variants.{Nothing as NoStyle, Simple, Split, Token}
 use Rattle.transaction.specs.declared.Status.{Status}
 use Rattle.transaction.specs.declared.Status.the-variants.{New, Continue, Retry, Done, Fail, Ambiguous, Invalid}
-use Rattle.tables.specs.Details.{fresh}
-use Rattle.tables.specs.Kind.{Unknown}
-use Rattle.tables.specs.declared.Endpoint.{Endpoint}
-use Rattle.tables.specs.declared.Found.{Found}
-use Rattle.tables.specs.declared.Found.the-variants.{At, Nothing}
-use Rattle.tables.specs.declared.Phase.{Phase}
-use Rattle.tables.specs.declared.Phase.the-variants.{None, Early, Active, Ended}
+use Rattle.details.specs.Details.{fresh}
+use Rattle.details.specs.Kind.{Unknown}
+use Rattle.endpoints.specs.declared.Endpoint.{Endpoint}
+use Rattle.details.specs.declared.Found.{Found}
+use Rattle.details.specs.declared.Found.the-variants.{At, Nothing}
+use Rattle.endpoints.specs.declared.Phase.{Phase}
+use Rattle.endpoints.specs.declared.Phase.the-variants.{None, Early, Active, Ended}
 use Rattle.group.specs.Step.{isActive}
 use Rattle.rules.specs.Rows.{Row, EventRow}
 use Rattle.rules.specs.World.{World, phase, push, withSlot, withTransaction, withEventState, withKeepalive, withJournal, moreTransactions, moreGroups, withPid, newTransaction}
@@ -38,8 +38,8 @@ use Rattle.rules.specs.Transactions.{transactionEndAt, transactionEnd, a
 use Rattle.rules.specs.Events.{eventSubgroupStart, eventAddGroup, Act, nothing, single, group, subgroup, keepalive, turnOf, eventAct, eventUpdate}
 use Rattle.rules.specs.Decoder.{appendBytes, pushPacket, handleRawPacket, suspendAt, suspend, endPhase, endAll, handleEvent, finish, handleDetail}
 use Rattle.rules.specs.Decoder as Decoder
-use Rattle.rules.specs.Demand.{Call, packet, event, detail, finishing, call, Reach, next}
-use Rattle.rules.specs.Demand.{begin as reached}
+use Rattle.rules.specs.Demand.{Call, packet, event, detail, finishing, call}
+use Rattle.rules.specs.Reach.{Reach, next, begin as reached}
 use Rattle.rules.specs.Linked.{excused, linkedAt, LinkedIn, Linked}
 use Rattle.rules.specs.declared.Slot.{Slot}
 use Rattle.rules.specs.declared.Slot.the-variants.{Empty, Current, Suspended}

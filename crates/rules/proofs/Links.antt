@@ -7,12 +7,13 @@ use native.Mathlib.Omega.{arith}
 use lib.Dec.{eqb}
 use lib.ListN.{length, length-append}
 use Rattle.transaction.specs.Table.{pick}
-use Rattle.tables.specs.declared.Phase.{Phase}
-use Rattle.tables.specs.declared.Phase.the-variants.{None}
+use Rattle.endpoints.specs.declared.Phase.{Phase}
+use Rattle.endpoints.specs.declared.Phase.the-variants.{None}
 use Rattle.rules.specs.Rows.{Row, BytesRow, DeviceRow, EndpointRow, PacketRow, EventRow, TransactionRow, GroupRow, StateRow, StateBytes, ItemRow, T, G, D, E, RequestRow, Over, written, log}
 use Rattle.rules.specs.World.{World, phase, withJournal}
 use Rattle.rules.specs.Marks.{Mark, other, started, ended, closed, mark, marks, starts, closings, items}
-use Rattle.rules.specs.Demand.{Reach, linksOf, OnMarks, OnLinks, Quiet}
+use Rattle.rules.specs.Reach.{Reach, OnMarks, OnLinks}
+use Rattle.rules.specs.Demand.{linksOf, Quiet}
 use Rattle.rules.proofs.Facts.{Facts, extra}
 use Rattle.rules.proofs.Loops.{openOf, waitOf}
 use Rattle.rules.proofs.Keeps.{Keeps}
@@ -36,8 +37,8 @@ module _ (k e : ℕ) where
   row-links (EndpointRow d n r) ws = refl
   row-links (PacketRow s t) ws = refl
   row-links (EventRow p c) ws = refl
-  row-links (TransactionRow p) ws = refl
-  row-links (GroupRow x g s) ws = refl
+  row-links (TransactionRow r) ws = refl
+  row-links (GroupRow r) ws = refl
   row-links (StateRow s) ws = refl
   row-links (StateBytes ss) ws = refl
   row-links (ItemRow g) ws = refl
@@ -45,7 +46,7 @@ module _ (k e : ℕ) where
   row-links (G x t) ws = four (eqb 1 k && eqb e x) t ws
   row-links (D x t n) ws = four (eqb 2 k && eqb e x) t ws
   row-links (E x i) ws = four (eqb 3 k && eqb e x) i ws
-  row-links (RequestRow x s n) ws = refl
+  row-links (RequestRow r) ws = refl
   row-links (Over x j) ws = refl
 
   -- the rows of a log come before those appended to it
@@ -75,8 +76,8 @@ module _ (e : ℕ) where
   closing-row (EndpointRow d n r) ms = append-nil (closings ms)
   closing-row (PacketRow s t) ms = append-nil (closings ms)
   closing-row (EventRow p c) ms = append-nil (closings ms)
-  closing-row (TransactionRow p) ms = append-nil (closings ms)
-  closing-row (GroupRow x g s) ms = append-nil (closings ms)
+  closing-row (TransactionRow r) ms = append-nil (closings ms)
+  closing-row (GroupRow r) ms = append-nil (closings ms)
   closing-row (StateRow s) ms = append-nil (closings ms)
   closing-row (StateBytes ss) ms = append-nil (closings ms)
   closing-row (ItemRow g) ms = append-nil (closings ms)
@@ -84,7 +85,7 @@ module _ (e : ℕ) where
   closing-row (G x t) ms = unclosed-by (eqb e x) started ms refl
   closing-row (D x t n) ms = append-nil (closings ms)
   closing-row (E x i) ms = closed-by (eqb e x) i ms
-  closing-row (RequestRow x s n) ms = append-nil (closings ms)
+  closing-row (RequestRow r) ms = append-nil (closings ms)
   closing-row (Over x j) ms = unclosed-by (eqb e x) (ended j) ms refl
 
   pub closing-rows : (js : List Row) → linksOf 3 e (log 10 js) ≡ closings (marks e js)
@@ -108,8 +109,8 @@ module _ (e : ℕ) where
   start-row (EndpointRow d n r) ms = omega arith
   start-row (PacketRow s t) ms = omega arith
   start-row (EventRow p c) ms = omega arith
-  start-row (TransactionRow p) ms = omega arith
-  start-row (GroupRow x g s) ms = omega arith
+  start-row (TransactionRow r) ms = omega arith
+  start-row (GroupRow r) ms = omega arith
   start-row (StateRow s) ms = omega arith
   start-row (StateBytes ss) ms = omega arith
   start-row (ItemRow g) ms = omega arith
@@ -117,7 +118,7 @@ module _ (e : ℕ) where
   start-row (G x t) ms = started-by (eqb e x) t ms
   start-row (D x t n) ms = omega arith
   start-row (E x i) ms = unstarted-by (eqb e x) (closed i) ms refl
-  start-row (RequestRow x s n) ms = omega arith
+  start-row (RequestRow r) ms = omega arith
   start-row (Over x j) ms = unstarted-by (eqb e x) (ended j) ms refl
 
   pub start-rows : (js : List Row) → length (linksOf 1 e (log 10 js)) ≡ starts (marks e js)
@@ -139,8 +140,8 @@ module _ (e : ℕ) where
   item-row (EndpointRow d n r) ms = omega arith
   item-row (PacketRow s t) ms = omega arith
   item-row (EventRow p c) ms = omega arith
-  item-row (TransactionRow p) ms = omega arith
-  item-row (GroupRow x g s) ms = omega arith
+  item-row (TransactionRow r) ms = omega arith
+  item-row (GroupRow r) ms = omega arith
   item-row (StateRow s) ms = omega arith
   item-row (StateBytes ss) ms = omega arith
   item-row (ItemRow g) ms = omega arith
@@ -148,7 +149,7 @@ module _ (e : ℕ) where
   item-row (G x t) ms = no-item-by (eqb e x) started ms refl
   item-row (D x t n) ms = omega arith
   item-row (E x i) ms = no-item-by (eqb e x) (closed i) ms refl
-  item-row (RequestRow x s n) ms = omega arith
+  item-row (RequestRow r) ms = omega arith
   item-row (Over x j) ms = no-item-by (eqb e x) (ended j) ms refl
 
   pub item-rows : (js : List Row) → length (log 9 js) ≡ items (marks e js)

@@ -7,9 +7,9 @@ use native.Mathlib.Omega.{arith}
 use lib.Dec.{eqb}
 use borrow.Author.Tests.{eqb-true, eqb-false, ne-eqb}
 use Rattle.transaction.specs.Table.{pick}
-use Rattle.tables.specs.declared.Endpoint.{Endpoint}
-use Rattle.tables.specs.declared.Phase.{Phase}
-use Rattle.tables.specs.declared.Phase.the-variants.{None, Early, Active, Ended}
+use Rattle.endpoints.specs.declared.Endpoint.{Endpoint}
+use Rattle.endpoints.specs.declared.Phase.{Phase}
+use Rattle.endpoints.specs.declared.Phase.the-variants.{None, Early, Active, Ended}
 use Rattle.rules.specs.Rows.{Row, ItemRow}
 use Rattle.rules.specs.Groups.{closeRow, closeRows}
 use Rattle.rules.specs.Decoder.{overRow, overRows, endPhase}

@@ -9,11 +9,11 @@ use Rattle.usb.specs.Fields.{setupDataOf}
 use Rattle.transaction.specs.Table.{pick}
 use Rattle.transaction.proofs.Laws.{extract-keeps}
 use Rattle.transaction.specs.declared.Style.{Style}
-use Rattle.tables.specs.Table.{withPhase}
-use Rattle.tables.specs.declared.Found.{Found}
-use Rattle.tables.specs.declared.Found.the-variants.{At, Nothing}
-use Rattle.tables.specs.declared.Phase.{Phase}
-use Rattle.tables.specs.declared.Phase.the-variants.{None, Early, Active, Ended}
+use Rattle.endpoints.specs.Table.{withPhase}
+use Rattle.details.specs.declared.Found.{Found}
+use Rattle.details.specs.declared.Found.the-variants.{At, Nothing}
+use Rattle.endpoints.specs.declared.Phase.{Phase}
+use Rattle.endpoints.specs.declared.Phase.the-variants.{None, Early, Active, Ended}
 use Rattle.rules.specs.World.{World, phase, change}
 use Rattle.rules.specs.Endpoints.{deviceFor, addEndpointOn, found, packetEndpointAt, packetEndpoint}
 use Rattle.rules.specs.Groups.{link, linkOnce, endEarly, endActive, addGroup, undecided, groupEarlyAppend, startsEarly, groupEarlyStart}

@@ -1,4 +1,5 @@
--- The public functions of decoder.rs, and the detail call of 01. handle_metadata is left out.
+-- To be believed: the public functions of decoder.rs, and the detail call of 01. handle_metadata is left out.
+-- Hold it to: Decoder::new, handle_raw_packet, handle_event and finish of decoder.rs; 01, "Modules in port order", 3: "A detail call sets both"
 use mathlib.Core.Bool.{false}
 use mathlib.Core.List.{List, [], _∷_}
 use Prim.Native.Nat.{ℕ, zero, suc, pred, _+_}
@@ -6,14 +7,14 @@ use lib.Dec.{eqb}
 use lib.ListN.{length}
 use Rattle.transaction.specs.Table.{pick}
 use Rattle.transaction.specs.declared.Style.the-variants.{Nothing}
-use Rattle.tables.specs.Details as details
-use Rattle.tables.specs.Kind.{Unknown}
-use Rattle.tables.specs.Table.{withPhase}
-use Rattle.tables.specs.declared.Endpoint.{Endpoint}
-use Rattle.tables.specs.declared.Phase.{Phase}
-use Rattle.tables.specs.declared.Phase.the-variants.{None, Early, Active, Ended}
+use Rattle.details.specs.Details as details
+use Rattle.details.specs.Kind.{Unknown}
+use Rattle.endpoints.specs.Table.{withPhase, newEndpoint}
+use Rattle.endpoints.specs.declared.Endpoint.{Endpoint}
+use Rattle.endpoints.specs.declared.Phase.{Phase}
+use Rattle.endpoints.specs.declared.Phase.the-variants.{None, Early, Active, Ended}
 use Rattle.rules.specs.Rows.{Row, BytesRow, PacketRow, EventRow, Over}
-use Rattle.rules.specs.World.{World, _▷_, noItem, withEndpoints, withSlot, withEventState, withKeepalive, withBytes, withPackets, withJournal, push, newEndpoint, newTransaction}
+use Rattle.rules.specs.World.{World, _▷_, noItem, withEndpoints, withSlot, withEventState, withKeepalive, withBytes, withPackets, withJournal, push, newTransaction, makeWorld}
 use Rattle.rules.specs.Endpoints.{addDevice, deviceFor, addEndpoint, setDetailOn}
 use Rattle.rules.specs.Transactions.{transactionEnd, transactionUpdate}
 use Rattle.rules.specs.Events.{LsKeepalive, eventUpdate}
@@ -24,8 +25,7 @@ use Rattle.rules.specs.declared.EventState.the-variants.{Idle}
 -- ---- fn new
 
 abbrev pub nothingYet : World
-nothingYet =
-    record { endpoints = λ j. newEndpoint 0 0; count = 0; devices = λ j. details.fresh 0; deviceCount = 0; slot = Empty; transaction = newTransaction Nothing 0 0 0 Unknown; lastItem = noItem; eventState = Idle; keepalive = false; bytes = 0; packets = 0; transactions = 0; groups = 0; stateBytes = 0; items = 0; journal = [] }
+nothingYet = makeWorld (λ j. newEndpoint 0 0) 0 (λ j. details.fresh 0) 0 Empty (newTransaction Nothing 0 0 0 Unknown) noItem Idle false 0 0 0 0 0 0 []
 
 -- the default device, and the special endpoints: EVENT_EP_NUM, INVALID_EP_NUM, FRAMING_EP_NUM
 abbrev pub fresh : World

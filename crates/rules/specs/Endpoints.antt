@@ -1,4 +1,5 @@
--- The functions of decoder.rs that find and add devices and endpoints, and what is known of an endpoint.
+-- To be believed: the functions of decoder.rs that find and add devices and endpoints, and what is known of an endpoint.
+-- Hold it to: add_device, add_endpoint and packet_endpoint of decoder.rs; endpoint_lookup, packet_endpoint, endpoint_details, set_endpoint_type of capture.rs
 use mathlib.Core.Bool.{_&&_, not}
 use mathlib.Core.List.{List}
 use Prim.Native.Nat.{ℕ, suc, _+_, _/_}
@@ -6,14 +7,15 @@ use lib.Dec.{eqb}
 use Rattle.usb.specs.Pid.{SETUP, IN, OUT, SOF, PING}
 use Rattle.usb.specs.Fields.{tokenOf}
 use Rattle.transaction.specs.Table.{pick, only, _or_}
-use Rattle.tables.specs.Details.{numberOf, detailsOf, withType, withDetail, fresh}
-use Rattle.tables.specs.Search.{firstFrom, lastOf}
-use Rattle.tables.specs.declared.Detail.{Detail}
-use Rattle.tables.specs.declared.Device.{Device}
-use Rattle.tables.specs.declared.Found.{Found}
-use Rattle.tables.specs.declared.Found.the-variants.{At, Nothing}
+use Rattle.details.specs.Details.{numberOf, detailsOf, withType, withDetail, fresh}
+use Rattle.details.specs.Search.{firstFrom, lastOf}
+use Rattle.details.specs.declared.Detail.{Detail}
+use Rattle.details.specs.declared.Device.{Device}
+use Rattle.details.specs.declared.Found.{Found}
+use Rattle.details.specs.declared.Found.the-variants.{At, Nothing}
 use Rattle.rules.specs.Rows.{DeviceRow, EndpointRow}
-use Rattle.rules.specs.World.{World, _▷_, invalidEp, framingEp, withEndpoints, withCount, withDevices, withDeviceCount, push, changeDevice, newEndpoint}
+use Rattle.rules.specs.World.{World, _▷_, invalidEp, framingEp, withEndpoints, withCount, withDevices, withDeviceCount, push, changeDevice}
+use Rattle.endpoints.specs.Table.{newEndpoint}
 
 -- ---- fn add_device
 

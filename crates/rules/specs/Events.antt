@@ -1,4 +1,5 @@
--- The functions of decoder.rs from event_update to event_add_subgroup.
+-- To be believed: the functions of decoder.rs from event_update to event_add_subgroup.
+-- Hold it to: event_update, event_single, event_group_start, event_subgroup_start, event_add_group, event_add_subgroup of decoder.rs; 01, event kinds
 use mathlib.Core.Bool.{Bool, true, false}
 use mathlib.Core.List.{List, [], _∷_}
 use Prim.Native.Nat.{ℕ, pred}

@@ -1,4 +1,5 @@
--- The functions of decoder.rs from group_early_start on: groups, their rows, states and items. A function stands below those that it calls.
+-- To be believed: the functions of decoder.rs from group_early_start on: groups, their rows, states and items. A function stands below those that it calls.
+-- Hold it to: group_early_start, group_early_append, group_update, group_start, group_append, group_end, add_group, add_group_entry, add_endpoint_state, add_item of decoder.rs
 use mathlib.Core.Bool.{Bool, true, false, _&&_, _||_, not}
 use mathlib.Core.List.{List, [], _∷_}
 use Prim.Native.Nat.{ℕ, zero, suc, pred, _+_}
@@ -6,11 +7,11 @@ use lib.Dec.{eqb}
 use Rattle.usb.specs.Pid.{SETUP, IN, OUT, SOF, MALFORMED}
 use Rattle.transaction.specs.Table.{pick, only, _or_}
 use Rattle.transaction.specs.Payload.{startPid}
-use Rattle.tables.specs.States.{nextState}
-use Rattle.tables.specs.Table.{withPhase, withState}
-use Rattle.tables.specs.declared.Endpoint.{Endpoint}
-use Rattle.tables.specs.declared.Phase.{Phase}
-use Rattle.tables.specs.declared.Phase.the-variants.{None, Early, Active, Ended}
+use Rattle.endpoints.specs.States.{nextState}
+use Rattle.endpoints.specs.Table.{withPhase, withState}
+use Rattle.endpoints.specs.declared.Endpoint.{Endpoint}
+use Rattle.endpoints.specs.declared.Phase.{Phase}
+use Rattle.endpoints.specs.declared.Phase.the-variants.{None, Early, Active, Ended}
 use Rattle.group.specs.Step.{isActive}
 use Rattle.group.specs.Group.{groupStatus}
 use Rattle.group.specs.declared.GroupStatus.{GroupStatus}
@@ -18,7 +19,7 @@ use Rattle.group.specs.declared.GroupStatus.the-variants.{Single, New, Continue
 use Rattle.group.specs.declared.Grouped.{Grouped}
 use Rattle.group.specs.declared.Effect.{Effect}
 use Rattle.group.specs.declared.Effect.the-variants.{NoEffect, NewDevice, Request, PendingData, IndexData}
-use Rattle.rules.specs.Rows.{Row, GroupRow, StateRow, StateBytes, ItemRow, T, G, D, E, RequestRow, Over}
+use Rattle.rules.specs.Rows.{Row, GroupRow, grouping, StateRow, StateBytes, ItemRow, T, G, D, E, RequestRow, asking, Over}
 use Rattle.rules.specs.World.{World, _▷_, eventEp, phase, lastGroup, withEndpoints, withTransaction, withLastItem, withGroups, withStateBytes, withItems, withJournal, push, change, moreTransactions, moreGroups, withGroup, withLast, cleared, withPending, withTotal, withLink}
 use Rattle.rules.specs.Endpoints.{addDevice, detailOf}
 
@@ -79,7 +80,7 @@ addEndpointState x start w =
 abbrev pub addGroupEntry : ℕ → Bool → World → World
 addGroupEntry x start w =
     w ▷ addEndpointState x start
-    ▷ push (GroupRow x (lastGroup x w) start)
+    ▷ push (GroupRow (grouping x (lastGroup x w) start))
     ▷ withGroups (suc (w .groups))
 
 -- ---- fn add_group; what becomes of the new group is said by its callers
@@ -180,7 +181,7 @@ groupStep Invalid x w = w ▷ groupStart false x ▷ groupEnd x
 abbrev pub effectStep : Effect → ℕ → World → World
 effectStep NoEffect x w = w
 effectStep (NewDevice address) x w = w ▷ addDevice address
-effectStep (Request n) x w = w ▷ push (RequestRow x (w .endpoints x .setup) n)
+effectStep (Request n) x w = w ▷ push (RequestRow (asking x (w .endpoints x .setup) n))
 effectStep (PendingData n) x w = w ▷ change x (withPending n (w .transaction .link))
 effectStep (IndexData n waited i) x w =
     w ▷ push (D x (pick waited i (w .transaction .link)) (w .endpoints x .total))

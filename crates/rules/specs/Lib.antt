@@ -7,5 +7,6 @@ pub mod Events
 pub mod Decoder
 pub mod Marks
 pub mod Demand
+pub mod Reach
 pub mod Linked
 pub mod Tokened

@@ -1,5 +1,5 @@
--- 01, well formed: a current or suspended transaction with an endpoint has its T link unless that endpoint's active group began with IN or OUT, or
--- that endpoint has neither an early nor an active group. Every call keeps it (proofs/Linked.antt).
+-- Laws (proved): 01, well formed: a current or suspended transaction with an endpoint has its T link unless that endpoint's active group began with IN or OUT,
+-- or that endpoint has neither an early nor an active group. Every call keeps it (proofs/Linked.antt).
 use mathlib.Core.Path.{_≡_}
 use mathlib.Core.Bool.{Bool, true, false, _||_}
 use Prim.Native.Nat.{ℕ}
@@ -7,9 +7,9 @@ use lib.Dec.{eqb}
 use Rattle.usb.specs.Pid.{IN, OUT}
 use Rattle.transaction.specs.Table.{only, _or_}
 use Rattle.transaction.specs.declared.Transaction.{Transaction}
-use Rattle.tables.specs.declared.Endpoint.{Endpoint}
-use Rattle.tables.specs.declared.Phase.{Phase}
-use Rattle.tables.specs.declared.Phase.the-variants.{None, Early, Active, Ended}
+use Rattle.endpoints.specs.declared.Endpoint.{Endpoint}
+use Rattle.endpoints.specs.declared.Phase.{Phase}
+use Rattle.endpoints.specs.declared.Phase.the-variants.{None, Early, Active, Ended}
 use Rattle.rules.specs.World.{World}
 use Rattle.rules.specs.declared.Slot.{Slot}
 use Rattle.rules.specs.declared.Slot.the-variants.{Empty, Current, Suspended}

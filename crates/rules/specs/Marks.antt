@@ -1,12 +1,13 @@
--- What the rows of a journal are to one endpoint. Marks, like rows, stand the newest first.
+-- To be believed: what the rows of a journal are to one endpoint. Marks, like rows, stand the newest first.
+-- Hold it to: demand 3: "the first item added after that group ended"; the assert of add_item in decoder.rs
 use mathlib.Core.Path.{_≡_}
 use mathlib.Core.List.{List, [], _∷_, _++_}
 use Prim.Native.Nat.{ℕ, suc}
 use lib.Dec.{eqb}
 use lib.ListN.{length}
 use Rattle.transaction.specs.Table.{pick}
-use Rattle.tables.specs.declared.Found.{Found}
-use Rattle.tables.specs.declared.Found.the-variants.{At, Nothing}
+use Rattle.details.specs.declared.Found.{Found}
+use Rattle.details.specs.declared.Found.the-variants.{At, Nothing}
 use Rattle.rules.specs.Rows.{Row, BytesRow, DeviceRow, EndpointRow, PacketRow, EventRow, TransactionRow, GroupRow, StateRow, StateBytes, ItemRow, T, G, D, E, RequestRow, Over}
 
 pub data Mark : Type 0 where
@@ -27,8 +28,8 @@ mark e (DeviceRow a) = other
 mark e (EndpointRow d n r) = other
 mark e (PacketRow s t) = other
 mark e (EventRow p c) = other
-mark e (TransactionRow p) = other
-mark e (GroupRow x g s) = other
+mark e (TransactionRow r) = other
+mark e (GroupRow r) = other
 mark e (StateRow s) = other
 mark e (StateBytes ss) = other
 mark e (ItemRow g) = item
@@ -36,7 +37,7 @@ mark e (T x t) = other
 mark e (G x t) = pick (eqb e x) started other
 mark e (D x t n) = other
 mark e (E x i) = pick (eqb e x) (closed i) other
-mark e (RequestRow x s n) = other
+mark e (RequestRow r) = other
 mark e (Over x k) = pick (eqb e x) (ended k) other
 
 abbrev pub marks : ℕ → List Row → List Mark

@@ -1,10 +1,48 @@
--- The rows that the rules append, and the twelve logs that they go to (01, Trace and listing). A journal has the rows of all logs, the newest first.
+-- To be believed: the rows that the rules append, and the twelve logs that they go to (01, Trace and listing). A journal has the rows of all logs, the newest
+-- first.
+-- Hold it to: the vectors of capture.rs that decoder.rs pushes to; 01, "Trace and listing": what a line of each kind has
 use mathlib.Core.Bool.{Bool}
 use mathlib.Core.List.{List, [], _∷_, _++_}
 use Prim.Native.Nat.{ℕ}
 use lib.Dec.{eqb}
-use Rattle.rows.specs.Sets.{one}
+use Rattle.rows.specs.One.{one}
 use Rattle.transaction.specs.Table.{pick}
+
+-- ---- rows that a change may lengthen are records: a new field stands here, in its words, and where the row is pushed
+
+-- transaction_index: the packet that the transaction begins with
+pub record Named : Type 0 where
+  pub packet : ℕ
+
+-- group_index: the endpoint, its group, and whether the row is the group's start or its end
+pub record Group : Type 0 where
+  pub endpoint : ℕ
+  pub group : ℕ
+  pub start : Bool
+
+-- where the Rust calls decode_request: the endpoint, the setup bytes as one number, the payload's length
+pub record Asked : Type 0 where
+  pub endpoint : ℕ
+  pub setup : ℕ
+  pub length : ℕ
+
+abbrev pub naming : ℕ → Named
+naming packet = record { packet = packet }
+
+abbrev pub grouping : ℕ → ℕ → Bool → Group
+grouping x g start = record { endpoint = x; group = g; start = start }
+
+abbrev pub asking : ℕ → ℕ → ℕ → Asked
+asking x setup n = record { endpoint = x; setup = setup; length = n }
+
+abbrev pub transactionWords : Named → List ℕ
+transactionWords r = r .packet ∷ []
+
+abbrev pub groupWords : Group → List ℕ
+groupWords r = r .endpoint ∷ r .group ∷ one (r .start) ∷ []
+
+abbrev pub requestWords : Asked → List ℕ
+requestWords r = r .endpoint ∷ r .setup ∷ r .length ∷ []
 
 pub data Row : Type 0 where
   -- packet bytes
@@ -12,12 +50,12 @@ pub data Row : Type 0 where
   -- the address; device, number and direction
   DeviceRow : ℕ → Row
   EndpointRow : ℕ → ℕ → ℕ → Row
-  -- start and time; packet and code; packet
+  -- start and time; packet and code
   PacketRow : ℕ → ℕ → Row
   EventRow : ℕ → ℕ → Row
-  TransactionRow : ℕ → Row
-  -- endpoint, the endpoint's group, whether it is the start; where the state bytes start, and those; group row
-  GroupRow : ℕ → ℕ → Bool → Row
+  TransactionRow : Named → Row
+  -- where the state bytes start, and those; group row
+  GroupRow : Group → Row
   StateRow : ℕ → Row
   StateBytes : List ℕ → Row
   ItemRow : ℕ → Row
@@ -26,8 +64,7 @@ pub data Row : Type 0 where
   G : ℕ → ℕ → Row
   D : ℕ → ℕ → ℕ → Row
   E : ℕ → ℕ → Row
-  -- endpoint, the setup bytes as one number, length
-  RequestRow : ℕ → ℕ → ℕ → Row
+  RequestRow : Asked → Row
   -- goes to no log: this endpoint's group of this number ended. It is noted because an event ends groups without an end row
   Over : ℕ → ℕ → Row
 
@@ -41,8 +78,8 @@ written (DeviceRow a) = (1, a ∷ [])
 written (EndpointRow d n r) = (2, d ∷ n ∷ r ∷ [])
 written (PacketRow s t) = (3, s ∷ t ∷ [])
 written (EventRow p c) = (4, p ∷ c ∷ [])
-written (TransactionRow p) = (5, p ∷ [])
-written (GroupRow x g s) = (6, x ∷ g ∷ one s ∷ [])
+written (TransactionRow r) = (5, transactionWords r)
+written (GroupRow r) = (6, groupWords r)
 written (StateRow s) = (8, s ∷ [])
 written (StateBytes ss) = (7, ss)
 written (ItemRow g) = (9, g ∷ [])
@@ -50,7 +87,7 @@ written (T x t) = (10, 0 ∷ x ∷ t ∷ 0 ∷ [])
 written (G x t) = (10, 1 ∷ x ∷ t ∷ 0 ∷ [])
 written (D x t n) = (10, 2 ∷ x ∷ t ∷ n ∷ [])
 written (E x i) = (10, 3 ∷ x ∷ i ∷ 0 ∷ [])
-written (RequestRow x s n) = (11, x ∷ s ∷ n ∷ [])
+written (RequestRow r) = (11, requestWords r)
 written (Over x k) = (12, [])
 
 -- a log's words, the oldest first

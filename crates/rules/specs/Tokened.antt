@@ -1,4 +1,4 @@
--- 01, well formed: a transaction lacks an endpoint exactly if it is a split without its token. Every call keeps it, where the special endpoints
+-- Laws (proved): 01, well formed: a transaction lacks an endpoint exactly if it is a split without its token. Every call keeps it, where the special endpoints
 -- stand (proofs/Tokened.antt).
 use mathlib.Core.Path.{_≡_}
 use Prim.Native.Nat.{ℕ, _≤_}

@@ -1,4 +1,5 @@
--- The functions of decoder.rs from transaction_update to transaction_end. A function stands below those that it calls.
+-- To be believed: the functions of decoder.rs from transaction_update to transaction_end. A function stands below those that it calls.
+-- Hold it to: transaction_update, transaction_start, transaction_append, transaction_end and endpoint_id of decoder.rs; 01, "Rules of a transaction" and answer 8
 use mathlib.Core.Bool.{Bool, true, false, _&&_, not}
 use mathlib.Core.List.{List}
 use Prim.Native.Nat.{ℕ, suc}
@@ -15,8 +16,8 @@ use Rattle.transaction.specs.declared.Style.{Style}
 use Rattle.transaction.specs.declared.Style.the-variants.{Nothing, Simple, Split, Token}
 use Rattle.transaction.specs.declared.Status.{Status}
 use Rattle.transaction.specs.declared.Status.the-variants.{New, Continue, Retry, Done, Fail, Ambiguous, Invalid}
-use Rattle.tables.specs.Kind.{Unknown}
-use Rattle.rules.specs.Rows.{TransactionRow}
+use Rattle.details.specs.Kind.{Unknown}
+use Rattle.rules.specs.Rows.{TransactionRow, naming}
 use Rattle.rules.specs.World.{World, _▷_, invalidEp, withSlot, withTransaction, withTransactions, push, withId, withPid, withToken, newTransaction}
 use Rattle.rules.specs.Endpoints.{packetEndpoint, endpointOf, detailOf, setEndpointType}
 use Rattle.rules.specs.Groups.{link, groupUpdate, groupEarlyAppend, groupEarlyStart}
@@ -58,7 +59,7 @@ transactionAppend pid packet w =
 
 -- self.capture.transaction_index.push(packet_id)
 abbrev pub pushTransaction : ℕ → World → World
-pushTransaction id w = w ▷ push (TransactionRow id) ▷ withTransactions (suc (w .transactions))
+pushTransaction id w = w ▷ push (TransactionRow (naming id)) ▷ withTransactions (suc (w .transactions))
 
 abbrev pub begin : Transaction → World → World
 begin t w = w ▷ withTransaction t ▷ withSlot Current

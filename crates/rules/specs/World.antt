@@ -1,4 +1,5 @@
--- What a call works on: struct Decoder of decoder.rs, the numbers of rows that it hands out, and the journal of what it appends.
+-- To be believed: what a call works on: struct Decoder of decoder.rs, the numbers of rows that it hands out, and the journal of what it appends.
+-- Hold it to: struct Decoder, EndpointData, GroupState and TransactionState of decoder.rs
 use mathlib.Core.Bool.{Bool, true, false}
 use mathlib.Core.List.{List, _∷_}
 use Prim.Native.Nat.{ℕ, suc, pred}
@@ -6,11 +7,14 @@ use lib.Dec.{eqb}
 use Rattle.transaction.specs.Table.{pick}
 use Rattle.transaction.specs.declared.Style.{Style}
 use Rattle.transaction.specs.declared.Transaction.{Transaction}
-use Rattle.tables.specs.declared.Device.{Device}
-use Rattle.tables.specs.declared.Endpoint.{Endpoint}
-use Rattle.tables.specs.declared.Phase.{Phase}
-use Rattle.tables.specs.declared.Phase.the-variants.{None}
+use Rattle.details.specs.declared.Device.{Device}
+use Rattle.endpoints.specs.declared.Endpoint.{Endpoint}
+use Rattle.endpoints.specs.declared.Phase.{Phase}
+use Rattle.endpoints.specs.Phases as phases
+use Rattle.endpoints.specs.Table.{phaseWord, makeEndpoint}
+use Rattle.endpoints.specs.Word as word
 use Rattle.group.specs.Control.{withPayload}
+use Rattle.transaction.specs.Payload.{makeTransaction}
 use Rattle.rules.specs.Rows.{Row}
 use Rattle.rules.specs.declared.Slot.{Slot}
 use Rattle.rules.specs.declared.EventState.{EventState}
@@ -40,6 +44,28 @@ pub record World : Type 0 where
   -- the rows that were appended, the newest first
   pub journal : List Row
 
+-- World from its fields, in their order
+abbrev pub makeWorld : (ℕ → Endpoint) → ℕ → (ℕ → Device) → ℕ → Slot → Transaction → ℕ → EventState → Bool → ℕ → ℕ → ℕ → ℕ → ℕ → ℕ → List Row → World
+makeWorld endpoints count devices deviceCount slot transaction lastItem eventState keepalive bytes packets transactions groups stateBytes items journal =
+    record {
+      endpoints = endpoints;
+      count = count;
+      devices = devices;
+      deviceCount = deviceCount;
+      slot = slot;
+      transaction = transaction;
+      lastItem = lastItem;
+      eventState = eventState;
+      keepalive = keepalive;
+      bytes = bytes;
+      packets = packets;
+      transactions = transactions;
+      groups = groups;
+      stateBytes = stateBytes;
+      items = items;
+      journal = journal;
+    }
+
 -- one step after another, as the Rust's statements follow each other
 infixl 10 _▷_
 abbrev pub _▷_ : {A B : Type 0} → A → (A → B) → B
@@ -68,52 +94,68 @@ lastGroup x w = pred (w .endpoints x .groups)
 -- ---- a world with one field changed
 
 abbrev pub withEndpoints : (ℕ → Endpoint) → World → World
-withEndpoints a w = record { endpoints = a; count = w .count; devices = w .devices; deviceCount = w .deviceCount; slot = w .slot; transaction = w .transaction; lastItem = w .lastItem; eventState = w .eventState; keepalive = w .keepalive; bytes = w .bytes; packets = w .packets; transactions = w .transactions; groups = w .groups; stateBytes = w .stateBytes; items = w .items; journal = w .journal }
+withEndpoints a w = makeWorld a (w .count) (w .devices) (w .deviceCount) (w .slot) (w .transaction) (w .lastItem) (w .eventState) (w .keepalive) (w .bytes)
+    (w .packets) (w .transactions) (w .groups) (w .stateBytes) (w .items) (w .journal)
 
 abbrev pub withCount : ℕ → World → World
-withCount a w = record { endpoints = w .endpoints; count = a; devices = w .devices; deviceCount = w .deviceCount; slot = w .slot; transaction = w .transaction; lastItem = w .lastItem; eventState = w .eventState; keepalive = w .keepalive; bytes = w .bytes; packets = w .packets; transactions = w .transactions; groups = w .groups; stateBytes = w .stateBytes; items = w .items; journal = w .journal }
+withCount a w = makeWorld (w .endpoints) a (w .devices) (w .deviceCount) (w .slot) (w .transaction) (w .lastItem) (w .eventState) (w .keepalive) (w .bytes)
+    (w .packets) (w .transactions) (w .groups) (w .stateBytes) (w .items) (w .journal)
 
 abbrev pub withDevices : (ℕ → Device) → World → World
-withDevices a w = record { endpoints = w .endpoints; count = w .count; devices = a; deviceCount = w .deviceCount; slot = w .slot; transaction = w .transaction; lastItem = w .lastItem; eventState = w .eventState; keepalive = w .keepalive; bytes = w .bytes; packets = w .packets; transactions = w .transactions; groups = w .groups; stateBytes = w .stateBytes; items = w .items; journal = w .journal }
+withDevices a w = makeWorld (w .endpoints) (w .count) a (w .deviceCount) (w .slot) (w .transaction) (w .lastItem) (w .eventState) (w .keepalive) (w .bytes)
+    (w .packets) (w .transactions) (w .groups) (w .stateBytes) (w .items) (w .journal)
 
 abbrev pub withDeviceCount : ℕ → World → World
-withDeviceCount a w = record { endpoints = w .endpoints; count = w .count; devices = w .devices; deviceCount = a; slot = w .slot; transaction = w .transaction; lastItem = w .lastItem; eventState = w .eventState; keepalive = w .keepalive; bytes = w .bytes; packets = w .packets; transactions = w .transactions; groups = w .groups; stateBytes = w .stateBytes; items = w .items; journal = w .journal }
+withDeviceCount a w = makeWorld (w .endpoints) (w .count) (w .devices) a (w .slot) (w .transaction) (w .lastItem) (w .eventState) (w .keepalive) (w .bytes)
+    (w .packets) (w .transactions) (w .groups) (w .stateBytes) (w .items) (w .journal)
 
 abbrev pub withSlot : Slot → World → World
-withSlot a w = record { endpoints = w .endpoints; count = w .count; devices = w .devices; deviceCount = w .deviceCount; slot = a; transaction = w .transaction; lastItem = w .lastItem; eventState = w .eventState; keepalive = w .keepalive; bytes = w .bytes; packets = w .packets; transactions = w .transactions; groups = w .groups; stateBytes = w .stateBytes; items = w .items; journal = w .journal }
+withSlot a w = makeWorld (w .endpoints) (w .count) (w .devices) (w .deviceCount) a (w .transaction) (w .lastItem) (w .eventState) (w .keepalive) (w .bytes)
+    (w .packets) (w .transactions) (w .groups) (w .stateBytes) (w .items) (w .journal)
 
 abbrev pub withTransaction : Transaction → World → World
-withTransaction a w = record { endpoints = w .endpoints; count = w .count; devices = w .devices; deviceCount = w .deviceCount; slot = w .slot; transaction = a; lastItem = w .lastItem; eventState = w .eventState; keepalive = w .keepalive; bytes = w .bytes; packets = w .packets; transactions = w .transactions; groups = w .groups; stateBytes = w .stateBytes; items = w .items; journal = w .journal }
+withTransaction a w = makeWorld (w .endpoints) (w .count) (w .devices) (w .deviceCount) (w .slot) a (w .lastItem) (w .eventState) (w .keepalive) (w .bytes)
+    (w .packets) (w .transactions) (w .groups) (w .stateBytes) (w .items) (w .journal)
 
 abbrev pub withLastItem : ℕ → World → World
-withLastItem a w = record { endpoints = w .endpoints; count = w .count; devices = w .devices; deviceCount = w .deviceCount; slot = w .slot; transaction = w .transaction; lastItem = a; eventState = w .eventState; keepalive = w .keepalive; bytes = w .bytes; packets = w .packets; transactions = w .transactions; groups = w .groups; stateBytes = w .stateBytes; items = w .items; journal = w .journal }
+withLastItem a w = makeWorld (w .endpoints) (w .count) (w .devices) (w .deviceCount) (w .slot) (w .transaction) a (w .eventState) (w .keepalive) (w .bytes)
+    (w .packets) (w .transactions) (w .groups) (w .stateBytes) (w .items) (w .journal)
 
 abbrev pub withEventState : EventState → World → World
-withEventState a w = record { endpoints = w .endpoints; count = w .count; devices = w .devices; deviceCount = w .deviceCount; slot = w .slot; transaction = w .transaction; lastItem = w .lastItem; eventState = a; keepalive = w .keepalive; bytes = w .bytes; packets = w .packets; transactions = w .transactions; groups = w .groups; stateBytes = w .stateBytes; items = w .items; journal = w .journal }
+withEventState a w = makeWorld (w .endpoints) (w .count) (w .devices) (w .deviceCount) (w .slot) (w .transaction) (w .lastItem) a (w .keepalive) (w .bytes)
+    (w .packets) (w .transactions) (w .groups) (w .stateBytes) (w .items) (w .journal)
 
 abbrev pub withKeepalive : Bool → World → World
-withKeepalive a w = record { endpoints = w .endpoints; count = w .count; devices = w .devices; deviceCount = w .deviceCount; slot = w .slot; transaction = w .transaction; lastItem = w .lastItem; eventState = w .eventState; keepalive = a; bytes = w .bytes; packets = w .packets; transactions = w .transactions; groups = w .groups; stateBytes = w .stateBytes; items = w .items; journal = w .journal }
+withKeepalive a w = makeWorld (w .endpoints) (w .count) (w .devices) (w .deviceCount) (w .slot) (w .transaction) (w .lastItem) (w .eventState) a (w .bytes)
+    (w .packets) (w .transactions) (w .groups) (w .stateBytes) (w .items) (w .journal)
 
 abbrev pub withBytes : ℕ → World → World
-withBytes a w = record { endpoints = w .endpoints; count = w .count; devices = w .devices; deviceCount = w .deviceCount; slot = w .slot; transaction = w .transaction; lastItem = w .lastItem; eventState = w .eventState; keepalive = w .keepalive; bytes = a; packets = w .packets; transactions = w .transactions; groups = w .groups; stateBytes = w .stateBytes; items = w .items; journal = w .journal }
+withBytes a w = makeWorld (w .endpoints) (w .count) (w .devices) (w .deviceCount) (w .slot) (w .transaction) (w .lastItem) (w .eventState) (w .keepalive) a
+    (w .packets) (w .transactions) (w .groups) (w .stateBytes) (w .items) (w .journal)
 
 abbrev pub withPackets : ℕ → World → World
-withPackets a w = record { endpoints = w .endpoints; count = w .count; devices = w .devices; deviceCount = w .deviceCount; slot = w .slot; transaction = w .transaction; lastItem = w .lastItem; eventState = w .eventState; keepalive = w .keepalive; bytes = w .bytes; packets = a; transactions = w .transactions; groups = w .groups; stateBytes = w .stateBytes; items = w .items; journal = w .journal }
+withPackets a w = makeWorld (w .endpoints) (w .count) (w .devices) (w .deviceCount) (w .slot) (w .transaction) (w .lastItem) (w .eventState) (w .keepalive)
+    (w .bytes) a (w .transactions) (w .groups) (w .stateBytes) (w .items) (w .journal)
 
 abbrev pub withTransactions : ℕ → World → World
-withTransactions a w = record { endpoints = w .endpoints; count = w .count; devices = w .devices; deviceCount = w .deviceCount; slot = w .slot; transaction = w .transaction; lastItem = w .lastItem; eventState = w .eventState; keepalive = w .keepalive; bytes = w .bytes; packets = w .packets; transactions = a; groups = w .groups; stateBytes = w .stateBytes; items = w .items; journal = w .journal }
+withTransactions a w = makeWorld (w .endpoints) (w .count) (w .devices) (w .deviceCount) (w .slot) (w .transaction) (w .lastItem) (w .eventState) (w .keepalive)
+    (w .bytes) (w .packets) a (w .groups) (w .stateBytes) (w .items) (w .journal)
 
 abbrev pub withGroups : ℕ → World → World
-withGroups a w = record { endpoints = w .endpoints; count = w .count; devices = w .devices; deviceCount = w .deviceCount; slot = w .slot; transaction = w .transaction; lastItem = w .lastItem; eventState = w .eventState; keepalive = w .keepalive; bytes = w .bytes; packets = w .packets; transactions = w .transactions; groups = a; stateBytes = w .stateBytes; items = w .items; journal = w .journal }
+withGroups a w = makeWorld (w .endpoints) (w .count) (w .devices) (w .deviceCount) (w .slot) (w .transaction) (w .lastItem) (w .eventState) (w .keepalive)
+    (w .bytes) (w .packets) (w .transactions) a (w .stateBytes) (w .items) (w .journal)
 
 abbrev pub withStateBytes : ℕ → World → World
-withStateBytes a w = record { endpoints = w .endpoints; count = w .count; devices = w .devices; deviceCount = w .deviceCount; slot = w .slot; transaction = w .transaction; lastItem = w .lastItem; eventState = w .eventState; keepalive = w .keepalive; bytes = w .bytes; packets = w .packets; transactions = w .transactions; groups = w .groups; stateBytes = a; items = w .items; journal = w .journal }
+withStateBytes a w = makeWorld (w .endpoints) (w .count) (w .devices) (w .deviceCount) (w .slot) (w .transaction) (w .lastItem) (w .eventState) (w .keepalive)
+    (w .bytes) (w .packets) (w .transactions) (w .groups) a (w .items) (w .journal)
 
 abbrev pub withItems : ℕ → World → World
-withItems a w = record { endpoints = w .endpoints; count = w .count; devices = w .devices; deviceCount = w .deviceCount; slot = w .slot; transaction = w .transaction; lastItem = w .lastItem; eventState = w .eventState; keepalive = w .keepalive; bytes = w .bytes; packets = w .packets; transactions = w .transactions; groups = w .groups; stateBytes = w .stateBytes; items = a; journal = w .journal }
+withItems a w = makeWorld (w .endpoints) (w .count) (w .devices) (w .deviceCount) (w .slot) (w .transaction) (w .lastItem) (w .eventState) (w .keepalive)
+    (w .bytes) (w .packets) (w .transactions) (w .groups) (w .stateBytes) a (w .journal)
 
 abbrev pub withJournal : List Row → World → World
-withJournal a w = record { endpoints = w .endpoints; count = w .count; devices = w .devices; deviceCount = w .deviceCount; slot = w .slot; transaction = w .transaction; lastItem = w .lastItem; eventState = w .eventState; keepalive = w .keepalive; bytes = w .bytes; packets = w .packets; transactions = w .transactions; groups = w .groups; stateBytes = w .stateBytes; items = w .items; journal = a }
+withJournal a w = makeWorld (w .endpoints) (w .count) (w .devices) (w .deviceCount) (w .slot) (w .transaction) (w .lastItem) (w .eventState) (w .keepalive)
+    (w .bytes) (w .packets) (w .transactions) (w .groups) (w .stateBytes) (w .items) a
 
 -- ---- what is appended
 
@@ -132,18 +174,22 @@ changeDevice d f w = withDevices (λ j. pick (eqb j d) (f (w .devices j)) (w .de
 
 -- one more T row; one more G row
 abbrev pub moreTransactions : Endpoint → Endpoint
-moreTransactions a = record { device = a .device; address = a .address; phase = a .phase; state = a .state; transactions = suc (a .transactions); groups = a .groups; total = a .total; first = a .first; done = a .done; last = a .last; success = a .success; ready = a .ready; setup = a .setup; payload = a .payload; waits = a .waits; waiting = a .waiting; waiter = a .waiter }
+moreTransactions a = makeEndpoint (a .device) (a .address) (a .phase) (a .state) (suc (a .transactions)) (a .groups) (a .total) (a .first) (a .done) (a .last)
+    (a .success) (a .ready) (a .setup) (a .payload) (a .pending) (a .pendinglength) (a .pendinglink)
 
 abbrev pub moreGroups : Endpoint → Endpoint
-moreGroups a = record { device = a .device; address = a .address; phase = a .phase; state = a .state; transactions = a .transactions; groups = suc (a .groups); total = a .total; first = a .first; done = a .done; last = a .last; success = a .success; ready = a .ready; setup = a .setup; payload = a .payload; waits = a .waits; waiting = a .waiting; waiter = a .waiter }
+moreGroups a = makeEndpoint (a .device) (a .address) (a .phase) (a .state) (a .transactions) (suc (a .groups)) (a .total) (a .first) (a .done) (a .last)
+    (a .success) (a .ready) (a .setup) (a .payload) (a .pending) (a .pendinglength) (a .pendinglink)
 
 -- GroupState with first, and last where it is done
 abbrev pub withGroup : ℕ → Bool → Endpoint → Endpoint
-withGroup pid d a = record { device = a .device; address = a .address; phase = a .phase; state = a .state; transactions = a .transactions; groups = a .groups; total = a .total; first = pid; done = d; last = pid; success = a .success; ready = a .ready; setup = a .setup; payload = a .payload; waits = a .waits; waiting = a .waiting; waiter = a .waiter }
+withGroup pid d a = makeEndpoint (a .device) (a .address) (a .phase) (a .state) (a .transactions) (a .groups) (a .total) pid d pid (a .success) (a .ready)
+    (a .setup) (a .payload) (a .pending) (a .pendinglength) (a .pendinglink)
 
 -- GroupState with another last
 abbrev pub withLast : ℕ → Endpoint → Endpoint
-withLast pid a = record { device = a .device; address = a .address; phase = a .phase; state = a .state; transactions = a .transactions; groups = a .groups; total = a .total; first = a .first; done = true; last = pid; success = a .success; ready = a .ready; setup = a .setup; payload = a .payload; waits = a .waits; waiting = a .waiting; waiter = a .waiter }
+withLast pid a = makeEndpoint (a .device) (a .address) (a .phase) (a .state) (a .transactions) (a .groups) (a .total) (a .first) true pid (a .success)
+    (a .ready) (a .setup) (a .payload) (a .pending) (a .pendinglength) (a .pendinglink)
 
 -- payload.clear()
 abbrev pub cleared : Endpoint → Endpoint
@@ -151,32 +197,43 @@ cleared a = withPayload a 0
 
 -- pending_payload: its length and its T row
 abbrev pub withPending : ℕ → ℕ → Endpoint → Endpoint
-withPending n i a = record { device = a .device; address = a .address; phase = a .phase; state = a .state; transactions = a .transactions; groups = a .groups; total = a .total; first = a .first; done = a .done; last = a .last; success = a .success; ready = a .ready; setup = a .setup; payload = a .payload; waits = true; waiting = n; waiter = i }
+withPending n i a = makeEndpoint (a .device) (a .address) (a .phase) (a .state) (a .transactions) (a .groups) (a .total) (a .first) (a .done) (a .last)
+    (a .success) (a .ready) (a .setup) (a .payload) true n i
 
 abbrev pub withTotal : ℕ → Endpoint → Endpoint
-withTotal n a = record { device = a .device; address = a .address; phase = a .phase; state = a .state; transactions = a .transactions; groups = a .groups; total = n; first = a .first; done = a .done; last = a .last; success = a .success; ready = a .ready; setup = a .setup; payload = a .payload; waits = a .waits; waiting = a .waiting; waiter = a .waiter }
-
--- EndpointData::new
-abbrev pub newEndpoint : ℕ → ℕ → Endpoint
-newEndpoint d a = record { device = d; address = a; phase = None; state = 0; transactions = 0; groups = 0; total = 0; first = 0; done = false; last = 0; success = false; ready = false; setup = 0; payload = 0; waits = false; waiting = 0; waiter = 0 }
+withTotal n a = makeEndpoint (a .device) (a .address) (a .phase) (a .state) (a .transactions) (a .groups) n (a .first) (a .done) (a .last) (a .success)
+    (a .ready) (a .setup) (a .payload) (a .pending) (a .pendinglength) (a .pendinglink)
 
 -- ---- the transaction
 
 abbrev pub withId : ℕ → Transaction → Transaction
-withId n t = record { style = t .style; id = n; last = t .last; endpoint = t .endpoint; kind = t .kind; linked = t .linked; link = t .link; ready = t .ready; setup = t .setup; filled = t .filled; payload = t .payload }
+withId n t = makeTransaction (t .style) n (t .last) (t .endpoint) (t .kind) (t .linked) (t .link) (t .ready) (t .setup) (t .filled) (t .payload)
 
 -- ep_transaction_id = Some(n)
 abbrev pub withLink : ℕ → Transaction → Transaction
-withLink n t = record { style = t .style; id = t .id; last = t .last; endpoint = t .endpoint; kind = t .kind; linked = true; link = n; ready = t .ready; setup = t .setup; filled = t .filled; payload = t .payload }
+withLink n t = makeTransaction (t .style) (t .id) (t .last) (t .endpoint) (t .kind) true n (t .ready) (t .setup) (t .filled) (t .payload)
 
 -- last = pid
 abbrev pub withPid : ℕ → Transaction → Transaction
-withPid pid t = record { style = t .style; id = t .id; last = pid; endpoint = t .endpoint; kind = t .kind; linked = t .linked; link = t .link; ready = t .ready; setup = t .setup; filled = t .filled; payload = t .payload }
+withPid pid t = makeTransaction (t .style) (t .id) pid (t .endpoint) (t .kind) (t .linked) (t .link) (t .ready) (t .setup) (t .filled) (t .payload)
 
 -- a split's token has come: its style and its endpoint
 abbrev pub withToken : Style → ℕ → Transaction → Transaction
-withToken s x t = record { style = s; id = t .id; last = t .last; endpoint = x; kind = t .kind; linked = t .linked; link = t .link; ready = t .ready; setup = t .setup; filled = t .filled; payload = t .payload }
+withToken s x t = makeTransaction s (t .id) (t .last) x (t .kind) (t .linked) (t .link) (t .ready) (t .setup) (t .filled) (t .payload)
 
 -- TransactionState as transaction_start makes it: style, id, last, endpoint and type
 abbrev pub newTransaction : Style → ℕ → ℕ → ℕ → ℕ → Transaction
-newTransaction s n pid x k = record { style = s; id = n; last = pid; endpoint = x; kind = k; linked = false; link = 0; ready = false; setup = 0; filled = false; payload = 0 }
+newTransaction s n pid x k = makeTransaction s n pid x k false 0 false 0 false 0
+
+-- ---- who waits for an item
+
+-- whether a group has ended and no item has closed it yet (EndpointData::ended)
+abbrev pub isEnded : Phase → Bool
+isEnded p = eqb (phaseWord p) word.Ended
+
+abbrev pub endedIn : (ℕ → Endpoint) → ℕ → Bool
+endedIn f j = isEnded (f j .phase)
+
+-- how many endpoints have such a group
+abbrev pub waitingOf : World → ℕ
+waitingOf w = phases.count (endedIn (w .endpoints)) 0 (w .count)

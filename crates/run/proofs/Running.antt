@@ -5,23 +5,23 @@ use mathlib.Core.Bool.{true, false, true≢false}
 use mathlib.Core.List.{List, replicate}
 use mathlib.Core.Path.{_≡_, refl, sym, ap, subst, _∙_}
 use lib.ListN.{length, take, drop}
-use Rattle.tables.specs.Details.{fresh}
-use Rattle.tables.specs.declared.Device.{Device}
-use Rattle.judge.specs.Fresh.{refusedDecoder}
-use Rattle.judge.specs.declared.Counts.{Counts}
-use Rattle.judge.specs.declared.Decoder.{Decoder}
+use Rattle.details.specs.Details.{fresh}
+use Rattle.details.specs.declared.Device.{Device}
+use Rattle.record.specs.Fresh.{refusedDecoder}
+use Rattle.record.specs.declared.Counts.{Counts}
+use Rattle.record.specs.declared.Decoder.{Decoder}
 use Rattle.trace.specs.Clock.{stopped, tickOf}
 use Rattle.trace.specs.Laws.{packet-inside, event-inside, detail-inside}
-use Rattle.trace.specs.Trace.{headerOf, headerAnswer, headerPlace, nextAt}
+use Rattle.trace.specs.Trace.{headerOf, headerAnswer, headerPlace, nextAt, answerOf}
 use Rattle.trace.specs.declared.Cursor.{Cursor}
 use Rattle.trace.specs.declared.Header.{Header}
 use Rattle.trace.specs.declared.Next.{Next}
 use Rattle.trace.specs.declared.Next.the-variants.{Packet, Event, Detail, Unknown, Cut, End}
 use Rattle.trace.specs.declared.clock.Clock.{Clock}
-use Rattle.outcome.specs.State.{Logs, State, state}
-use Rattle.calls.specs.Detail.{Details}
-use Rattle.calls.specs.Fresh.{Makes, unmade, noDevices}
-use Rattle.calls.specs.FreshLaws.{made-on}
+use Rattle.call.specs.State.{Logs, State, state}
+use Rattle.start.specs.Detail.{Details}
+use Rattle.start.specs.Fresh.{Makes, unmade, noDevices}
+use Rattle.start.specs.FreshLaws.{made-on}
 use Rattle.packet.specs.Call.{PacketCall}
 use Rattle.events.specs.Call.{EventCall, FinishCall}
 use Rattle.run.specs.Run.{clockAfter, behind, Gives, Runs, Ran}
@@ -108,11 +108,13 @@ module _ {trace : List ℕ} {at : ℕ} {c : Clock} {s : State} {r : Stepped} {t 
 
 -- no whole record
 module _ {trace : List ℕ} {at : ℕ} {c c′ : Clock} {s : State} {r : Stepped} where
-  pub unknown-step : nextAt trace at ≡ Unknown → r ≡ overWith 12 at c′ (s .decoder) (s .devices) → Steps trace at c s r (s .table) (s .logs)
-  unknown-step e k = over-step (stops (here trace at c s Unknown 12 s e (refl, refl)) refl) k
+  pub unknown-step : {a : ℕ} → nextAt trace at ≡ Unknown → a ≡ answerOf Unknown → r ≡ overWith a at c′ (s .decoder) (s .devices) → Steps trace at c s r (s .table) (s .logs)
+  unknown-step e q k =
+      over-step (stops (here trace at c s Unknown 12 s e (refl, refl)) refl) (k ∙ ap (λ (a : ℕ). overWith a at c′ (s .decoder) (s .devices)) q)
 
-  pub cut-step : nextAt trace at ≡ Cut → r ≡ overWith 13 at c′ (s .decoder) (s .devices) → Steps trace at c s r (s .table) (s .logs)
-  cut-step e k = over-step (stops (here trace at c s Cut 13 s e (refl, refl)) refl) k
+  pub cut-step : {a : ℕ} → nextAt trace at ≡ Cut → a ≡ answerOf Cut → r ≡ overWith a at c′ (s .decoder) (s .devices) → Steps trace at c s r (s .table) (s .logs)
+  cut-step e q k =
+      over-step (stops (here trace at c s Cut 13 s e (refl, refl)) refl) (k ∙ ap (λ (a : ℕ). overWith a at c′ (s .decoder) (s .devices)) q)
 
 -- ---- the records
 
@@ -127,7 +129,7 @@ sizesOf l =
       events = length (l .events);
       transactions = length (l .transactions);
       groups = length (l .groups);
-      marks = length (l .marks);
+      statebytes = length (l .statebytes);
       states = length (l .states);
       items = length (l .items);
       links = length (l .links);

@@ -1,18 +1,19 @@
--- A whole trace through the calls (01, "Trace and listing"): what its records give one by one. Words in quotation marks are those of 01.
+-- To be believed: a whole trace through the calls (01, "Trace and listing"): what its records give one by one. Words in quotation marks are those of 01.
+-- Hold it to: 01, "Trace and listing": "Records are taken one at a time .."
 use Prim.Native.Nat.{ℕ, _-_}
 use mathlib.Core.Bool.{true, false}
 use mathlib.Core.List.{List}
 use mathlib.Core.Path.{_≡_}
 use lib.ListN.{length, take, drop}
 use Rattle.trace.specs.Clock.{stopped, tickOf}
-use Rattle.trace.specs.Trace.{headerOf, headerAnswer, headerPlace, nextAt}
+use Rattle.trace.specs.Trace.{headerOf, headerAnswer, headerPlace, nextAt, answerOf}
 use Rattle.trace.specs.declared.Next.{Next}
 use Rattle.trace.specs.declared.Next.the-variants.{Packet, Event, Detail, Unknown, Cut, End}
 use Rattle.trace.specs.declared.clock.Clock.{Clock}
-use Rattle.outcome.specs.Outcome.{accepts}
-use Rattle.outcome.specs.State.{Logs, State}
-use Rattle.calls.specs.Detail.{Details}
-use Rattle.calls.specs.Fresh.{Makes, unmade, noDevices}
+use Rattle.call.specs.Outcome.{accepts}
+use Rattle.call.specs.State.{Logs, State}
+use Rattle.start.specs.Detail.{Details}
+use Rattle.start.specs.Fresh.{Makes, unmade, noDevices}
 use Rattle.packet.specs.Call.{PacketCall}
 use Rattle.events.specs.Call.{EventCall, FinishCall}
 
@@ -36,14 +37,14 @@ behind Unknown at = at
 behind Cut at = at
 behind End at = at
 
--- a record, with the clock as it stands in front of it, on the state s: it answers a and leaves s′. "Wrong or missing .. tag 12, cut record 13"; the
--- end is no record
+-- a record, with the clock as it stands in front of it, on the state s: it answers a and leaves s′. "Wrong or missing .. tag 12, cut record 13" by
+-- the numbers of trace, Trace; the end is no record
 abbrev pub Gives : List ℕ → Next → Clock → State → ℕ → State → Type 0
 Gives trace (Packet ticks start end next) c s a s′ = PacketCall (take (end - start) (drop start trace)) (tickOf c ticks .time) s a s′
 Gives trace (Event ticks kind code next) c s a s′ = EventCall kind code (tickOf c ticks .time) s a s′
 Gives trace (Detail address number direction kind max next) c s a s′ = Details address number direction kind max s a s′
-Gives trace Unknown c s a s′ = (a ≡ 12) × (s′ ≡ s)
-Gives trace Cut c s a s′ = (a ≡ 13) × (s′ ≡ s)
+Gives trace Unknown c s a s′ = (a ≡ answerOf Unknown) × (s′ ≡ s)
+Gives trace Cut c s a s′ = (a ≡ answerOf Cut) × (s′ ≡ s)
 Gives trace End c s a s′ = ⊥
 
 -- ---- the records from a place on

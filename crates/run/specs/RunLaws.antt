@@ -1,4 +1,4 @@
--- What the contract of `run` rules out: any two outcomes coincide.
+-- Laws (proved): what the contract of `run` rules out: any two outcomes coincide.
 use Prim.Native.Nat.{ℕ}
 use mathlib.Core.Bool.{true≢false}
 use mathlib.Core.List.{List}
@@ -7,11 +7,11 @@ use Rattle.trace.specs.Trace.{nextAt}
 use Rattle.trace.specs.declared.Next.{Next}
 use Rattle.trace.specs.declared.Next.the-variants.{Packet, Event, Detail, Unknown, Cut, End}
 use Rattle.trace.specs.declared.clock.Clock.{Clock}
-use Rattle.outcome.specs.Outcome.{accepts}
-use Rattle.outcome.specs.OutcomeLaws.{unique}
-use Rattle.outcome.specs.State.{Logs, State}
-use Rattle.calls.specs.DetailLaws.{detail-unique}
-use Rattle.calls.specs.FreshLaws.{fresh-unique}
+use Rattle.call.specs.Outcome.{accepts}
+use Rattle.call.specs.OutcomeLaws.{unique}
+use Rattle.call.specs.State.{Logs, State}
+use Rattle.start.specs.DetailLaws.{detail-unique}
+use Rattle.start.specs.FreshLaws.{fresh-unique}
 use Rattle.run.specs.Run.{Gives, Runs, Ran}
 use Rattle.run.specs.Run.Runs.{ends, stops, goes}
 use Rattle.run.specs.Run.Ran.{wrong, refused, runs}

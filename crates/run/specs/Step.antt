@@ -1,14 +1,14 @@
--- One step of a run, as the code takes it. Only private contracts cite it.
+-- Inner (cited by private contracts alone): one step of a run, as the code takes it. Only private contracts cite it.
 use Prim.Native.Nat.{ℕ, _≤_, _<_}
 use mathlib.Core.Bool.{true, false}
 use mathlib.Core.List.{List}
 use mathlib.Core.Path.{_≡_}
 use lib.ListN.{length}
-use Rattle.tables.specs.declared.Device.{Device}
-use Rattle.judge.specs.declared.Decoder.{Decoder}
+use Rattle.details.specs.declared.Device.{Device}
+use Rattle.record.specs.declared.Decoder.{Decoder}
 use Rattle.trace.specs.declared.clock.Clock.{Clock}
-use Rattle.outcome.specs.Outcome.{accepts}
-use Rattle.outcome.specs.State.{Logs, State, state}
+use Rattle.call.specs.Outcome.{accepts}
+use Rattle.call.specs.State.{Logs, State, state}
 use Rattle.run.specs.Run.{Runs}
 use Rattle.run.specs.declared.Stepped.{Stepped}
 

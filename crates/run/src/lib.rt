@@ -1,13 +1,13 @@
 // A whole trace through the calls (01, "Trace and listing"): its header, a fresh decoder, its records one by one, and finish.
-use calls::detail::detail;
-use calls::fresh::fresh;
+use details::Device;
+use details::fresh_device;
 use events::event;
 use events::finish;
-use judge::Decoder;
-use judge::fresh::refused_decoder;
 use packet::packet;
-use tables::Device;
-use tables::details::fresh_device;
+use record::Decoder;
+use record::fresh::refused_decoder;
+use start::detail::detail;
+use start::fresh::fresh;
 use trace::Cursor;
 use trace::Next;
 use trace::check_header;
@@ -19,7 +19,7 @@ use trace::header_place;
 use trace::next_record;
 ghost use mathlib.Core.Path.{_≡_};
 ghost use Rattle.trace.specs.Clock.{stopped};
-ghost use Rattle.outcome.specs.State.{state, logs};
+ghost use Rattle.call.specs.State.{state, logs};
 ghost use Rattle.run.specs.Run.{Runs, Ran};
 ghost use Rattle.run.specs.Step.{wentWith, overWith, Steps};
 
@@ -41,10 +41,6 @@ struct Stepped {
     decoder: Decoder,
     devices: [Device; 64],
 }
-
-const UNKNOWN: u8 = 12;
-
-const CUT: u8 = 13;
 
 // A record that was called: 0 and 8 let the run go on behind it.
 fn went(
@@ -98,13 +94,13 @@ fn step(
     events: &mut [u64],
     transactions: &mut [u64],
     groups: &mut [u64],
-    marks: &mut [u8],
+    statebytes: &mut [u8],
     states: &mut [u64],
     items: &mut [u64],
     links: &mut [u64],
     requests: &mut [u64],
 ) -> Stepped
-    ensures { λ r. ⌜ Steps (now (trace .entry)) at clock (state d devices (now (table .entry)) (logs (now (bytes .entry)) (now («device_rows» .entry)) (now («endpoint_rows» .entry)) (now (packets .entry)) (now (events .entry)) (now (transactions .entry)) (now (groups .entry)) (now (marks .entry)) (now (states .entry)) (now (items .entry)) (now (links .entry)) (now (requests .entry)))) r (now (table .exit)) (logs (now (bytes .exit)) (now («device_rows» .exit)) (now («endpoint_rows» .exit)) (now (packets .exit)) (now (events .exit)) (now (transactions .exit)) (now (groups .exit)) (now (marks .exit)) (now (states .exit)) (now (items .exit)) (now (links .exit)) (now (requests .exit))) ⌝ }
+    ensures { λ r. ⌜ Steps (now (trace .entry)) at clock (state d devices (now (table .entry)) (logs (now (bytes .entry)) (now («device_rows» .entry)) (now («endpoint_rows» .entry)) (now (packets .entry)) (now (events .entry)) (now (transactions .entry)) (now (groups .entry)) (now (statebytes .entry)) (now (states .entry)) (now (items .entry)) (now (links .entry)) (now (requests .entry)))) r (now (table .exit)) (logs (now (bytes .exit)) (now («device_rows» .exit)) (now («endpoint_rows» .exit)) (now (packets .exit)) (now (events .exit)) (now (transactions .exit)) (now (groups .exit)) (now (statebytes .exit)) (now (states .exit)) (now (items .exit)) (now (links .exit)) (now (requests .exit))) ⌝ }
 {
     let found = next_record(trace, Cursor { at });
     match found {
@@ -128,7 +124,7 @@ fn step(
                 events,
                 transactions,
                 groups,
-                marks,
+                statebytes,
                 states,
                 items,
                 links,
@@ -161,7 +157,7 @@ fn step(
                 events,
                 transactions,
                 groups,
-                marks,
+                statebytes,
                 states,
                 items,
                 links,
@@ -196,7 +192,7 @@ fn step(
                 events,
                 transactions,
                 groups,
-                marks,
+                statebytes,
                 states,
                 items,
                 links,
@@ -207,8 +203,8 @@ fn step(
             let devices = r.devices;
             went(answer, at, next, clock, decoder, devices)
         }
-        Next::Unknown => over(UNKNOWN, at, clock, d, devices),
-        Next::Cut => over(CUT, at, clock, d, devices),
+        Next::Unknown => over(trace::answer(found), at, clock, d, devices),
+        Next::Cut => over(trace::answer(found), at, clock, d, devices),
         Next::End => {
             let r = finish(
                 d,
@@ -221,7 +217,7 @@ fn step(
                 events,
                 transactions,
                 groups,
-                marks,
+                statebytes,
                 states,
                 items,
                 links,
@@ -248,13 +244,13 @@ fn records(
     events: &mut [u64],
     transactions: &mut [u64],
     groups: &mut [u64],
-    marks: &mut [u8],
+    statebytes: &mut [u8],
     states: &mut [u64],
     items: &mut [u64],
     links: &mut [u64],
     requests: &mut [u64],
 ) -> Done
-    ensures { λ r. ⌜ Runs (now (trace .entry)) 5 stopped (state decoder devices (now (table .entry)) (logs (now (bytes .entry)) (now («device_rows» .entry)) (now («endpoint_rows» .entry)) (now (packets .entry)) (now (events .entry)) (now (transactions .entry)) (now (groups .entry)) (now (marks .entry)) (now (states .entry)) (now (items .entry)) (now (links .entry)) (now (requests .entry)))) (r .answer) (r .place) (state (r .decoder) (r .devices) (now (table .exit)) (logs (now (bytes .exit)) (now («device_rows» .exit)) (now («endpoint_rows» .exit)) (now (packets .exit)) (now (events .exit)) (now (transactions .exit)) (now (groups .exit)) (now (marks .exit)) (now (states .exit)) (now (items .exit)) (now (links .exit)) (now (requests .exit)))) ⌝ }
+    ensures { λ r. ⌜ Runs (now (trace .entry)) 5 stopped (state decoder devices (now (table .entry)) (logs (now (bytes .entry)) (now («device_rows» .entry)) (now («endpoint_rows» .entry)) (now (packets .entry)) (now (events .entry)) (now (transactions .entry)) (now (groups .entry)) (now (statebytes .entry)) (now (states .entry)) (now (items .entry)) (now (links .entry)) (now (requests .entry)))) (r .answer) (r .place) (state (r .decoder) (r .devices) (now (table .exit)) (logs (now (bytes .exit)) (now («device_rows» .exit)) (now («endpoint_rows» .exit)) (now (packets .exit)) (now (events .exit)) (now (transactions .exit)) (now (groups .exit)) (now (statebytes .exit)) (now (states .exit)) (now (items .exit)) (now (links .exit)) (now (requests .exit)))) ⌝ }
 {
     let mut decoder = decoder;
     let mut devices = devices;
@@ -276,7 +272,7 @@ fn records(
             events,
             transactions,
             groups,
-            marks,
+            statebytes,
             states,
             items,
             links,
@@ -311,13 +307,13 @@ pub fn run(
     events: &mut [u64],
     transactions: &mut [u64],
     groups: &mut [u64],
-    marks: &mut [u8],
+    statebytes: &mut [u8],
     states: &mut [u64],
     items: &mut [u64],
     links: &mut [u64],
     requests: &mut [u64],
 ) -> Done
-    ensures { λ r. ⌜ Ran (now (trace .entry)) (now (table .entry)) (logs (now (bytes .entry)) (now («device_rows» .entry)) (now («endpoint_rows» .entry)) (now (packets .entry)) (now (events .entry)) (now (transactions .entry)) (now (groups .entry)) (now (marks .entry)) (now (states .entry)) (now (items .entry)) (now (links .entry)) (now (requests .entry))) (r .answer) (r .place) (state (r .decoder) (r .devices) (now (table .exit)) (logs (now (bytes .exit)) (now («device_rows» .exit)) (now («endpoint_rows» .exit)) (now (packets .exit)) (now (events .exit)) (now (transactions .exit)) (now (groups .exit)) (now (marks .exit)) (now (states .exit)) (now (items .exit)) (now (links .exit)) (now (requests .exit)))) ⌝ }
+    ensures { λ r. ⌜ Ran (now (trace .entry)) (now (table .entry)) (logs (now (bytes .entry)) (now («device_rows» .entry)) (now («endpoint_rows» .entry)) (now (packets .entry)) (now (events .entry)) (now (transactions .entry)) (now (groups .entry)) (now (statebytes .entry)) (now (states .entry)) (now (items .entry)) (now (links .entry)) (now (requests .entry))) (r .answer) (r .place) (state (r .decoder) (r .devices) (now (table .exit)) (logs (now (bytes .exit)) (now («device_rows» .exit)) (now («endpoint_rows» .exit)) (now (packets .exit)) (now (events .exit)) (now (transactions .exit)) (now (groups .exit)) (now (statebytes .exit)) (now (states .exit)) (now (items .exit)) (now (links .exit)) (now (requests .exit)))) ⌝ }
 {
     let blank = fresh_device(0);
     let devices = [blank; 64];
@@ -342,7 +338,7 @@ pub fn run(
         events,
         transactions,
         groups,
-        marks,
+        statebytes,
         states,
         items,
         links,
@@ -371,7 +367,7 @@ pub fn run(
         events,
         transactions,
         groups,
-        marks,
+        statebytes,
         states,
         items,
         links,

@@ -7,13 +7,13 @@ use mathlib.Core.Path.{_≡_, refl, sym, ap, subst, _∙_}
 use borrow.Author.Tests.{leb-true, le-leb, lt-leb}
 use lib.Dec.{leb}
 use lib.ListN.{length, take, drop}
-use Rattle.outcome.specs.Outcome.{accepts}
-use Rattle.outcome.specs.State.{Logs, State}
+use Rattle.call.specs.Outcome.{accepts}
+use Rattle.call.specs.State.{Logs, State}
 use Rattle.packet.specs.Call.{PacketCall}
-use Rattle.calls.specs.Fresh.{Makes}
-use Rattle.calls.specs.FreshLaws.{made-on}
-use Rattle.tables.specs.Details.{fresh}
-use Rattle.tables.specs.declared.Device.{Device}
+use Rattle.start.specs.Fresh.{Makes}
+use Rattle.start.specs.FreshLaws.{made-on}
+use Rattle.details.specs.Details.{fresh}
+use Rattle.details.specs.declared.Device.{Device}
 use Rattle.run_c.specs.Run.{lengthAt, endOf, Runs, told, Ran}
 use Rattle.run_c.specs.Run.Runs.{ends, stops, goes}
 
@@ -53,7 +53,7 @@ pub record SameSizes (l l′ : Logs) : Type 0 where
   pub packets : length (l′ .packets) ≡ length (l .packets)
   pub transactions : length (l′ .transactions) ≡ length (l .transactions)
   pub groups : length (l′ .groups) ≡ length (l .groups)
-  pub marks : length (l′ .marks) ≡ length (l .marks)
+  pub statebytes : length (l′ .statebytes) ≡ length (l .statebytes)
   pub states : length (l′ .states) ≡ length (l .states)
   pub items : length (l′ .items) ≡ length (l .items)
   pub links : length (l′ .links) ≡ length (l .links)
@@ -61,7 +61,7 @@ pub record SameSizes (l l′ : Logs) : Type 0 where
 
 pub same-sizes : (l : Logs) → SameSizes l l
 same-sizes l =
-    record { bytes = refl; devices = refl; endpoints = refl; packets = refl; transactions = refl; groups = refl; marks = refl; states = refl; items = refl; links = refl; requests = refl }
+    record { bytes = refl; devices = refl; endpoints = refl; packets = refl; transactions = refl; groups = refl; statebytes = refl; states = refl; items = refl; links = refl; requests = refl }
 
 pub then-sizes : {a b c : Logs} → SameSizes a b → SameSizes b c → SameSizes a c
 then-sizes x y =
@@ -72,7 +72,7 @@ then-sizes x y =
       packets = y .packets ∙ x .packets;
       transactions = y .transactions ∙ x .transactions;
       groups = y .groups ∙ x .groups;
-      marks = y .marks ∙ x .marks;
+      statebytes = y .statebytes ∙ x .statebytes;
       states = y .states ∙ x .states;
       items = y .items ∙ x .items;
       links = y .links ∙ x .links;

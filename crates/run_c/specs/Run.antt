@@ -1,13 +1,14 @@
--- Many packets run by one call: how they stand in the input, and what is left when all have been taken or one is refused.
+-- To be believed: many packets run by one call: how they stand in the input, and what is left when all have been taken or one is refused.
+-- Hold it to: ours: the C entry pivotspark_packets
 use Prim.Native.Nat.{ℕ, _+_, _*_, _-_, _%_}
 use mathlib.Core.Bool.{Bool, true, false, cond}
 use mathlib.Core.List.{List}
 use mathlib.Core.Path.{_≡_}
 use lib.Dec.{leb}
 use lib.ListN.{length, getD, take, drop}
-use Rattle.outcome.specs.Outcome.{accepts}
-use Rattle.outcome.specs.State.{Logs, State}
-use Rattle.calls.specs.Fresh.{Makes, noDevices}
+use Rattle.call.specs.Outcome.{accepts}
+use Rattle.call.specs.State.{Logs, State}
+use Rattle.start.specs.Fresh.{Makes, noDevices}
 use Rattle.packet.specs.Call.{PacketCall}
 
 -- the two bytes in front of a packet, low byte first, are its length

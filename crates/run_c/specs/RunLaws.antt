@@ -1,4 +1,4 @@
--- What the contract of the entry rules out: any two outcomes coincide.
+-- Laws (proved): what the contract of the entry rules out: any two outcomes coincide.
 use Prim.Native.Nat.{ℕ}
 use native.Mathlib.Omega.{arith}
 use mathlib.Core.Bool.{Bool, true, false}
@@ -6,11 +6,11 @@ use mathlib.Core.List.{List}
 use mathlib.Core.Path.{_≡_, refl, sym, ap, subst, _∙_}
 use borrow.Author.Tests.{eqb-true, eqb-false}
 use lib.Dec.{eqb}
-use Rattle.outcome.specs.Outcome.{accepts}
-use Rattle.outcome.specs.OutcomeLaws.{unique}
-use Rattle.outcome.specs.State.{Logs, State}
-use Rattle.calls.specs.Fresh.{Makes}
-use Rattle.calls.specs.FreshLaws.{fresh-unique}
+use Rattle.call.specs.Outcome.{accepts}
+use Rattle.call.specs.OutcomeLaws.{unique}
+use Rattle.call.specs.State.{Logs, State}
+use Rattle.start.specs.Fresh.{Makes}
+use Rattle.start.specs.FreshLaws.{fresh-unique}
 use Rattle.run_c.specs.Run.{endOf, Runs, told, Ran}
 use Rattle.run_c.specs.Run.Runs.{ends, stops, goes}
 

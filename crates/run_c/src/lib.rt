@@ -1,14 +1,14 @@
 // What C and Rust programs call to run many packets: a decoder is made, and takes one packet of the input after the other.
-use calls::fresh::fresh;
-use judge::Decoder;
+use details::Device;
+use details::fresh_device;
 use packet::packet;
-use tables::Device;
-use tables::details::fresh_device;
+use record::Decoder;
+use start::fresh::fresh;
 ghost use mathlib.Core.Path.{_≡_};
 ghost use Prim.Native.Nat.{_+_, _≤_};
 ghost use lib.ListN.{length};
-ghost use Rattle.outcome.specs.Outcome.{accepts};
-ghost use Rattle.outcome.specs.State.{state, logs};
+ghost use Rattle.call.specs.Outcome.{accepts};
+ghost use Rattle.call.specs.State.{state, logs};
 ghost use Rattle.run_c.specs.Run.{lengthAt, endOf, Runs, told, Ran};
 
 // A run's end: how many packets were taken, the last answer, and the decoder.
@@ -78,13 +78,13 @@ fn run(
     events: &[u64],
     transactions: &mut [u64],
     groups: &mut [u64],
-    marks: &mut [u8],
+    statebytes: &mut [u8],
     states: &mut [u64],
     items: &mut [u64],
     links: &mut [u64],
     requests: &mut [u64],
 ) -> Taken
-    ensures { λ r. ⌜ Runs (now (input .entry)) 0 0 (state decoder devices (now (table .entry)) (logs (now (bytes .entry)) (now («device_rows» .entry)) (now («endpoint_rows» .entry)) (now (packets .entry)) (now (events .entry)) (now (transactions .entry)) (now (groups .entry)) (now (marks .entry)) (now (states .entry)) (now (items .entry)) (now (links .entry)) (now (requests .entry)))) (r .count) (r .answer) (state (r .decoder) (r .devices) (now (table .exit)) (logs (now (bytes .exit)) (now («device_rows» .exit)) (now («endpoint_rows» .exit)) (now (packets .exit)) (now (events .entry)) (now (transactions .exit)) (now (groups .exit)) (now (marks .exit)) (now (states .exit)) (now (items .exit)) (now (links .exit)) (now (requests .exit)))) ⌝ }
+    ensures { λ r. ⌜ Runs (now (input .entry)) 0 0 (state decoder devices (now (table .entry)) (logs (now (bytes .entry)) (now («device_rows» .entry)) (now («endpoint_rows» .entry)) (now (packets .entry)) (now (events .entry)) (now (transactions .entry)) (now (groups .entry)) (now (statebytes .entry)) (now (states .entry)) (now (items .entry)) (now (links .entry)) (now (requests .entry)))) (r .count) (r .answer) (state (r .decoder) (r .devices) (now (table .exit)) (logs (now (bytes .exit)) (now («device_rows» .exit)) (now («endpoint_rows» .exit)) (now (packets .exit)) (now (events .entry)) (now (transactions .exit)) (now (groups .exit)) (now (statebytes .exit)) (now (states .exit)) (now (items .exit)) (now (links .exit)) (now (requests .exit)))) ⌝ }
 {
     let mut decoder = decoder;
     let mut devices = devices;
@@ -106,7 +106,7 @@ fn run(
             events,
             transactions,
             groups,
-            marks,
+            statebytes,
             states,
             items,
             links,
@@ -149,13 +149,13 @@ pub extern "C" fn pivotspark_packets(
     events: &[u64],
     transactions: &mut [u64],
     groups: &mut [u64],
-    marks: &mut [u8],
+    statebytes: &mut [u8],
     states: &mut [u64],
     items: &mut [u64],
     links: &mut [u64],
     requests: &mut [u64],
 ) -> u64
-    ensures { λ r. ⌜ Ran (now (input .entry)) (now (table .entry)) (logs (now (bytes .entry)) (now («device_rows» .entry)) (now («endpoint_rows» .entry)) (now (packets .entry)) (now (events .entry)) (now (transactions .entry)) (now (groups .entry)) (now (marks .entry)) (now (states .entry)) (now (items .entry)) (now (links .entry)) (now (requests .entry))) r (now (table .exit)) (logs (now (bytes .exit)) (now («device_rows» .exit)) (now («endpoint_rows» .exit)) (now (packets .exit)) (now (events .entry)) (now (transactions .exit)) (now (groups .exit)) (now (marks .exit)) (now (states .exit)) (now (items .exit)) (now (links .exit)) (now (requests .exit))) ⌝ }
+    ensures { λ r. ⌜ Ran (now (input .entry)) (now (table .entry)) (logs (now (bytes .entry)) (now («device_rows» .entry)) (now («endpoint_rows» .entry)) (now (packets .entry)) (now (events .entry)) (now (transactions .entry)) (now (groups .entry)) (now (statebytes .entry)) (now (states .entry)) (now (items .entry)) (now (links .entry)) (now (requests .entry))) r (now (table .exit)) (logs (now (bytes .exit)) (now («device_rows» .exit)) (now («endpoint_rows» .exit)) (now (packets .exit)) (now (events .entry)) (now (transactions .exit)) (now (groups .exit)) (now (statebytes .exit)) (now (states .exit)) (now (items .exit)) (now (links .exit)) (now (requests .exit))) ⌝ }
 {
     let blank = fresh_device(0);
     let devices = [blank; 64];
@@ -169,7 +169,7 @@ pub extern "C" fn pivotspark_packets(
         events,
         transactions,
         groups,
-        marks,
+        statebytes,
         states,
         items,
         links,
@@ -193,7 +193,7 @@ pub extern "C" fn pivotspark_packets(
         events,
         transactions,
         groups,
-        marks,
+        statebytes,
         states,
         items,
         links,

@@ -19,13 +19,13 @@ use Rattle.transaction.specs.declared.Status.the-variants.{New, Continue, Retry
 use Rattle.transaction.specs.declared.Style.{Style}
 use Rattle.transaction.specs.declared.Style.the-variants.{Nothing as NoStyle, Simple, Split, Token}
 use Rattle.transaction.specs.declared.Transaction.{Transaction}
-use Rattle.tables.specs.DetailsLaws.{type-kept, detail-kept}
-use Rattle.tables.specs.Kind.{Unknown}
-use Rattle.tables.specs.declared.Endpoint.{Endpoint}
-use Rattle.tables.specs.declared.Found.{Found}
-use Rattle.tables.specs.declared.Found.the-variants.{At, Nothing}
-use Rattle.tables.specs.declared.Phase.{Phase}
-use Rattle.tables.specs.declared.Phase.the-variants.{None, Early, Active, Ended}
+use Rattle.details.specs.DetailsLaws.{type-kept, detail-kept}
+use Rattle.details.specs.Kind.{Unknown}
+use Rattle.endpoints.specs.declared.Endpoint.{Endpoint}
+use Rattle.details.specs.declared.Found.{Found}
+use Rattle.details.specs.declared.Found.the-variants.{At, Nothing}
+use Rattle.endpoints.specs.declared.Phase.{Phase}
+use Rattle.endpoints.specs.declared.Phase.the-variants.{None, Early, Active, Ended}
 use Rattle.rules.proofs.Linked.{token-slot, resume-links, extract-links}
 use Rattle.rules.proofs.Seen.{Seen, append-seen}
 use Rattle.rules.proofs.Tokened.{resumes}
@@ -42,7 +42,7 @@ use Rattle.rules.specs.Tokened.{TokenedIn, Tokened}
 use Rattle.rules.specs.declared.EventState.the-variants.{Idle}
 use Rattle.rules.specs.declared.Slot.{Slot}
 use Rattle.rules.specs.declared.Slot.the-variants.{Empty, Current, Suspended}
-use Rattle.judge.specs.Formed.{standing, holds}
+use Rattle.record.specs.Formed.{standing, holds}
 use Rattle.sound.specs.Fit.{linkRows, HeldFit, Fit}
 use Rattle.sound.proofs.FitsTame.{StandsIn, begun, done, spread, one-changed, phased, more-transactions, longer, carries, held-as}
 use Rattle.sound.proofs.FitsGroups.{item-stands, entry-stands, group-stands, link-stands, groupEarlyStart-stands}

@@ -9,16 +9,16 @@ use borrow.Author.Tests.{eq-eqb}
 use lib.Dec.{eqb}
 use Rattle.transaction.specs.Table.{pick}
 use Rattle.transaction.specs.Payload.{startPid}
-use Rattle.tables.specs.Table.{withPhase}
-use Rattle.tables.specs.declared.Endpoint.{Endpoint}
-use Rattle.tables.specs.declared.Phase.{Phase}
-use Rattle.tables.specs.declared.Phase.the-variants.{None, Early, Active, Ended}
+use Rattle.endpoints.specs.Table.{withPhase}
+use Rattle.endpoints.specs.declared.Endpoint.{Endpoint}
+use Rattle.endpoints.specs.declared.Phase.{Phase}
+use Rattle.endpoints.specs.declared.Phase.the-variants.{None, Early, Active, Ended}
 use Rattle.group.specs.declared.GroupStatus.{GroupStatus}
 use Rattle.group.specs.declared.GroupStatus.the-variants.{Single, New, Continue, Retry, Done, Invalid}
 use Rattle.rules.specs.Rows.{Row, ItemRow}
 use Rattle.rules.specs.World.{World, phase, change, cleared, withLast, moreTransactions, moreGroups}
 use Rattle.rules.specs.Groups.{closePhase, closeRow, closeRows, addItem, addGroupEntry, link, linkOnce, pushGroup, over, endActive, addGroup, groupEndAt, groupEnd, activated, activate, groupStartAt, groupStart, groupAppendAt, groupAppend, groupStep, endEarly, startsEarly, groupEarlyStart}
-use Rattle.judge.specs.Formed.{standing}
+use Rattle.record.specs.Formed.{standing}
 use Rattle.sound.specs.Fit.{linkRows}
 use Rattle.sound.proofs.FitsTame.{StandsIn, spread, one-changed, alike, phased, more-transactions, more-groups, then, longer, carries, itemed}
 
@@ -61,7 +61,7 @@ module _ (n : ℕ) (b : Bool) (y : ℕ) where
 
   pub entry-stands : (x : ℕ) (start : Bool) (w : World) → StandsIn n b y w → StandsIn n b y (addGroupEntry x start w)
   entry-stands x start w s =
-      longer (omega arith) (spread (λ j. alike (w .endpoints j) _ refl refl refl refl refl (λ e. e .waiter)) s)
+      longer (omega arith) (spread (λ j. alike (w .endpoints j) _ refl refl refl refl refl (λ e. e .pendinglink)) s)
 
   -- a G row
   pub group-stands : (x i : ℕ) (w : World) → StandsIn n b y w → StandsIn n b y (pushGroup x i w)
@@ -126,7 +126,7 @@ module _ (n y : ℕ) (real : ¬ (y ≡ 0)) where
 
   active-stands : (done : Bool) (w : World) → 0 < w .endpoints y .groups → In w → In (activate done y w)
   active-stands done w h s =
-      spread (one-changed y (activated done (startPid (w .transaction .style))) (w .endpoints) (le-refl _) (then (phased (w .endpoints y) Active (λ z. absurd (real z)) (λ e q. h)) (alike (withPhase Active (w .endpoints y)) _ refl refl refl refl refl (λ e. e .waiter)))) s
+      spread (one-changed y (activated done (startPid (w .transaction .style))) (w .endpoints) (le-refl _) (then (phased (w .endpoints y) Active (λ z. absurd (real z)) (λ e q. h)) (alike (withPhase Active (w .endpoints y)) _ refl refl refl refl refl (λ e. e .pendinglink)))) s
 
   -- ---- group_start, group_append, group_end, group_update
 
@@ -143,7 +143,7 @@ module _ (n y : ℕ) (real : ¬ (y ≡ 0)) where
   groupStart-stands done w s = groupStartAt-stands (phase y w) done w refl s
 
   last-stands : (done : Bool) (w : World) → In w → In (pick done (change y (withLast (startPid (w .transaction .style))) w) w)
-  last-stands true w s = spread (one-changed y (withLast (startPid (w .transaction .style))) (w .endpoints) (le-refl _) (alike (w .endpoints y) _ refl refl refl refl refl (λ e. e .waiter))) s
+  last-stands true w s = spread (one-changed y (withLast (startPid (w .transaction .style))) (w .endpoints) (le-refl _) (alike (w .endpoints y) _ refl refl refl refl refl (λ e. e .pendinglink))) s
   last-stands false w s = s
 
   groupAppendAt-stands : (p : Phase) (done : Bool) (w : World) → In w → In (groupAppendAt p done y w)
@@ -171,7 +171,7 @@ module _ (n y : ℕ) (real : ¬ (y ≡ 0)) where
 
   groupEnd-stands : (w : World) → In w → In (groupEnd y w)
   groupEnd-stands w s =
-      groupEndAt-stands (phase y w) (change y cleared w) (ap standing (cleared-phase (eqb y y) (w .endpoints y))) (spread (one-changed y cleared (w .endpoints) (le-refl _) (alike (w .endpoints y) _ refl refl refl refl refl (λ e. e .waiter))) s)
+      groupEndAt-stands (phase y w) (change y cleared w) (ap standing (cleared-phase (eqb y y) (w .endpoints y))) (spread (one-changed y cleared (w .endpoints) (le-refl _) (alike (w .endpoints y) _ refl refl refl refl refl (λ e. e .pendinglink))) s)
 
   pub groupStep-stands : (g : GroupStatus) (w : World) → In w → In (groupStep g y w)
   groupStep-stands Single w s = groupEnd-stands (groupStart true y w) (groupStart-stands true w s)

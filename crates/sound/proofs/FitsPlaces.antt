@@ -11,15 +11,16 @@ use lib.Dec.{eqb}
 use Rattle.usb.specs.Fields.{tokenOf}
 use Rattle.transaction.specs.Table.{pick}
 use Rattle.transaction.specs.declared.Transaction.{Transaction}
-use Rattle.tables.specs.SearchLaws.{Last, last-is}
-use Rattle.tables.specs.declared.Device.{Device}
-use Rattle.tables.specs.declared.Endpoint.{Endpoint}
-use Rattle.tables.specs.declared.Found.{Found}
-use Rattle.tables.specs.declared.Found.the-variants.{At, Nothing}
+use Rattle.details.specs.SearchLaws.{Last, last-is}
+use Rattle.details.specs.declared.Device.{Device}
+use Rattle.endpoints.specs.declared.Endpoint.{Endpoint}
+use Rattle.details.specs.declared.Found.{Found}
+use Rattle.details.specs.declared.Found.the-variants.{At, Nothing}
 use Rattle.rules.proofs.Moves.{Spot, found-spot}
-use Rattle.rules.specs.World.{World, noItem, changeDevice, newEndpoint}
+use Rattle.rules.specs.World.{World, noItem, changeDevice}
+use Rattle.endpoints.specs.Table.{newEndpoint}
 use Rattle.rules.specs.Endpoints.{addDevice, deviceFor, pushEndpoint, addEndpointOn, addressFor, found, packetEndpointAt, packetEndpoint, numberAt, endpointOf}
-use Rattle.judge.specs.FormedLaws.{Special}
+use Rattle.record.specs.FormedLaws.{Special}
 use Rattle.sound.specs.Fit.{EntryFit}
 use Rattle.sound.proofs.FitsTame.{Stands, StandsIn, longer, deviced}
 use Rattle.sound.proofs.FitsUpdate.{device-stands}
@@ -28,7 +29,7 @@ use Rattle.sound.proofs.FitsUpdate.{device-stands}
 
 new-fits : (k d m a : ℕ) → m < d → EntryFit k d (newEndpoint m a)
 new-fits k d m a h =
-    record { transactions = omega arith; groups = omega arith; device = h; waiter = λ q. absurd (true≢false (sym q)); group = λ q. absurd (true≢false (sym q)) }
+    record { transactions = omega arith; groups = omega arith; device = h; pendinglink = λ q. absurd (true≢false (sym q)); group = λ q. absurd (true≢false (sym q)) }
 
 module _ (f : ℕ → Endpoint) (c : ℕ) (e : Endpoint) where
   abbrev extended : ℕ → Endpoint

@@ -9,12 +9,12 @@ use borrow.Author.Tests.{eqb-true}
 use lib.Dec.{eqb}
 use Rattle.transaction.specs.Table.{pick}
 use Rattle.transaction.specs.declared.Transaction.{Transaction}
-use Rattle.tables.specs.Table.{withPhase}
-use Rattle.tables.specs.declared.Endpoint.{Endpoint}
-use Rattle.tables.specs.declared.Phase.{Phase}
+use Rattle.endpoints.specs.Table.{withPhase}
+use Rattle.endpoints.specs.declared.Endpoint.{Endpoint}
+use Rattle.endpoints.specs.declared.Phase.{Phase}
 use Rattle.rules.specs.World.{World, noItem, moreTransactions, moreGroups}
-use Rattle.judge.specs.Formed.{standing, holds}
-use Rattle.judge.specs.FormedLaws.{Special}
+use Rattle.record.specs.Formed.{standing, holds}
+use Rattle.record.specs.FormedLaws.{Special}
 use Rattle.sound.specs.Fit.{linkRows, EntryFit, HeldFit, Fit}
 
 -- Fit, of c endpoints f, d devices, the first at a, r transaction rows, i items with the last on l, and k link rows. The transaction t is on y;
@@ -58,7 +58,7 @@ pub record Tame (j k k′ d : ℕ) (a b : Endpoint) : Type 0 where
 
 pub wider : {k k′ d d′ : ℕ} {e : Endpoint} → k ≤ k′ → d ≤ d′ → EntryFit k d e → EntryFit k′ d′ e
 wider h g e =
-    record { transactions = omega (arith, e .transactions); groups = omega (arith, e .groups); device = omega (arith, e .device); waiter = e .waiter; group = e .group }
+    record { transactions = omega (arith, e .transactions); groups = omega (arith, e .groups); device = omega (arith, e .device); pendinglink = e .pendinglink; group = e .group }
 
 pub same : {j k k′ d : ℕ} {a : Endpoint} → k ≤ k′ → Tame j k k′ d a a
 same {a = a} h = record { device = refl; address = refl; more = le-refl (a .transactions); rests = λ z q. q; fits = wider h (le-refl _) }
@@ -95,22 +95,22 @@ one-changed x h f {k} {k′} {d} le at j = by (eqb j x) refl
 
 module _ {j k d : ℕ} (a : Endpoint) where
   -- nothing that it speaks of but what waits
-  pub alike : (b : Endpoint) → b .device ≡ a .device → b .address ≡ a .address → b .phase ≡ a .phase → b .transactions ≡ a .transactions → b .groups ≡ a .groups → (EntryFit k d a → b .waits ≡ true → b .waiter < b .transactions) → Tame j k k d a b
+  pub alike : (b : Endpoint) → b .device ≡ a .device → b .address ≡ a .address → b .phase ≡ a .phase → b .transactions ≡ a .transactions → b .groups ≡ a .groups → (EntryFit k d a → b .pending ≡ true → b .pendinglink < b .transactions) → Tame j k k d a b
   alike b hd ha hp ht hg hw =
-      record { device = hd; address = ha; more = omega arith; rests = λ z q. ap standing hp ∙ q; fits = λ e. record { transactions = omega (arith, e .transactions); groups = omega (arith, e .groups); device = omega (arith, e .device); waiter = hw e; group = λ q. omega (arith, e .group (sym (ap standing hp) ∙ q)) } }
+      record { device = hd; address = ha; more = omega arith; rests = λ z q. ap standing hp ∙ q; fits = λ e. record { transactions = omega (arith, e .transactions); groups = omega (arith, e .groups); device = omega (arith, e .device); pendinglink = hw e; group = λ q. omega (arith, e .group (sym (ap standing hp) ∙ q)) } }
 
   -- another phase: one that stands only where there is a group, and at the event endpoint only where one stood
   pub phased : (p : Phase) → (j ≡ 0 → standing (a .phase) ≡ false → standing p ≡ false) → (EntryFit k d a → standing p ≡ true → 0 < a .groups) → Tame j k k d a (withPhase p a)
   phased p z g =
-      record { device = refl; address = refl; more = le-refl _; rests = z; fits = λ e. record { transactions = e .transactions; groups = e .groups; device = e .device; waiter = e .waiter; group = g e } }
+      record { device = refl; address = refl; more = le-refl _; rests = z; fits = λ e. record { transactions = e .transactions; groups = e .groups; device = e .device; pendinglink = e .pendinglink; group = g e } }
 
   pub more-transactions : Tame j k (suc k) d a (moreTransactions a)
   more-transactions =
-      record { device = refl; address = refl; more = omega arith; rests = λ z q. q; fits = λ e. record { transactions = omega (arith, e .transactions); groups = omega (arith, e .groups); device = e .device; waiter = λ q. omega (arith, e .waiter q); group = e .group } }
+      record { device = refl; address = refl; more = omega arith; rests = λ z q. q; fits = λ e. record { transactions = omega (arith, e .transactions); groups = omega (arith, e .groups); device = e .device; pendinglink = λ q. omega (arith, e .pendinglink q); group = e .group } }
 
   pub more-groups : Tame j k (suc k) d a (moreGroups a)
   more-groups =
-      record { device = refl; address = refl; more = le-refl _; rests = λ z q. q; fits = λ e. record { transactions = omega (arith, e .transactions); groups = omega (arith, e .groups); device = e .device; waiter = e .waiter; group = λ q. omega arith } }
+      record { device = refl; address = refl; more = le-refl _; rests = λ z q. q; fits = λ e. record { transactions = omega (arith, e .transactions); groups = omega (arith, e .groups); device = e .device; pendinglink = e .pendinglink; group = λ q. omega arith } }
 
 pub then : {j k k′ k″ d : ℕ} {a b c : Endpoint} → Tame j k k′ d a b → Tame j k′ k″ d b c → Tame j k k″ d a c
 then g h = record { device = h .device ∙ g .device; address = h .address ∙ g .address; more = omega (arith, g .more, h .more); rests = λ z q. h .rests z (g .rests z q); fits = λ e. h .fits (g .fits e) }

@@ -10,11 +10,11 @@ use Rattle.usb.specs.Pid.{OUT}
 use Rattle.transaction.specs.Payload.{startPid}
 use Rattle.transaction.specs.Table.{pick}
 use Rattle.transaction.specs.declared.Transaction.{Transaction}
-use Rattle.tables.specs.Details.{fresh}
-use Rattle.tables.specs.declared.Device.{Device}
-use Rattle.tables.specs.declared.Endpoint.{Endpoint}
-use Rattle.tables.specs.declared.Phase.{Phase}
-use Rattle.tables.specs.declared.Phase.the-variants.{None, Early, Active, Ended}
+use Rattle.details.specs.Details.{fresh}
+use Rattle.details.specs.declared.Device.{Device}
+use Rattle.endpoints.specs.declared.Endpoint.{Endpoint}
+use Rattle.endpoints.specs.declared.Phase.{Phase}
+use Rattle.endpoints.specs.declared.Phase.the-variants.{None, Early, Active, Ended}
 use Rattle.group.proofs.Laws.{group-keeps}
 use Rattle.group.specs.declared.Effect.{Effect}
 use Rattle.group.specs.declared.Effect.the-variants.{NoEffect, NewDevice, Request, PendingData, IndexData}
@@ -107,7 +107,7 @@ module _ (n y : ℕ) (real : ¬ (y ≡ 0)) where
   effect-stands (PendingData m) w h s =
       spread (one-changed y (withPending m (w .transaction .link)) (w .endpoints) (le-refl _) (alike (w .endpoints y) _ refl refl refl refl refl (λ e q. linked-below w s (h refl)))) s
   effect-stands (IndexData m v i) w h s =
-      longer (omega arith) (spread (one-changed y (withTotal (w .endpoints y .total + m)) (w .endpoints) (le-refl _) (alike (w .endpoints y) _ refl refl refl refl refl (λ e. e .waiter))) s)
+      longer (omega arith) (spread (one-changed y (withTotal (w .endpoints y .total + m)) (w .endpoints) (le-refl _) (alike (w .endpoints y) _ refl refl refl refl refl (λ e. e .pendinglink))) s)
 
   -- ---- group_update
 
@@ -138,7 +138,7 @@ module _ (n y : ℕ) (real : ¬ (y ≡ 0)) where
       changed : StandsIn n true y u
       changed =
           let h = group-keeps (w .endpoints y) (w .transaction) (detailOf y w) s k in
-          spread (one-changed y (becomes (r .endpoint)) (w .endpoints) (le-refl _) (alike (w .endpoints y) (r .endpoint) (h .device) (h .address) (h .phase) (h .transactions) (h .groups) (λ e q. absurd (true≢false (sym q ∙ h .waits))))) l
+          spread (one-changed y (becomes (r .endpoint)) (w .endpoints) (le-refl _) (alike (w .endpoints y) (r .endpoint) (h .device) (h .address) (h .phase) (h .transactions) (h .groups) (λ e q. absurd (true≢false (sym q ∙ h .pending))))) l
 
       linked : pends (r .effect) ≡ true → v .transaction .linked ≡ true
       linked h =

@@ -19,8 +19,8 @@ use Rattle.transaction.specs.declared.Status.{Status}
 use Rattle.transaction.specs.declared.Status.the-variants.{New, Continue, Retry, Done, Fail, Ambiguous, Invalid}
 use Rattle.transaction.specs.declared.Style.the-variants.{Split}
 use Rattle.transaction.specs.declared.Transaction.{Transaction}
-use Rattle.tables.specs.declared.Detail.{Detail}
-use Rattle.tables.specs.declared.Endpoint.{Endpoint}
+use Rattle.details.specs.declared.Detail.{Detail}
+use Rattle.endpoints.specs.declared.Endpoint.{Endpoint}
 use Rattle.group.specs.Control.{stageOf, isSetAddress, atStage, controlGroup, setupGroup}
 use Rattle.group.specs.Data.{beginGroup, repeatGroup, otherRows, otherGroup}
 use Rattle.group.specs.Group.{groupRows, groupStatus}
@@ -33,8 +33,8 @@ use Rattle.group.specs.declared.GroupStatus.the-variants.{Invalid as Wrong}
 use Rattle.group.specs.declared.control.Stage.{Stage}
 use Rattle.group.specs.declared.control.Stage.the-variants.{Data, Status as Closing, Ping, Wrong as Bad}
 use Rattle.group.specs.declared.step.Step.{Step}
-use Rattle.judge.specs.Bools.{both, neither}
-use Rattle.steps.proofs.Quiet.{no-effect}
+use Rattle.record.specs.Bools.{both, neither}
+use Rattle.plan.proofs.Quiet.{no-effect}
 
 -- ---- group_status: a payload waits
 

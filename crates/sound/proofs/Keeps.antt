@@ -8,10 +8,10 @@ use mathlib.Core.List.{List}
 use borrow.Author.Tests.{eqb-true}
 use lib.Dec.{eqb}
 use lib.ListN.{length}
-use Rattle.tables.specs.Details.{fresh}
-use Rattle.tables.specs.declared.Device.{Device}
-use Rattle.tables.specs.declared.Found.{Found}
-use Rattle.tables.specs.declared.Found.the-variants.{At, Nothing}
+use Rattle.details.specs.Details.{fresh}
+use Rattle.details.specs.declared.Device.{Device}
+use Rattle.details.specs.declared.Found.{Found}
+use Rattle.details.specs.declared.Found.the-variants.{At, Nothing}
 use Rattle.rules.specs.Decoder as rules
 use Rattle.rules.specs.Decoder.{handleDetail}
 use Rattle.rules.specs.Demand.{Call, packet, event, detail, finishing, call}
@@ -20,19 +20,19 @@ use Rattle.rules.specs.Tokened.{Tokened}
 use Rattle.rules.specs.World.{World, withDevices}
 use Rattle.rules.proofs.Linked.{linked-after}
 use Rattle.rules.proofs.Tokened.{tokened-after}
-use Rattle.judge.specs.Answers.{Tests, firstOf, detailTests}
-use Rattle.judge.specs.AnswersLaws.{Passed, accepted, answer-8}
-use Rattle.judge.specs.Bools.{either-true}
-use Rattle.judge.specs.Room.{fitting}
-use Rattle.judge.specs.RoomLaws.{Within, within}
-use Rattle.judge.specs.World.{Agrees}
-use Rattle.judge.specs.declared.Counts.{Counts}
-use Rattle.outcome.specs.Outcome.{isIll, isFull, countsAfter, Answers, accepts, worldAt}
-use Rattle.outcome.specs.OutcomeLaws.{not-true, sound}
-use Rattle.outcome.specs.State.{Logs, State, roomOf}
-use Rattle.calls.specs.Detail.{Details}
-use Rattle.calls.specs.Fresh.{Makes}
-use Rattle.calls.specs.FreshLaws.{fresh-well, fresh-stands}
+use Rattle.record.specs.Answers.{Tests, firstOf, detailTests}
+use Rattle.record.specs.AnswersLaws.{Passed, accepted, answer-8}
+use Rattle.record.specs.Bools.{either-true}
+use Rattle.record.specs.Room.{fitting}
+use Rattle.record.specs.RoomLaws.{Within, within}
+use Rattle.record.specs.FreshLaws.{Agrees}
+use Rattle.record.specs.declared.Counts.{Counts}
+use Rattle.call.specs.Outcome.{isIll, isFull, countsAfter, Answers, accepts, worldAt}
+use Rattle.call.specs.OutcomeLaws.{not-true, sound}
+use Rattle.call.specs.State.{Logs, State, roomOf}
+use Rattle.start.specs.Detail.{Details}
+use Rattle.start.specs.Fresh.{Makes}
+use Rattle.start.specs.FreshLaws.{fresh-well, fresh-stands}
 use Rattle.packet.specs.Call.{PacketCall, testsOf}
 use Rattle.events.specs.Call.{EventCall, eventTestsOf, FinishCall, finishTestsOf}
 use Rattle.sound.specs.Fit.{Fit, Paid}
@@ -69,7 +69,7 @@ still s f room w =
       events = omega (arith, w .events);
       transactions = w .transactions;
       groups = w .groups;
-      marks = w .marks;
+      statebytes = w .statebytes;
       states = omega (arith, w .states);
       items = w .items;
       links = omega (arith, w .links);

@@ -19,11 +19,12 @@ use Rattle.transaction.specs.declared.Status.the-variants.{New, Continue, Retry
 use Rattle.transaction.specs.declared.Style.{Style}
 use Rattle.transaction.specs.declared.Style.the-variants.{Nothing as NoStyle, Simple, Split, Token}
 use Rattle.transaction.specs.declared.Transaction.{Transaction}
-use Rattle.tables.specs.Kind.{Unknown}
-use Rattle.tables.specs.declared.Found.{Found}
-use Rattle.tables.specs.declared.Found.the-variants.{At, Nothing}
+use Rattle.details.specs.Kind.{Unknown}
+use Rattle.details.specs.declared.Found.{Found}
+use Rattle.details.specs.declared.Found.the-variants.{At, Nothing}
 use Rattle.rules.specs.Rows.{EventRow}
-use Rattle.rules.specs.World.{World, eventEp, push, withSlot, withTransaction, withEventState, withKeepalive, moreTransactions, moreGroups, withId, withPid, newTransaction, newEndpoint}
+use Rattle.rules.specs.World.{World, eventEp, push, withSlot, withTransaction, withEventState, withKeepalive, moreTransactions, moreGroups, withId, withPid, newTransaction}
+use Rattle.endpoints.specs.Table.{newEndpoint}
 use Rattle.rules.specs.Endpoints.{addDevice, deviceFor, pushEndpoint, addEndpointOn, found, packetEndpointAt, packetEndpoint, endpointOf, setDetailOn}
 use Rattle.rules.specs.Transactions.{transactionEnd, appendToken, transactionAppend, pushTransaction, begin, typeOf, beginOn, beginSplit, beginPlain, transactionStart, resumeAt, stateAt, completes, extracted, updateAt, updateFrom, isDropped, transactionUpdate}
 use Rattle.rules.specs.Events.{eventLink, eventSubgroupStart, eventAddGroup, Act, nothing, single, group, subgroup, keepalive, turnOf, eventAct, eventUpdate}
@@ -35,7 +36,7 @@ use Rattle.rules.specs.declared.Slot.the-variants.{Empty, Current, Suspended}
 use Rattle.rules.specs.declared.EventState.the-variants.{Idle}
 use Rattle.rules.proofs.Seen.{Seen, packet-seen, extract-seen}
 use Rattle.rules.proofs.Tokened.{carried, resumes}
-use Rattle.judge.specs.Formed.{holds}
+use Rattle.record.specs.Formed.{holds}
 use Rattle.sound.specs.Fit.{inHand, brings, Paid}
 use Rattle.sound.proofs.PaysGroups.{purse, Spare, Less, level, then, spared, paid-less, changes, link-spares, start-spares, append-spares, end-pays}
 

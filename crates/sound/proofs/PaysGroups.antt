@@ -9,10 +9,10 @@ use lib.Dec.{eqb}
 use Rattle.transaction.specs.Table.{pick}
 use Rattle.transaction.specs.Payload.{startPid}
 use Rattle.transaction.specs.declared.Transaction.{Transaction}
-use Rattle.tables.specs.Table.{withPhase}
-use Rattle.tables.specs.declared.Detail.{Detail}
-use Rattle.tables.specs.declared.Endpoint.{Endpoint}
-use Rattle.tables.specs.declared.Phase.the-variants.{Early, Ended}
+use Rattle.endpoints.specs.Table.{withPhase}
+use Rattle.details.specs.declared.Detail.{Detail}
+use Rattle.endpoints.specs.declared.Endpoint.{Endpoint}
+use Rattle.endpoints.specs.declared.Phase.the-variants.{Early, Ended}
 use Rattle.group.specs.Step.{payload}
 use Rattle.group.specs.Group.{groupStatus}
 use Rattle.group.specs.declared.Effect.{Effect}
@@ -31,7 +31,7 @@ use Rattle.update.specs.declared.Update.{Update}
 use Rattle.update.specs.declared.Then.{Then}
 use Rattle.update.specs.declared.Then.the-variants.{Keep, Begin, BeginFailed, Last, BeginEarly}
 use Rattle.update.proofs.Decided.{update-is, early-start-is, early-append-is}
-use Rattle.steps.proofs.Frame.{Parts, by-parts}
+use Rattle.plan.proofs.Frame.{Parts, by-parts}
 use Rattle.sound.specs.Fit.{inHand, brings, Paid}
 
 -- ---- what Paid goes by
@@ -147,8 +147,8 @@ status-hand : (e : Endpoint) (t : Transaction) (d : Detail) (success complete : 
 status-hand e t d success complete =
     let g = groupStatus e t d success complete in
     let k = group-keeps e t d success complete in
-    let none : pick (g .endpoint .waits) (g .endpoint .waiting) 0 ≡ 0 = rw (k .waits) in
-    omega (arith, none, k .payload, taken-le (t .filled) (e .waits) (t .payload) (e .waiting) (e .waiter))
+    let none : pick (g .endpoint .pending) (g .endpoint .pendinglength) 0 ≡ 0 = rw (k .pending) in
+    omega (arith, none, k .payload, taken-le (t .filled) (e .pending) (t .payload) (e .pendinglength) (e .pendinglink))
 
 -- n more in hand at x
 abbrev more : ℕ → ℕ → Purse → Purse

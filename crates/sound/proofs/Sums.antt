@@ -6,15 +6,15 @@ use mathlib.Core.Bool.{Bool, true, false, not, _&&_, _||_, false≢true, true≢
 use mathlib.Core.List.{List}
 use lib.Dec.{eqb}
 use Rattle.transaction.specs.Table.{pick}
-use Rattle.tables.specs.Table.{entryAt}
-use Rattle.tables.specs.declared.Device.{Device}
-use Rattle.judge.specs.Bools.{both}
-use Rattle.judge.specs.Formed.{every, wellFormed, holds}
-use Rattle.judge.specs.FormedLaws.{WellFormed}
-use Rattle.judge.specs.Room.{long}
-use Rattle.judge.specs.declared.Counts.{Counts}
-use Rattle.judge.specs.declared.Decoder.{Decoder}
-use Rattle.outcome.specs.OutcomeLaws.{sound-by}
+use Rattle.endpoints.specs.Table.{entryAt}
+use Rattle.details.specs.declared.Device.{Device}
+use Rattle.record.specs.Bools.{both}
+use Rattle.record.specs.Formed.{every, wellFormed, holds}
+use Rattle.record.specs.FormedLaws.{WellFormed}
+use Rattle.record.specs.Room.{long}
+use Rattle.record.specs.declared.Counts.{Counts}
+use Rattle.record.specs.declared.Decoder.{Decoder}
+use Rattle.call.specs.OutcomeLaws.{sound-by}
 use Rattle.sound.specs.Sound.{isPaid, soundIn, Summable}
 
 -- a choice that is small where it is made
@@ -36,9 +36,9 @@ module _ (d : Decoder) (v : List Device) (t : List ℕ) (room : Counts) where
   summable h i u =
       let g = sound-by d v t room h in
       let e = g .0 .endpoints i u .entry in
-      let waits = small (entryAt t i .waits) (entryAt t i .waiting) (d .counts .bytes) (e .waiting) in
+      let pends = small (entryAt t i .pending) (entryAt t i .pendinglength) (d .counts .bytes) (e .pendinglength) in
       let own = small _ _ (d .counts .bytes) (held (g .0)) in
-      omega (arith, e .payload, waits, own, g .0 .counts .bytes, g .1 .bytes)
+      omega (arith, e .payload, pends, own, g .0 .counts .bytes, g .1 .bytes)
     where
       held : WellFormed d v t room → (holds (d .slot) && (d .transaction .filled && (eqb (d .transaction .endpoint) 0 || eqb (d .transaction .endpoint) i))) ≡ true → d .transaction .payload ≤ d .counts .bytes
       held w q =

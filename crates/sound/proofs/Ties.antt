@@ -9,33 +9,32 @@ use borrow.Author.Tests.{ltb-true, lt-ltb, leb-true, le-leb, eqb-true, eqb-false
 use lib.Dec.{eqb, ltb}
 use lib.ListN.{length, length-append}
 use lib.Seq.{length-sets}
-use Rattle.rows.specs.Sets.{one}
+use Rattle.rows.specs.One.{one}
 use Rattle.transaction.specs.Table.{pick}
 use Rattle.transaction.specs.declared.Style.{Style}
 use Rattle.transaction.specs.declared.Style.the-variants.{Nothing, Simple, Split, Token}
 use Rattle.transaction.specs.declared.Transaction.{Transaction}
-use Rattle.tables.specs.Phases.{count, waiting}
-use Rattle.tables.specs.PhasesLaws.{count-ext}
-use Rattle.tables.specs.Table.{entryAt}
-use Rattle.tables.specs.declared.Device.{Device}
-use Rattle.tables.specs.declared.Endpoint.{Endpoint}
-use Rattle.tables.specs.declared.Phase.{Phase}
-use Rattle.tables.specs.declared.Phase.the-variants.{None, Early, Active, Ended}
+use Rattle.endpoints.specs.Phases.{count, waiting}
+use Rattle.endpoints.specs.PhasesLaws.{count-ext}
+use Rattle.endpoints.specs.Table.{entryAt}
+use Rattle.details.specs.declared.Device.{Device}
+use Rattle.endpoints.specs.declared.Endpoint.{Endpoint}
+use Rattle.endpoints.specs.declared.Phase.{Phase}
+use Rattle.endpoints.specs.declared.Phase.the-variants.{None, Early, Active, Ended}
 use Rattle.rules.specs.Linked.{excused, linkedAt, LinkedIn, Linked}
 use Rattle.rules.specs.Rows.{Row, BytesRow, DeviceRow, EndpointRow, PacketRow, EventRow, TransactionRow, GroupRow, StateRow, StateBytes, ItemRow, T, G, D, E, RequestRow, Over, written, log}
 use Rattle.rules.specs.Tokened.{TokenedAt, TokenedIn, Tokened}
-use Rattle.rules.specs.World.{World}
+use Rattle.rules.specs.World.{World, isEnded, endedIn, waitingOf}
 use Rattle.rules.specs.declared.Slot.{Slot}
 use Rattle.rules.specs.declared.Slot.the-variants.{Empty, Current, Suspended}
-use Rattle.update.specs.Tally.{isEnded, endedIn, waitingOf}
-use Rattle.judge.specs.Bools.{both, and, nor, or-right, every-at, every-true}
-use Rattle.judge.specs.Formed.{standing, heldStyle, mayLack, holds, every}
-use Rattle.judge.specs.FormedLaws.{EntryFormed, HeldFormed, Special, resting, WellFormed, well-formed}
-use Rattle.judge.specs.RoomLaws.{Within, Short, long-short}
-use Rattle.judge.specs.declared.Counts.{Counts}
-use Rattle.outcome.specs.Outcome.{isIll, countsAfter, Appends, decoderOf, Left, worldAt}
-use Rattle.outcome.specs.OutcomeLaws.{sound, waiting-entries}
-use Rattle.outcome.specs.State.{Logs, State, state, roomOf}
+use Rattle.record.specs.Bools.{both, and, nor, or-right, every-at, every-true}
+use Rattle.record.specs.Formed.{standing, heldStyle, mayLack, holds, every}
+use Rattle.record.specs.FormedLaws.{EntryFormed, HeldFormed, Special, resting, WellFormed, well-formed}
+use Rattle.record.specs.RoomLaws.{Within, Short, long-short}
+use Rattle.record.specs.declared.Counts.{Counts}
+use Rattle.call.specs.Outcome.{isIll, countsAfter, Appends, decoderOf, Left, worldAt}
+use Rattle.call.specs.OutcomeLaws.{sound, waiting-entries}
+use Rattle.call.specs.State.{Logs, State, state, roomOf}
 use Rattle.sound.specs.Fit.{linkRows, Fit, inHand, brings, Paid}
 use Rattle.sound.specs.Sound.{isPaid, soundIn, isSound}
 
@@ -102,7 +101,7 @@ module _ (s : State) (h : isSound s ≡ true) where
         rests = ap standing (well .rests);
         entries =
             λ i u. let e = well .endpoints i u .entry in
-            record { transactions = omega (arith, e .transactions); groups = omega (arith, e .groups); device = e .device; waiter = e .waiter; group = e .group };
+            record { transactions = omega (arith, e .transactions); groups = omega (arith, e .groups); device = e .device; pendinglink = e .pendinglink; group = e .group };
         held = λ q. let t = well .held q in record { endpoint = t .endpoint; id = t .id; link = t .link };
         last = well .last;
       }
@@ -147,8 +146,8 @@ row-words (DeviceRow a) = refl
 row-words (EndpointRow d n r) = refl
 row-words (PacketRow s t) = refl
 row-words (EventRow p c) = refl
-row-words (TransactionRow p) = refl
-row-words (GroupRow x g s) = refl
+row-words (TransactionRow r) = refl
+row-words (GroupRow r) = refl
 row-words (StateRow s) = refl
 row-words (StateBytes ss) = refl
 row-words (ItemRow g) = refl
@@ -156,7 +155,7 @@ row-words (T x t) = refl
 row-words (G x t) = refl
 row-words (D x t n) = refl
 row-words (E x i) = refl
-row-words (RequestRow x s n) = refl
+row-words (RequestRow r) = refl
 row-words (Over x k) = refl
 
 link-words : (js : List Row) → length (log 10 js) ≡ linkRows js * 4
@@ -174,7 +173,7 @@ brings-own z t q fl = let e = eq-eqb (t .endpoint) (t .endpoint) refl in all (ho
     all false b c d x y z = absurd (false≢true x)
 
 -- a payload that waits is part of what is in hand
-waits-by : (e : Endpoint) (m k : ℕ) → e .waits ≡ true → inHand e + k ≤ m → e .waiting ≤ m
+waits-by : (e : Endpoint) (m k : ℕ) → e .pending ≡ true → inHand e + k ≤ m → e .pendinglength ≤ m
 waits-by e m k q h = let p = rw q at h in omega arith
 
 -- n rows stood before a call that leaves the world w: its endpoints and its transaction, by the counts after it
@@ -189,9 +188,9 @@ module _ (n : Counts) (w : World) (fit : Fit (n .links) w) (paid : Paid w) where
         transactions = omega (arith, e .transactions, l);
         groups = omega (arith, e .groups, l);
         device = e .device;
-        waiter = e .waiter;
+        pendinglink = e .pendinglink;
         payload = omega (arith, p);
-        waiting = λ q. waits-by (w .endpoints i) (w .bytes) (brings (w .slot) (w .transaction) i) q p;
+        pendinglength = λ q. waits-by (w .endpoints i) (w .bytes) (brings (w .slot) (w .transaction) i) q p;
         group = e .group;
       }
 
@@ -217,7 +216,7 @@ module _ (n : Counts) (w : World) (fit : Fit (n .links) w) (paid : Paid w) where
 -- the rows leave every log as long as it was
 same-room : (w : World) (n : Counts) (l l′ : Logs) → Appends w n l l′ → roomOf l′ ≡ roomOf l
 same-room w n l l′ a =
-    rw (a .bytes, a .devices, a .endpoints, a .packets, a .events, a .transactions, a .groups, a .marks, a .states, a .items, a .links, a .requests) (simp length-sets)
+    rw (a .bytes, a .devices, a .endpoints, a .packets, a .events, a .transactions, a .groups, a .statebytes, a .states, a .items, a .links, a .requests) (simp length-sets)
 
 -- as many endpoints wait by the table as by the world
 same-waiting : (w : World) (t : List ℕ) → ((i : ℕ) → i < w .count → entryAt t i ≡ w .endpoints i) → waitingOf w ≡ waiting t (w .count)

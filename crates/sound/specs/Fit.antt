@@ -1,4 +1,5 @@
--- What every call keeps of a world (rules, World): the clauses of 01's "well formed" that counts and numbers come under, and the payloads added up.
+-- Inner (cited by private contracts alone): what every call keeps of a world (rules, World): the clauses of 01's "well formed" that counts and numbers come
+-- under, and the payloads added up.
 -- The other two clauses are those of rules, Linked and Tokened.
 use Prim.Native.Nat.{ℕ, _+_, _<_, _≤_}
 use mathlib.Core.Bool.{Bool, true, false, _&&_, _||_}
@@ -6,16 +7,16 @@ use mathlib.Core.List.{List, [], _∷_}
 use mathlib.Core.Logic.{_⊎_}
 use mathlib.Core.Path.{_≡_}
 use lib.Dec.{eqb}
-use Rattle.rows.specs.Sets.{one}
+use Rattle.rows.specs.One.{one}
 use Rattle.transaction.specs.Table.{pick}
 use Rattle.transaction.specs.declared.Transaction.{Transaction}
-use Rattle.tables.specs.declared.Endpoint.{Endpoint}
+use Rattle.endpoints.specs.declared.Endpoint.{Endpoint}
 use Rattle.rules.specs.Rows.{Row, written}
 use Rattle.rules.specs.World.{World, noItem}
 use Rattle.rules.specs.declared.Slot.{Slot}
 use Rattle.rules.specs.declared.Slot.the-variants.{Empty, Current, Suspended}
-use Rattle.judge.specs.Formed.{standing, holds}
-use Rattle.judge.specs.FormedLaws.{Special}
+use Rattle.record.specs.Formed.{standing, holds}
+use Rattle.record.specs.FormedLaws.{Special}
 
 -- ---- rows of the link log among those appended
 
@@ -30,7 +31,7 @@ pub record EntryFit (links devices : ℕ) (e : Endpoint) : Type 0 where
   pub transactions : e .transactions ≤ links
   pub groups : e .groups ≤ links
   pub device : e .device < devices
-  pub waiter : e .waits ≡ true → e .waiter < e .transactions
+  pub pendinglink : e .pending ≡ true → e .pendinglink < e .transactions
   pub group : standing (e .phase) ≡ true → 0 < e .groups
 
 -- the transaction that is held, where endpoint 0 is none
@@ -56,7 +57,7 @@ pub record Fit (n : ℕ) (w : World) : Type 0 where
 
 -- what an endpoint has in hand: its control payload, and one that waits
 abbrev pub inHand : Endpoint → ℕ
-inHand e = e .payload + pick (e .waits) (e .waiting) 0
+inHand e = e .payload + pick (e .pending) (e .pendinglength) 0
 
 -- what the transaction that is held may bring to endpoint i: it is on that endpoint or, a split without its token, on none yet
 abbrev pub brings : Slot → Transaction → ℕ → ℕ

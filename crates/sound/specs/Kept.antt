@@ -1,15 +1,15 @@
--- What is claimed of `sound`: it implies 01's "well formed", a fresh decoder has it, and every call keeps it on any state, whatever the answer
+-- Laws (proved): what is claimed of `sound`: it implies 01's "well formed", a fresh decoder has it, and every call keeps it on any state, whatever the answer
 -- (proofs/Keeps.antt proves it).
 use Prim.Native.Nat.{ℕ, _<_}
 use mathlib.Core.Bool.{true, false}
 use mathlib.Core.List.{List}
 use mathlib.Core.Path.{_≡_}
 use lib.ListN.{length}
-use Rattle.tables.specs.declared.Device.{Device}
-use Rattle.outcome.specs.Outcome.{isIll}
-use Rattle.outcome.specs.State.{Logs, State}
-use Rattle.calls.specs.Detail.{Details}
-use Rattle.calls.specs.Fresh.{Makes}
+use Rattle.details.specs.declared.Device.{Device}
+use Rattle.call.specs.Outcome.{isIll}
+use Rattle.call.specs.State.{Logs, State}
+use Rattle.start.specs.Detail.{Details}
+use Rattle.start.specs.Fresh.{Makes}
 use Rattle.packet.specs.Call.{PacketCall}
 use Rattle.events.specs.Call.{EventCall, FinishCall}
 use Rattle.sound.specs.Sound.{isSound}

@@ -1,16 +1,16 @@
 // An invariant of the decoder that every call keeps, and its test. Well formed alone (01) is not kept by every call on every record: payloads
 // that are each within the packet bytes logged may pass them once they are added up.
-use judge::Counts;
-use judge::Decoder;
-use outcome::is_ill;
+use call::is_ill;
+use details::Device;
+use endpoints::Endpoint;
+use endpoints::entry::load;
+use record::Counts;
+use record::Decoder;
 use rules::Slot;
-use tables::Device;
-use tables::Endpoint;
-use tables::entry::load;
 use transaction::Transaction;
 ghost use Prim.Native.Nat.{_+_, _^_, _<_, _≤_};
 ghost use mathlib.Core.Path.{_≡_};
-ghost use Rattle.judge.specs.Formed.{every, holds};
+ghost use Rattle.record.specs.Formed.{every, holds};
 ghost use Rattle.sound.specs.Fit.{inHand, brings};
 ghost use Rattle.sound.specs.Sound.{paying, isPaid, soundIn, Summable};
 
@@ -30,8 +30,8 @@ fn in_hand(e: Endpoint) -> u64
     requires { ⌜ inHand e < 2 ^ 64 ⌝ }
     ensures { λ r. ⌜ r ≡ inHand e ⌝ }
 {
-    if e.waits {
-        e.payload + e.waiting
+    if e.pending {
+        e.payload + e.pendinglength
     } else {
         e.payload
     }

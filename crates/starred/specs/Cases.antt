@@ -1,30 +1,55 @@
--- What 01's bench cases ask: each kind of case is a question and its answer, and `found` puts what the specifications say in the answer's place.
-use Prim.Native.Nat.{ℕ}
-use mathlib.Core.Bool.{Bool, true, false}
+-- To be believed: what 01's bench cases say. `Holds` gives each kind of case its meaning, in the definitions that the contracts of the public functions cite.
+-- A case speaks of every packet, every transaction, every decoder and every log that it does not name.
+-- Hold it to: 01, "Bench cases": what each kind of case asks
+use Prim.Native.Nat.{ℕ, _≤_}
+use mathlib.Core.Bool.{Bool, true, false, cond}
 use mathlib.Core.List.{List, [], _∷_}
+use mathlib.Core.Path.{_≡_}
 use lib.ListN.{length}
-use Rattle.usb.specs.Pid.{IN, DATA0, ACK}
+use Rattle.usb.specs.Pid.{IN, SPLIT, DATA0, ACK}
 use Rattle.usb.specs.Packet.{payloadOf, checkedOf}
 use Rattle.usb.specs.Fields.{tokenOf}
 use Rattle.usb.specs.declared.Checked.{Checked}
+use Rattle.usb.specs.declared.Checked.the-variants.{Valid}
 use Rattle.usb.specs.declared.fields.Token.{Token}
-use Rattle.tables.specs.declared.Detail.{Detail}
-use Rattle.tables.specs.declared.Endpoint.{Endpoint}
-use Rattle.tables.specs.declared.Phase.the-variants.{Active}
-use Rattle.transaction.specs.Status.{statusOf}
+use Rattle.details.specs.declared.Detail.{Detail}
+use Rattle.details.specs.declared.Device.{Device}
+use Rattle.endpoints.specs.declared.Endpoint.{Endpoint}
+use Rattle.endpoints.specs.declared.Phase.the-variants.{Active}
+use Rattle.transaction.specs.Status.{transactionStatus}
 use Rattle.transaction.specs.declared.Status.{Status}
 use Rattle.transaction.specs.declared.Style.the-variants.{Simple}
 use Rattle.transaction.specs.declared.Transaction.{Transaction}
 use Rattle.group.specs.Step.{stepOf}
 use Rattle.group.specs.Group.{groupStatus}
 use Rattle.group.specs.declared.GroupStatus.{GroupStatus}
-use Rattle.rules.specs.World.{World, withJournal}
-use Rattle.rules.specs.Transactions.{isDropped}
-use Rattle.rules.specs.Decoder.{fresh, handleRawPacket}
-use Rattle.rules.specs.Demand.{Call, call}
+use Rattle.rules.specs.Decoder.{handleRawPacket, handleEvent}
+use Rattle.rules.specs.Events.{LsKeepalive}
+use Rattle.rules.specs.World.{World}
 use Rattle.rules.specs.declared.Slot.{Slot}
-use Rattle.judge.specs.Answers.{firstOf, packetTests}
-use Rattle.outcome.specs.Outcome.{isOver}
+use Rattle.call.specs.Outcome.{isFull, worldAt}
+use Rattle.call.specs.State.{Logs, State}
+use Rattle.start.specs.Fresh.{Makes}
+use Rattle.packet.specs.Call.{PacketCall}
+use Rattle.events.specs.Call.{EventCall}
+
+-- ---- the cases
+
+-- a call, any one of its kind
+pub data Any : Type 0 where
+  -- a packet that is a valid SPLIT, at any time
+  anySplit : Any
+  -- a keepalive, with any code at any time
+  anyKeepalive : Any
+  -- a packet of any bytes, at most 4,096, at any time
+  anyPacket : Any
+
+infixl 80 _answers_
+infixl 80 _leaves_
+-- a call and its answer, or a call that answers 0 and what the slot holds after it
+pub data Step : Type 0 where
+  _answers_ : Any → ℕ → Step
+  _leaves_ : Any → Slot → Step
 
 pub data Case : Type 0 where
   -- a packet's bytes, and what the check says
@@ -33,38 +58,29 @@ pub data Case : Type 0 where
   token : List ℕ → Token → Case
   -- a data packet's bytes, and its payload
   payload : List ℕ → List ℕ → Case
-  -- the token that began a transaction, its endpoint's type, the bytes of the DATA0 that comes next, and its status
-  data0 : ℕ → ℕ → ℕ → Status → Case
-  -- an endpoint's type, the length of a payload, the max packet size (0: unknown), whether the payload is short, and the group's status
-  group : ℕ → ℕ → ℕ → Bool → GroupStatus → Case
-  -- calls on a fresh decoder, a packet after them, and its answer
-  answer : List Call → List ℕ → ℕ → Case
-  -- calls on a fresh decoder, and what the slot is after each
-  slots : List Call → List Slot → Case
+  -- a transaction that this token began, on an endpoint of a type that the first test takes, then a valid DATA0 of a length that the second
+  -- takes, such as this one; and its status
+  data0 : ℕ → (ℕ → Bool) → (ℕ → Bool) → List ℕ → Status → Case
+  -- the length of a payload, the max packet size (0: unknown), and whether the payload is short
+  short : ℕ → ℕ → Bool → Case
+  -- an endpoint's type, the length of a payload that a group of INs there gets, the max packet size, and the group's status
+  group : ℕ → ℕ → ℕ → GroupStatus → Case
+  -- calls on a fresh decoder, one after the other
+  calls : List Step → Case
 
 -- ---- a transaction and its DATA0
 
--- a plain transaction of one token
-abbrev pub begun : ℕ → ℕ → Transaction
-begun pid type =
-    record {
-      style = Simple pid;
-      id = 0;
-      last = pid;
-      endpoint = 3;
-      kind = type;
-      linked = false;
-      link = 0;
-      ready = false;
-      setup = 0;
-      filled = false;
-      payload = 0;
-    }
-
-abbrev pub statusAfter : ℕ → ℕ → ℕ → Status
-statusAfter pid type len = statusOf (begun pid type .style) (begun pid type) DATA0 len
+-- one token, and nothing since
+pub record Began (pid : ℕ) (t : Transaction) : Type 0 where
+  pub style : t .style ≡ Simple pid
+  pub last : t .last ≡ pid
 
 -- ---- a payload and its group
+
+-- a transaction with a payload of so many bytes
+pub record Brings (len : ℕ) (t : Transaction) : Type 0 where
+  pub filled : t .filled ≡ true
+  pub payload : t .payload ≡ len
 
 -- an endpoint with an active group of INs that went well
 abbrev pub going : Endpoint
@@ -84,9 +100,9 @@ going =
       ready = false;
       setup = 0;
       payload = 0;
-      waits = false;
-      waiting = 0;
-      waiter = 0;
+      pending = false;
+      pendinglength = 0;
+      pendinglink = 0;
     }
 
 -- an IN whose payload has len bytes
@@ -109,38 +125,58 @@ read type len =
 abbrev pub detail : ℕ → ℕ → Detail
 detail type size = record { kind = type; max = size }
 
-abbrev pub isShortOf : ℕ → ℕ → ℕ → Bool
-isShortOf type len max = stepOf going (read type len) (detail type max) true true .short
+-- ---- calls
 
-abbrev pub groupAfter : ℕ → ℕ → ℕ → GroupStatus
-groupAfter type len max = groupStatus going (read type len) (detail type max) true true .status
+-- P holds of each call of this kind on the state s: of the world that the rules end in, and of each answer and state that the contract permits
+abbrev pub Each : Any → State → (World → ℕ → State → Type 0) → Type 0
+Each anySplit s P =
+    (p : List ℕ) (time a : ℕ) (s′ : State) → checkedOf p ≡ Valid SPLIT → PacketCall p time s a s′ → P (handleRawPacket p time (worldAt s)) a s′
+Each anyKeepalive s P =
+    (code time a : ℕ) (s′ : State) → EventCall LsKeepalive code time s a s′ → P (handleEvent LsKeepalive code time (worldAt s)) a s′
+Each anyPacket s P =
+    (p : List ℕ) (time a : ℕ) (s′ : State) → length p ≤ 4096 → PacketCall p time s a s′ → P (handleRawPacket p time (worldAt s)) a s′
 
--- ---- calls on a fresh decoder
+abbrev pub kindOf : Step → Any
+kindOf (k answers n) = k
+kindOf (k leaves x) = k
 
--- each begins with an empty journal (rules, Reach)
-abbrev pub step : Call → World → World
-step k w = call k (withJournal [] w)
+abbrev pub answerOf : Step → ℕ
+answerOf (k answers n) = n
+answerOf (k leaves x) = 0
 
-abbrev pub runs : List Call → World → World
-runs [] w = w
-runs (k ∷ ks) w = runs ks (step k w)
+abbrev pub Leaves : Step → State → Type 0
+Leaves (k answers n) s′ = Unit {0}
+Leaves (k leaves x) s′ = s′ .decoder .slot ≡ x
 
--- by the tests of a packet call, where the record is well formed and not finished, and there is room
-abbrev pub packetAnswer : List ℕ → World → ℕ
-packetAnswer p w =
-    firstOf (packetTests false false (length p) false (isOver (handleRawPacket p 0 w)) (isDropped (w .slot) (w .transaction)))
+-- from the state s on: each call answers its number, or 7 exactly where there is no room; and where it answers its number, the next goes on from
+-- what it left
+abbrev pub Goes : List Step → State → Type 0
+Goes [] s = Unit {0}
+Goes (k ∷ ks) s =
+    Each (kindOf k) s (λ w a s′. (a ≡ cond (isFull s w) 7 (answerOf k)) × (a ≡ answerOf k → Leaves k s′ × Goes ks s′))
 
-abbrev pub slotsAfter : List Call → World → List Slot
-slotsAfter [] w = []
-slotsAfter (k ∷ ks) w = step k w .slot ∷ slotsAfter ks (step k w)
+-- ---- what each case says
 
--- ---- the case with what the specifications say for its answer
+-- to every transaction that began with pid, of these types, every DATA0 of these lengths has the status a
+abbrev pub Judged : ℕ → (ℕ → Bool) → (ℕ → Bool) → Status → Type 0
+Judged pid types lengths a =
+    (t : Transaction) (q : List ℕ) → Began pid t → types (t .kind) ≡ true → checkedOf q ≡ Valid DATA0 → lengths (length q) ≡ true
+    → transactionStatus t q .status ≡ a
 
-abbrev pub found : Case → Case
-found (check p a) = check p (checkedOf p)
-found (token p a) = token p (tokenOf p)
-found (payload p a) = payload p (payloadOf p)
-found (data0 pid type len a) = data0 pid type len (statusAfter pid type len)
-found (group type len max a b) = group type len max (isShortOf type len max) (groupAfter type len max)
-found (answer ks p a) = answer ks p (packetAnswer p (runs ks fresh))
-found (slots ks a) = slots ks (slotsAfter ks fresh)
+abbrev pub Holds : Case → Type 0
+Holds (check p a) = checkedOf p ≡ a
+Holds (token p a) = tokenOf p ≡ a
+Holds (payload p a) = payloadOf p ≡ a
+Holds (data0 pid types lengths p a) =
+    ((checkedOf p ≡ Valid DATA0) × (lengths (length p) ≡ true))
+    ×
+    Judged pid types lengths a
+Holds (short len max a) =
+    (e : Endpoint) (t : Transaction) (type : ℕ) (success complete : Bool) → Brings len t → stepOf e t (detail type max) success complete .short ≡ a
+Holds (group type len max a) = groupStatus going (read type len) (detail type max) true true .status ≡ a
+Holds (calls ks) =
+    (v : List Device) (t : List ℕ) (l : Logs) (s : State) → length v ≡ 64 → length t ≡ 2176 → Makes v t l 0 s → Goes ks s
+
+abbrev pub All : List Case → Type 0
+All [] = Unit {0}
+All (c ∷ cs) = Holds c × All cs

@@ -1,37 +1,25 @@
--- 01's starred bench cases, in its order; lines in quotation marks are its. `starred`: of each, the specifications say what 01 says.
+-- To be believed: 01's starred bench cases, in its order; lines in quotation marks are its. `Starred`: each of them holds (Cases.antt says what that means),
+-- and proofs/Held.antt proves it.
+-- Hold it to: 01, "Bench cases", the starred ones in their order
 use Prim.Native.Nat.{ℕ}
 use mathlib.Core.Bool.{true, false}
-use mathlib.Core.List.{List, [], _∷_, map}
-use mathlib.Core.Path.{_≡_, refl}
-use Rattle.crc.specs.Crc as crc
-use Rattle.usb.specs.Bits.{after}
+use mathlib.Core.List.{List, [], _∷_}
 use Rattle.usb.specs.Pid.{OUT, SETUP, DATA1, ACK}
-use Rattle.usb.specs.Types.{Control, Isochronous, Bulk}
-use Rattle.usb.specs.Packet.{formatOf, tokenOk, splitOk, dataOk, handshakeOk, formatOk, checkedOf}
+use Rattle.usb.specs.Types.{Isochronous, Bulk}
 use Rattle.usb.specs.declared.Checked.the-variants.{Valid, Malformed}
-use Rattle.tables.specs.Details as details
-use Rattle.tables.specs.Kind.{Unknown}
-use Rattle.transaction.specs.Status.{transactionStatus}
+use Rattle.details.specs.Kind.{Unknown}
+use Rattle.transaction.specs.Table.{any, only}
 use Rattle.transaction.specs.declared.Status.the-variants.{Continue, Done, Ambiguous, Invalid}
-use Rattle.group.specs.Data.{repeatGroup, otherGroup}
-use Rattle.group.specs.Group.{groupStatus}
 use Rattle.group.specs.declared.GroupStatus.the-variants as group
-use Rattle.rules.specs.Groups.{groupUpdate, groupEarlyStart, groupEarlyAppend}
-use Rattle.rules.specs.Transactions.{transactionUpdate}
-use Rattle.rules.specs.Events.{LsKeepalive, eventUpdate}
-use Rattle.rules.specs.Decoder.{handleRawPacket, handleEvent}
-use Rattle.rules.specs.Demand.{Call, packet, event}
 use Rattle.rules.specs.declared.Slot.the-variants.{Empty, Current, Suspended}
-use Rattle.judge.specs.Answers.{firstOf}
-use Rattle.outcome.specs.Outcome.{isOver}
-use Rattle.starred.specs.Cases.{Case, check, token, payload, data0, group, answer, slots, found}
+use Rattle.starred.specs.Cases.{Case, check, token, payload, data0, short, group, calls, anySplit, anyKeepalive, anyPacket, _answers_, _leaves_, All}
 
--- a start-split to a bulk endpoint at hub 1, port 1
-abbrev pub split : Call
-split = packet (0x78 ∷ 0x01 ∷ 0x01 ∷ 0x44 ∷ []) 0
+-- a DATA0 of 11 bytes: the setup data that ask for the device descriptor, and their CRC16; and one of 10, with one byte less
+abbrev pub eleven : List ℕ
+eleven = 0xC3 ∷ 0x80 ∷ 0x06 ∷ 0x00 ∷ 0x01 ∷ 0x00 ∷ 0x00 ∷ 0x40 ∷ 0x00 ∷ 0xDD ∷ 0x94 ∷ []
 
-abbrev pub keepalive : Call
-keepalive = event LsKeepalive 0 0
+abbrev pub ten : List ℕ
+ten = 0xC3 ∷ 0x80 ∷ 0x06 ∷ 0x00 ∷ 0x01 ∷ 0x00 ∷ 0x00 ∷ 0x40 ∷ 0x65 ∷ 0x5D ∷ []
 
 abbrev pub cases : List Case
 cases =
@@ -50,25 +38,26 @@ cases =
     ∷ check (0xD2 ∷ 0x00 ∷ []) Malformed
     ∷ check (0xD3 ∷ []) Malformed
     -- "SETUP then DATA0 of 11 bytes Continue, of 10 Invalid."
-    ∷ data0 SETUP Control 11 Continue
-    ∷ data0 SETUP Control 10 Invalid
+    ∷ data0 SETUP any (only 11) eleven Continue
+    ∷ data0 SETUP any (only 10) ten Invalid
     -- "OUT then DATA0: Ambiguous, Done, Continue for unknown, isochronous, bulk."
-    ∷ data0 OUT Unknown 11 Ambiguous
-    ∷ data0 OUT Isochronous 11 Done
-    ∷ data0 OUT Bulk 11 Continue
+    ∷ data0 OUT (only Unknown) any eleven Ambiguous
+    ∷ data0 OUT (only Isochronous) any eleven Done
+    ∷ data0 OUT (only Bulk) any eleven Continue
     -- "63 of 64 is short, 64 not, 0 of unknown not."
-    ∷ group Bulk 63 64 true group.Done
-    ∷ group Bulk 64 64 false group.Continue
-    ∷ group Bulk 0 0 false group.Continue
-    -- "isochronous 63 of 64 doesn't close."
-    ∷ group Isochronous 63 64 true group.Continue
+    ∷ short 63 64 true
+    ∷ short 64 64 false
+    ∷ short 0 0 false
+    -- so at a bulk endpoint the first closes its group, and the others don't; "isochronous 63 of 64 doesn't close."
+    ∷ group Bulk 63 64 group.Done
+    ∷ group Bulk 64 64 group.Continue
+    ∷ group Bulk 0 0 group.Continue
+    ∷ group Isochronous 63 64 group.Continue
     -- "SPLIT, keepalive, packet: answer 8."
-    ∷ answer (split ∷ keepalive ∷ []) (ACK ∷ []) 8
+    ∷ calls (anySplit answers 0 ∷ anyKeepalive answers 0 ∷ anyPacket answers 8 ∷ [])
     -- "Two keepalives with no packet between: the suspended transaction is gone."
-    ∷ slots (split ∷ keepalive ∷ keepalive ∷ []) (Current ∷ Suspended ∷ Empty ∷ [])
-    ∷ answer (split ∷ keepalive ∷ keepalive ∷ []) (ACK ∷ []) 0
+    ∷ calls (anySplit leaves Current ∷ anyKeepalive leaves Suspended ∷ anyKeepalive leaves Empty ∷ anyPacket answers 0 ∷ [])
     ∷ []
 
-pub starred : map found cases ≡ cases
-unfolding crc.step crc.bits crc.bytes crc.crc5Of crc.crc16Of after formatOf tokenOk splitOk dataOk handshakeOk formatOk checkedOf details.fresh details.detailsOf transactionStatus repeatGroup otherGroup groupStatus groupUpdate groupEarlyStart groupEarlyAppend transactionUpdate eventUpdate handleRawPacket handleEvent firstOf isOver
-starred = refl
+abbrev pub Starred : Type 0
+Starred = All cases

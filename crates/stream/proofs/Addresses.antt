@@ -8,9 +8,10 @@ use borrow.Author.Tests.{eqb-true, eqb-false}
 use lib.Dec.{eqb}
 use lib.ListN.{length, getD, set, length-set}
 use lib.Seq.{getD-set-same, getD-set-other}
-use Rattle.tables.specs.Search.{blank, lastOf, isDevice, foundDevice}
-use Rattle.tables.specs.declared.Device.{Device}
-use Rattle.tables.specs.declared.Found.the-variants.{At}
+use Rattle.details.specs.Search.{blank, lastOf}
+use Rattle.details.specs.Lookup.{isDevice, foundDevice}
+use Rattle.details.specs.declared.Device.{Device}
+use Rattle.details.specs.declared.Found.the-variants.{At}
 use Rattle.packet.specs.After.{rowBy, addedBy, changed, Placed}
 use Rattle.packet.specs.declared.change.Change.{Change}
 use Rattle.packet.proofs.Changes.{changed-by}

@@ -9,24 +9,25 @@ use lib.ListN.{length, getD, length-drop}
 use lib.Seq.{length-take-le}
 use Rattle.usb.specs.Fields.{tokenOf}
 use Rattle.usb.specs.declared.fields.Token.{Token}
-use Rattle.tables.specs.Details.{detailsOf}
-use Rattle.tables.specs.Search.{blank, foundDevice}
-use Rattle.tables.specs.Table.{entryAt}
-use Rattle.tables.specs.declared.Detail.{Detail}
-use Rattle.tables.specs.declared.Device.{Device}
-use Rattle.tables.specs.declared.Endpoint.{Endpoint}
-use Rattle.tables.specs.declared.Found.{Found}
-use Rattle.judge.specs.Answers.{firstOf, packetTests}
-use Rattle.steps.specs.Packet.{oldEndpoint}
-use Rattle.outcome.specs.Outcome.{isIll, accepts, decoderOf}
-use Rattle.outcome.specs.OutcomeLaws.{sound, refused}
-use Rattle.outcome.specs.State.{Logs, State, state, roomOf}
-use Rattle.calls.specs.Fresh.{Makes, made}
-use Rattle.plan.specs.Near.{placeIn, nearBy}
-use Rattle.plan.specs.declared.near.Near.{Near}
-use Rattle.plan.specs.Ready.{Ready, ready}
-use Rattle.plan.proofs.Bounds.{old-there}
-use Rattle.plan.proofs.Places.{place-few, seen-by}
+use Rattle.details.specs.Details.{detailsOf}
+use Rattle.details.specs.Search.{blank}
+use Rattle.details.specs.Lookup.{foundDevice}
+use Rattle.endpoints.specs.Table.{entryAt}
+use Rattle.details.specs.declared.Detail.{Detail}
+use Rattle.details.specs.declared.Device.{Device}
+use Rattle.endpoints.specs.declared.Endpoint.{Endpoint}
+use Rattle.details.specs.declared.Found.{Found}
+use Rattle.record.specs.Answers.{firstOf, packetTests}
+use Rattle.plan.specs.Packet.{oldEndpoint}
+use Rattle.call.specs.Outcome.{isIll, accepts, decoderOf}
+use Rattle.call.specs.OutcomeLaws.{sound, refused}
+use Rattle.call.specs.State.{Logs, State, state, roomOf}
+use Rattle.start.specs.Fresh.{Makes, made}
+use Rattle.decide.specs.Near.{placeIn, nearBy}
+use Rattle.decide.specs.declared.near.Near.{Near}
+use Rattle.decide.specs.Ready.{Ready, ready}
+use Rattle.decide.proofs.Bounds.{old-there}
+use Rattle.decide.proofs.Places.{place-few, seen-by}
 use Rattle.packet.specs.Call.{testsOf, PacketCall}
 use Rattle.packet.specs.Lent.{Lent}
 use Rattle.sound.specs.Sound.{isSound}

@@ -1,13 +1,13 @@
--- The addresses of the device rows, kept beside them, so that a search reads these alone.
+-- Inner (cited by private contracts alone): the addresses of the device rows, kept beside them, so that a search reads these alone.
 use Prim.Native.Nat.{ℕ, _<_}
 use mathlib.Core.Bool.{Bool}
 use mathlib.Core.List.{List}
 use mathlib.Core.Path.{_≡_}
 use lib.Dec.{eqb}
 use lib.ListN.{length, getD}
-use Rattle.tables.specs.Search.{blank, lastOf}
-use Rattle.tables.specs.declared.Device.{Device}
-use Rattle.tables.specs.declared.Found.{Found}
+use Rattle.details.specs.Search.{blank, lastOf}
+use Rattle.details.specs.declared.Device.{Device}
+use Rattle.details.specs.declared.Found.{Found}
 
 -- of the first n rows of the 64
 pub record Addressed (n : ℕ) (a : List ℕ) (v : List Device) : Type 0 where
@@ -18,6 +18,6 @@ pub record Addressed (n : ℕ) (a : List ℕ) (v : List Device) : Type 0 where
 abbrev pub isAddress : List ℕ → ℕ → ℕ → Bool
 isAddress a address i = eqb (getD a i 0) address
 
--- the last of the first n rows that has it, as foundDevice (tables, Search) finds it in the devices
+-- the last of the first n rows that has it, as foundDevice (details, Search) finds it in the devices
 unfoldable pub foundAddress : List ℕ → ℕ → ℕ → Found
 foundAddress a n address = lastOf (isAddress a address) n

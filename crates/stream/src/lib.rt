@@ -1,27 +1,27 @@
 // The run of many packets (run_c) on a state that is known to be sound: no record is tested anew, and the devices stay in one place.
-use calls::fresh::fresh;
-use judge::Decoder;
-use outcome::known;
+use call::known;
+use decide::near::near_of;
+use decide::near::old_entry;
+use decide::near::place_in;
+use details::Device;
+use details::Found;
+use details::endpoint_details;
+use details::fresh_device;
 use packet::change::added_by;
 use packet::change::is_change;
 use packet::change::row_by;
 use packet::inner::packet_in;
-use plan::bytes::token_of;
-use plan::near::near_of;
-use plan::near::old_entry;
-use plan::near::place_in;
+use record::Decoder;
 use run_c::Taken;
 use run_c::goes_on;
 use run_c::record_end;
 use run_c::tell;
-use tables::Device;
-use tables::Found;
-use tables::details::endpoint_details;
-use tables::details::fresh_device;
+use start::fresh::fresh;
+use usb::fields::token_of;
 ghost use mathlib.Core.Bool.{true, false};
 ghost use mathlib.Core.Path.{_≡_};
 ghost use Prim.Native.Nat.{_≤_};
-ghost use Rattle.outcome.specs.State.{state, logs};
+ghost use Rattle.call.specs.State.{state, logs};
 ghost use Rattle.run_c.specs.Run.{Runs, Ran};
 ghost use Rattle.sound.specs.Sound.{isSound};
 ghost use Rattle.stream.specs.Addresses.{Addressed, foundAddress};
@@ -73,15 +73,15 @@ fn run(
     events: &[u64],
     transactions: &mut [u64],
     groups: &mut [u64],
-    marks: &mut [u8],
+    statebytes: &mut [u8],
     states: &mut [u64],
     items: &mut [u64],
     links: &mut [u64],
     requests: &mut [u64],
 ) -> Taken
-    requires { ⌜ isSound (state decoder devices (now table) (logs (now bytes) (now «device_rows») (now «endpoint_rows») (now packets) (now events) (now transactions) (now groups) (now marks) (now states) (now items) (now links) (now requests))) ≡ true ⌝ }
+    requires { ⌜ isSound (state decoder devices (now table) (logs (now bytes) (now «device_rows») (now «endpoint_rows») (now packets) (now events) (now transactions) (now groups) (now statebytes) (now states) (now items) (now links) (now requests))) ≡ true ⌝ }
     requires { ⌜ decoder .finished ≡ false ⌝ }
-    ensures { λ r. ⌜ Runs (now (input .entry)) 0 0 (state decoder devices (now (table .entry)) (logs (now (bytes .entry)) (now («device_rows» .entry)) (now («endpoint_rows» .entry)) (now (packets .entry)) (now (events .entry)) (now (transactions .entry)) (now (groups .entry)) (now (marks .entry)) (now (states .entry)) (now (items .entry)) (now (links .entry)) (now (requests .entry)))) (r .count) (r .answer) (state (r .decoder) (r .devices) (now (table .exit)) (logs (now (bytes .exit)) (now («device_rows» .exit)) (now («endpoint_rows» .exit)) (now (packets .exit)) (now (events .entry)) (now (transactions .exit)) (now (groups .exit)) (now (marks .exit)) (now (states .exit)) (now (items .exit)) (now (links .exit)) (now (requests .exit)))) ⌝ }
+    ensures { λ r. ⌜ Runs (now (input .entry)) 0 0 (state decoder devices (now (table .entry)) (logs (now (bytes .entry)) (now («device_rows» .entry)) (now («endpoint_rows» .entry)) (now (packets .entry)) (now (events .entry)) (now (transactions .entry)) (now (groups .entry)) (now (statebytes .entry)) (now (states .entry)) (now (items .entry)) (now (links .entry)) (now (requests .entry)))) (r .count) (r .answer) (state (r .decoder) (r .devices) (now (table .exit)) (logs (now (bytes .exit)) (now («device_rows» .exit)) (now («endpoint_rows» .exit)) (now (packets .exit)) (now (events .entry)) (now (transactions .exit)) (now (groups .exit)) (now (statebytes .exit)) (now (states .exit)) (now (items .exit)) (now (links .exit)) (now (requests .exit)))) ⌝ }
 {
     let mut decoder = decoder;
     let mut addresses = addresses_of(devices);
@@ -122,7 +122,7 @@ fn run(
             events,
             transactions,
             groups,
-            marks,
+            statebytes,
             states,
             items,
             links,
@@ -174,13 +174,13 @@ pub extern "C" fn pivotspark_stream(
     events: &[u64],
     transactions: &mut [u64],
     groups: &mut [u64],
-    marks: &mut [u8],
+    statebytes: &mut [u8],
     states: &mut [u64],
     items: &mut [u64],
     links: &mut [u64],
     requests: &mut [u64],
 ) -> u64
-    ensures { λ r. ⌜ Ran (now (input .entry)) (now (table .entry)) (logs (now (bytes .entry)) (now («device_rows» .entry)) (now («endpoint_rows» .entry)) (now (packets .entry)) (now (events .entry)) (now (transactions .entry)) (now (groups .entry)) (now (marks .entry)) (now (states .entry)) (now (items .entry)) (now (links .entry)) (now (requests .entry))) r (now (table .exit)) (logs (now (bytes .exit)) (now («device_rows» .exit)) (now («endpoint_rows» .exit)) (now (packets .exit)) (now (events .entry)) (now (transactions .exit)) (now (groups .exit)) (now (marks .exit)) (now (states .exit)) (now (items .exit)) (now (links .exit)) (now (requests .exit))) ⌝ }
+    ensures { λ r. ⌜ Ran (now (input .entry)) (now (table .entry)) (logs (now (bytes .entry)) (now («device_rows» .entry)) (now («endpoint_rows» .entry)) (now (packets .entry)) (now (events .entry)) (now (transactions .entry)) (now (groups .entry)) (now (statebytes .entry)) (now (states .entry)) (now (items .entry)) (now (links .entry)) (now (requests .entry))) r (now (table .exit)) (logs (now (bytes .exit)) (now («device_rows» .exit)) (now («endpoint_rows» .exit)) (now (packets .exit)) (now (events .entry)) (now (transactions .exit)) (now (groups .exit)) (now (statebytes .exit)) (now (states .exit)) (now (items .exit)) (now (links .exit)) (now (requests .exit))) ⌝ }
 {
     // What the proof learns here: the table has all its words.
     known(table);
@@ -196,7 +196,7 @@ pub extern "C" fn pivotspark_stream(
         events,
         transactions,
         groups,
-        marks,
+        statebytes,
         states,
         items,
         links,
@@ -220,7 +220,7 @@ pub extern "C" fn pivotspark_stream(
         events,
         transactions,
         groups,
-        marks,
+        statebytes,
         states,
         items,
         links,

@@ -1,4 +1,4 @@
--- How long a line can be, for callers that keep room for one. Nothing here is to be believed; all of it follows from Lines.
+-- Laws (proved): no line is longer than `longest`, for callers that keep room for one.
 -- Assumes nothing.
 use Prim.Native.Nat.{ℕ, zero, suc, _+_, _*_, _/_, _%_, _≤_}
 use native.Mathlib.Omega.{arith}
@@ -10,11 +10,7 @@ use lib.ListN.{length, getD, length-append, length-map}
 use Rattle.text.specs.Words as words
 use Rattle.text.specs.Words.{space, newline, inEnd, outEnd, startEnd, endEnd}
 use Rattle.text.specs.Numbers.{digit, digits, decimal, hexBytes}
-use Rattle.text.specs.Lines.{fields, line, deviceLine, endpointLine, packetLine, eventLine, transactionLine, groupLine, stateLine, itemLine, linkLine, requestLine, refusedLine}
-
--- a state line: its word, a row of 20 digits, 128 letters, two spaces and the end
-abbrev pub longest : ℕ
-longest = 5 + 21 + 1 + 128 + 1
+use Rattle.text.specs.Lines.{fields, line, deviceLine, endpointLine, packetLine, eventLine, transactionLine, groupLine, stateLine, itemLine, linkLine, requestLine, refusedLine, longest}
 
 chosen : (n : ℕ) (b : Bool) (x y : List ℕ) → length x ≤ n → length y ≤ n → length (cond b x y) ≤ n
 chosen n true x y f g = f

@@ -1,6 +1,7 @@
--- Document 01, "Trace and listing": a line for each kind of row, from the row's number and its words.
+-- To be believed: Document 01, "Trace and listing": a line for each kind of row, from the row's number and its words.
 -- Assumes nothing.
-use Prim.Native.Nat.{ℕ}
+-- Hold it to: 01, "Trace and listing": what a line of each kind has
+use Prim.Native.Nat.{ℕ, _+_}
 use mathlib.Core.Bool.{cond}
 use mathlib.Core.List.{List, [], _∷_, _++_, map}
 use lib.Dec.{eqb}
@@ -81,3 +82,7 @@ requestLine row w = line words.request (row ∷ first w ∷ []) (space ∷ []) +
 -- `refused N at B`
 unfoldable pub refusedLine : ℕ → ℕ → List ℕ
 refusedLine answer at = line words.refused (answer ∷ []) [] ++ line words.place (at ∷ []) newline
+
+-- a state line: its word, a row of 20 digits, 128 letters, two spaces and the end
+abbrev pub longest : ℕ
+longest = 5 + 21 + 1 + 128 + 1

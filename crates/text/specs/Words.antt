@@ -1,5 +1,6 @@
--- The words of document 01's listing, byte by byte (ASCII): what a line begins with, and what it ends with.
+-- To be believed: the words of document 01's listing, byte by byte (ASCII): what a line begins with, and what it ends with.
 -- Assumes nothing.
+-- Hold it to: 01, "Trace and listing": the words of its example and of the paragraph below it, in ASCII
 use Prim.Native.Nat.{ℕ}
 use mathlib.Core.List.{List, [], _∷_}
 

@@ -1,5 +1,6 @@
--- Document 01, "Trace and listing": the time of each record that has ticks.
+-- To be believed: Document 01, "Trace and listing": the time of each record that has ticks.
 -- Assumes nothing.
+-- Hold it to: 01, "Trace and listing": "The first time is its ticks ..", "modulo 2^64"
 use Prim.Native.Nat.{ℕ, _+_, _-_, _%_, _^_}
 use mathlib.Core.Bool.{true, false}
 use Rattle.usb.specs.Packet.{pick}

@@ -1,4 +1,4 @@
--- Each record ends behind its start and within the trace, so a run over the records ends: for callers. Nothing here is to be believed;
+-- Laws (proved): each record ends behind its start and within the trace, so a run over the records ends: for callers. Nothing here is to be believed;
 -- all of it follows from Trace.
 -- Assumes nothing.
 use Prim.Native.Nat.{ℕ, _+_, _≤_, _<_}

@@ -1,5 +1,6 @@
--- Document 01, "Trace and listing": the UTL trace, its header and its records.
+-- To be believed: Document 01, "Trace and listing": the UTL trace, its header and its records.
 -- Assumes nothing.
+-- Hold it to: 01, "Trace and listing": "Trace: `UTL`, u16 version 1, then records .."
 use Prim.Native.Nat.{ℕ, _+_}
 use mathlib.Core.Bool.{Bool, true, false}
 use mathlib.Core.List.{List, [], _∷_}

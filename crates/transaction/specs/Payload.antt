@@ -1,4 +1,5 @@
--- Document 000, start_pid and extract_payload: the token of a transaction, and what a data packet brings to it.
+-- To be believed: Document 000, start_pid and extract_payload: the token of a transaction, and what a data packet brings to it.
+-- Hold it to: start_pid and extract_payload of decoder.rs; 01, "Packets": "A payload is the part .."
 use mathlib.Core.Bool.{Bool, true, false, _&&_}
 use Prim.Native.Nat.{ℕ, _-_}
 use lib.Dec.{eqb}
@@ -26,21 +27,26 @@ takesSetup (Simple first) = eqb first SETUP
 takesSetup (Split sc kind) = false
 takesSetup (Token sc kind pid) = splitSetup sc kind pid
 
+-- Transaction from its fields, in their order
+abbrev pub makeTransaction : Style → ℕ → ℕ → ℕ → ℕ → Bool → ℕ → Bool → ℕ → Bool → ℕ → Transaction
+makeTransaction style id last endpoint kind linked link ready setup filled payload =
+    record {
+      style = style;
+      id = id;
+      last = last;
+      endpoint = endpoint;
+      kind = kind;
+      linked = linked;
+      link = link;
+      ready = ready;
+      setup = setup;
+      filled = filled;
+      payload = payload;
+    }
+
 -- the transaction with these four fields; extract_payload changes no other
 abbrev pub changed : Transaction → Bool → ℕ → Bool → ℕ → Transaction
-changed t ready setup filled payload = record {
-  style = t .style;
-  id = t .id;
-  last = t .last;
-  endpoint = t .endpoint;
-  kind = t .kind;
-  linked = t .linked;
-  link = t .link;
-  ready = ready;
-  setup = setup;
-  filled = filled;
-  payload = payload;
-}
+changed t ready setup filled payload = makeTransaction (t .style) (t .id) (t .last) (t .endpoint) (t .kind) (t .linked) (t .link) ready setup filled payload
 
 abbrev pub withSetup : Transaction → ℕ → Transaction
 withSetup t s = changed t true s (t .filled) (t .payload)

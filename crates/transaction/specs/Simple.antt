@@ -1,5 +1,6 @@
--- Document 000, transaction_status: the rows where there is no transaction, or a plain one, in the Rust's order. As there, those for
+-- To be believed: Document 000, transaction_status: the rows where there is no transaction, or a plain one, in the Rust's order. As there, those for
 -- MALFORMED are never reached: such a packet is Invalid before any row is looked at.
+-- Hold it to: transaction_status of decoder.rs, with no transaction or a plain one (scripts/rows compares the rows); 01, "Rules of a transaction"
 use mathlib.Core.List.{List, [], _∷_}
 use Prim.Native.Nat.{ℕ}
 use lib.Dec.{eqb}

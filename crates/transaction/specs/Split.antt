@@ -1,4 +1,5 @@
--- Document 000, transaction_status: the rows of a split, in the Rust's order.
+-- To be believed: Document 000, transaction_status: the rows of a split, in the Rust's order.
+-- Hold it to: transaction_status of decoder.rs, the table of a split (scripts/rows compares the rows); 01, "Rules of a transaction"
 use mathlib.Core.List.{List, [], _∷_}
 use Prim.Native.Nat.{ℕ}
 use lib.Dec.{eqb}

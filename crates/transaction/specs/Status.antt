@@ -1,4 +1,5 @@
--- Document 000, transaction_status: what a packet is to a transaction.
+-- To be believed: Document 000, transaction_status: what a packet is to a transaction.
+-- Hold it to: transaction_status of decoder.rs: its first lines
 use mathlib.Core.List.{List}
 use Prim.Native.Nat.{ℕ}
 use lib.ListN.{length}

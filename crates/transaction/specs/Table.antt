@@ -1,4 +1,6 @@
--- A `match` of the Rust as a table: a row has a test for each number that is matched, perhaps a guard, and an answer. The first row that fits answers.
+-- To be believed: a `match` of the Rust as a table: a row has a test for each number that is matched, perhaps a guard, and an answer. The first row that fits
+-- answers.
+-- Hold it to: a `match` of the Rust: patterns with alternatives, guards, the first arm that fits
 use mathlib.Core.Bool.{Bool, true, false, _&&_, _||_}
 use mathlib.Core.List.{List, [], _∷_}
 use Prim.Native.Nat.{ℕ}

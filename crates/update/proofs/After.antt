@@ -8,11 +8,11 @@ use Rattle.transaction.specs.Payload.{startPid}
 use Rattle.transaction.specs.Table.{pick}
 use Rattle.transaction.specs.declared.Style.{Style}
 use Rattle.transaction.specs.declared.Transaction.{Transaction}
-use Rattle.tables.specs.States.{nextState}
-use Rattle.tables.specs.Table.{withPhase, withState}
-use Rattle.tables.specs.declared.Endpoint.{Endpoint}
-use Rattle.tables.specs.declared.Phase.{Phase}
-use Rattle.tables.specs.declared.Phase.the-variants.{None, Early, Active, Ended}
+use Rattle.endpoints.specs.States.{nextState}
+use Rattle.endpoints.specs.Table.{withPhase, withState}
+use Rattle.endpoints.specs.declared.Endpoint.{Endpoint}
+use Rattle.endpoints.specs.declared.Phase.{Phase}
+use Rattle.endpoints.specs.declared.Phase.the-variants.{None, Early, Active, Ended}
 use Rattle.group.specs.declared.GroupStatus.{GroupStatus}
 use Rattle.group.specs.declared.GroupStatus.the-variants.{Single, New, Continue, Retry, Done, Invalid}
 use Rattle.rules.specs.World.{World, _▷_, eventEp, change, moreTransactions, moreGroups, withLast, cleared, withLink}

@@ -5,10 +5,10 @@ use Prim.Native.Nat.{ℕ}
 use lib.Dec.{eqb}
 use borrow.Author.Tests.{eq-eqb}
 use Rattle.transaction.specs.Table.{pick}
-use Rattle.tables.specs.Table.{withPhase}
-use Rattle.tables.specs.declared.Endpoint.{Endpoint}
-use Rattle.tables.specs.declared.Phase.{Phase}
-use Rattle.tables.specs.declared.Phase.the-variants.{None, Early, Active, Ended}
+use Rattle.endpoints.specs.Table.{withPhase}
+use Rattle.endpoints.specs.declared.Endpoint.{Endpoint}
+use Rattle.endpoints.specs.declared.Phase.{Phase}
+use Rattle.endpoints.specs.declared.Phase.the-variants.{None, Early, Active, Ended}
 use Rattle.group.specs.declared.GroupStatus.{GroupStatus}
 use Rattle.group.specs.declared.GroupStatus.the-variants.{Single, New, Continue, Retry, Done, Invalid}
 use Rattle.rules.specs.World.{World, _▷_, phase, change, cleared, withId}

@@ -1,8 +1,8 @@
--- What group_status has as its effect, on the endpoint's entry (document 000, group_update; rules, effectStep).
+-- Inner (cited by private contracts alone): what group_status has as its effect, on the endpoint's entry (document 000, group_update; rules, effectStep).
 use mathlib.Core.Bool.{Bool, false}
 use Prim.Native.Nat.{ℕ, _+_}
 use lib.Dec.{ltb}
-use Rattle.tables.specs.declared.Endpoint.{Endpoint}
+use Rattle.endpoints.specs.declared.Endpoint.{Endpoint}
 use Rattle.group.specs.declared.Effect.{Effect}
 use Rattle.group.specs.declared.Effect.the-variants.{NoEffect, NewDevice, Request, PendingData, IndexData}
 use Rattle.rules.specs.World.{withPending, withTotal}

@@ -1,13 +1,14 @@
--- What an update leaves of the endpoint's own entry, of the others and of the transaction; proved to be what `act` leaves of them (proofs/After.antt).
+-- Inner (cited by private contracts alone): what an update leaves of the endpoint's own entry, of the others and of the transaction; proved to be what `act`
+-- leaves of them (proofs/After.antt).
 use mathlib.Core.Bool.{Bool, true, false, _||_}
 use Prim.Native.Nat.{ℕ}
 use lib.Dec.{eqb}
 use Rattle.transaction.specs.declared.Transaction.{Transaction}
-use Rattle.tables.specs.States.{nextState}
-use Rattle.tables.specs.Table.{withPhase, withState}
-use Rattle.tables.specs.Word as word
-use Rattle.tables.specs.declared.Endpoint.{Endpoint}
-use Rattle.tables.specs.declared.Phase.the-variants.{Early, Ended}
+use Rattle.endpoints.specs.States.{nextState}
+use Rattle.endpoints.specs.Table.{withPhase, withState}
+use Rattle.endpoints.specs.Word as word
+use Rattle.endpoints.specs.declared.Endpoint.{Endpoint}
+use Rattle.endpoints.specs.declared.Phase.the-variants.{Early, Ended}
 use Rattle.rules.specs.World.{_▷_, eventEp, moreTransactions, moreGroups, withLast, cleared, withLink}
 use Rattle.rules.specs.Groups.{closePhase, activated}
 use Rattle.update.specs.Update.{when}

@@ -1,4 +1,3 @@
 pub mod Update
-pub mod Tally
 pub mod Effect
 pub mod Entry

@@ -1,6 +1,6 @@
 // What group_status has as its effect, on the endpoint's entry (group_update, from line 1006 of decoder.rs on).
+use endpoints::Endpoint;
 use group::Effect;
-use tables::Endpoint;
 ghost use mathlib.Core.Bool.{false};
 ghost use mathlib.Core.Path.{_≡_};
 ghost use Rattle.update.specs.Effect.{passes, effectEntry};
@@ -32,9 +32,9 @@ pub fn entry_effect(effect: Effect, e: Endpoint, link: u64) -> Endpoint
         Effect::NewDevice(_) => e,
         Effect::Request(_) => e,
         Effect::PendingData(n) => {
-            e.waits = true;
-            e.waiting = n;
-            e.waiter = link;
+            e.pending = true;
+            e.pendinglength = n;
+            e.pendinglink = link;
             e
         }
         Effect::IndexData(n, _, _) => {

@@ -1,12 +1,13 @@
 // What an update leaves of the endpoint's own entry and of the transaction, so that the next update can be decided before anything is written.
 use crate::Then;
 use crate::Update;
-use tables::Endpoint;
-use tables::Phase;
+use endpoints::Endpoint;
+use endpoints::Phase;
+use endpoints::entry::with_phase;
 use transaction::Transaction;
 ghost use mathlib.Core.Path.{_≡_};
 ghost use Prim.Native.Nat.{_<_, _^_};
-ghost use Rattle.tables.specs.Table.{withPhase};
+ghost use Rattle.endpoints.specs.Table.{withPhase};
 ghost use Rattle.rules.specs.Groups.{closePhase, activated};
 ghost use Rattle.rules.specs.World.{moreTransactions, withLink};
 ghost use Rattle.update.specs.Update.{when};
@@ -29,31 +30,6 @@ fn close(phase: Phase) -> Phase
     }
 }
 
-// The entry with another phase; a field that is an enum is not assigned in place.
-fn with_phase(phase: Phase, e: Endpoint) -> Endpoint
-    ensures { λ r. ⌜ r ≡ withPhase phase e ⌝ }
-{
-    Endpoint {
-        device: e.device,
-        address: e.address,
-        phase,
-        state: e.state,
-        transactions: e.transactions,
-        groups: e.groups,
-        total: e.total,
-        first: e.first,
-        done: e.done,
-        last: e.last,
-        success: e.success,
-        ready: e.ready,
-        setup: e.setup,
-        payload: e.payload,
-        waits: e.waits,
-        waiting: e.waiting,
-        waiter: e.waiter,
-    }
-}
-
 fn link_entry(on: bool, e: Endpoint) -> Endpoint
     requires { ⌜ e .transactions < 2 ^ 63 ⌝ }
     ensures { λ r. ⌜ r ≡ when on moreTransactions e ⌝ }
@@ -70,7 +46,7 @@ fn link_entry(on: bool, e: Endpoint) -> Endpoint
 fn over_entry(on: bool, e: Endpoint) -> Endpoint
     ensures { λ r. ⌜ r ≡ when on overEntry e ⌝ }
 {
-    if on { with_phase(Phase::Ended, e) } else { e }
+    if on { with_phase(e, Phase::Ended) } else { e }
 }
 
 fn end_entry(on: bool, e: Endpoint) -> Endpoint
@@ -79,7 +55,7 @@ fn end_entry(on: bool, e: Endpoint) -> Endpoint
     if on {
         let mut e = e;
         e.state = ENDING;
-        with_phase(Phase::Ended, e)
+        with_phase(e, Phase::Ended)
     } else {
         e
     }
@@ -90,7 +66,7 @@ fn close_entry(on: bool, e: Endpoint) -> Endpoint
 {
     if on {
         let phase = e.phase;
-        with_phase(close(phase), e)
+        with_phase(e, close(phase))
     } else {
         e
     }
@@ -120,7 +96,7 @@ fn begin(done: bool, pid: u8, e: Endpoint) -> Endpoint
     e.done = done;
     e.last = pid;
     e.payload = 0;
-    with_phase(Phase::Active, e)
+    with_phase(e, Phase::Active)
 }
 
 fn become_entry(group: Then, pid: u8, e: Endpoint) -> Endpoint
@@ -136,7 +112,7 @@ fn become_entry(group: Then, pid: u8, e: Endpoint) -> Endpoint
             e.last = pid;
             e
         }
-        Then::BeginEarly => with_phase(Phase::Early, e),
+        Then::BeginEarly => with_phase(e, Phase::Early),
     }
 }
 

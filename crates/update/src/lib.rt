@@ -1,11 +1,11 @@
 // What a call does to the groups of one endpoint, decided from values alone before anything is written (document 000, from group_early_start on).
 pub mod effect;
 pub mod entry;
-pub mod tally;
 
+use endpoints::Endpoint;
+use endpoints::Phase;
 use group::GroupStatus;
-use tables::Endpoint;
-use tables::Phase;
+use group::step::is_active;
 use transaction::Transaction;
 use usb::pid::IN;
 use usb::pid::MALFORMED;
@@ -124,17 +124,6 @@ pub fn decide_update(status: GroupStatus, phase: Phase, linked: bool, same: bool
         GroupStatus::Retry => appends(Then::BeginFailed, Then::Keep, phase, linked),
         GroupStatus::Done => ends(same, appends(Then::Begin, Then::Last, phase, linked)),
         GroupStatus::Invalid => ends(same, starts(Then::BeginFailed, phase, linked)),
-    }
-}
-
-fn is_active(phase: Phase) -> bool
-    ensures { λ r. ⌜ r ≡ isActive phase ⌝ }
-{
-    match phase {
-        Phase::None => false,
-        Phase::Early => false,
-        Phase::Active => true,
-        Phase::Ended => false,
     }
 }
 

@@ -1,5 +1,6 @@
--- USB 2.0, 8.1: bits and bytes are sent lowest first. Bytes are read as one number, and a field is some of its bits.
+-- To be believed: USB 2.0, 8.1: bits and bytes are sent lowest first. Bytes are read as one number, and a field is some of its bits.
 -- Assumes nothing.
+-- Hold it to: USB 2.0, 8.1
 use Prim.Native.Nat.{ℕ, _+_, _*_, _/_, _%_, _^_}
 use mathlib.Core.List.{List, [], _∷_}
 use lib.ListN.{take, drop}

@@ -1,20 +1,16 @@
--- USB 2.0, 8.4.1 to 8.4.3 and 9.3: the fields of a packet, each with its first bit and its number of bits.
+-- To be believed: USB 2.0, 8.4.1, 8.4.2 and 9.3: the fields of a packet, each with its first bit and its number of bits.
 -- Assumes nothing.
+-- Hold it to: USB 2.0, 8.4.1, 8.4.2 and 9.3 (table 9-2); TokenFields, SplitFields and SetupFields of usb.rs
 use Prim.Native.Nat.{ℕ}
 use mathlib.Core.List.{List}
 use Rattle.usb.specs.Bits.{after, field}
 use Rattle.usb.specs.declared.fields.Token.{Token}
-use Rattle.usb.specs.declared.fields.Sof.{Sof}
 use Rattle.usb.specs.declared.fields.Split.{Split}
 use Rattle.usb.specs.declared.fields.Setup.{Setup}
 
 -- 8.4.1, figure 8-5: the 7 bits of ADDR (8.3.2.1), the 4 of ENDP (8.3.2.2)
 abbrev pub tokenOf : List ℕ → Token
 tokenOf p = record { address = field 0 7 (after 2 p); number = field 7 4 (after 2 p) }
-
--- 8.4.3: the 11 bits of the frame number (8.3.3)
-abbrev pub sofOf : List ℕ → Sof
-sofOf p = record { frame = field 0 11 (after 2 p) }
 
 -- 8.4.2: hub address, SC, port, S, E (unused where SC is 1), endpoint type
 abbrev pub splitOf : List ℕ → Split
@@ -44,9 +40,6 @@ setupOf d =
     }
 
 -- table 9-2: what bmRequestType is made of
-abbrev pub recipientOf : ℕ → ℕ
-recipientOf kind = field 0 5 kind
-
 abbrev pub requestTypeOf : ℕ → ℕ
 requestTypeOf kind = field 5 2 kind
 

@@ -1,4 +1,4 @@
--- What a valid packet's PID says of its length: for callers of `usb::fields`. Nothing here is to be believed; all of it follows from Packet.
+-- Laws (proved): what a valid packet's PID says of its length: for callers of `usb::fields`. Nothing here is to be believed; all of it follows from Packet.
 -- Assumes nothing.
 use Prim.Native.Nat.{ℕ, _≤_}
 use mathlib.Core.Path.{_≡_, refl, sym, ap, subst, _∙_}

@@ -1,5 +1,6 @@
--- USB 2.0, 8.3 and 8.4, with the lengths of document 01: which byte strings are packets.
+-- To be believed: USB 2.0, 8.3 and 8.4, with the lengths of document 01: which byte strings are packets.
 -- Assumes nothing.
+-- Hold it to: USB 2.0, 8.3 and 8.4; 01, "Packets"; validate_packet of usb.rs
 use Prim.Native.Nat.{ℕ, _+_, _-_, _*_}
 use mathlib.Core.Bool.{Bool, true, false}
 use mathlib.Core.List.{List, [], _∷_}

@@ -1,5 +1,6 @@
--- USB 2.0, 8.3.1 and table 8-1: the PID byte of each packet type, PID<3:0> below and its complement above.
+-- To be believed: USB 2.0, 8.3.1 and table 8-1: the PID byte of each packet type, PID<3:0> below and its complement above.
 -- Assumes nothing.
+-- Hold it to: USB 2.0, 8.3.1 and table 8-1
 use Prim.Native.Nat.{ℕ}
 
 -- 0001B

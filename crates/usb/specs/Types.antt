@@ -1,5 +1,6 @@
--- USB 2.0, 8.4.2: the endpoint types and the two values of SC, as a SPLIT packet codes them.
+-- To be believed: USB 2.0, 8.4.2: the endpoint types and the two values of SC, as a SPLIT packet codes them.
 -- Assumes nothing.
+-- Hold it to: USB 2.0, 8.4.2
 use Prim.Native.Nat.{ℕ}
 
 abbrev pub Control : ℕ

@@ -1,9 +1,9 @@
-// The fields of packets: numbers of some bits, lowest bit first (USB 2.0, 8.4.1 to 8.4.3, and 9.3 for setup data).
+// The fields of packets: numbers of some bits, lowest bit first (USB 2.0, 8.4.1 and 8.4.2, and 9.3 for setup data). A byte that a packet lacks counts as 0.
 ghost use mathlib.Core.Path.{_≡_};
-ghost use Prim.Native.Nat.{_+_, _*_, _≤_};
-ghost use lib.ListN.{length};
-ghost use Rattle.usb.specs.Bits.{after};
-ghost use Rattle.usb.specs.Fields.{tokenOf, sofOf, splitOf, setupDataOf, setupOf, directionOf, requestTypeOf, recipientOf};
+ghost use Prim.Native.Nat.{_+_, _*_, _<_, _≤_};
+ghost use lib.ListN.{length, getD, take, drop};
+ghost use Rattle.usb.specs.Bits.{after, number};
+ghost use Rattle.usb.specs.Fields.{tokenOf, splitOf, setupDataOf, setupOf, directionOf, requestTypeOf};
 
 // Two bytes as one number, the first lowest.
 pub fn pair(a: u8, b: u8) -> u16
@@ -34,31 +34,6 @@ pub struct Token {
     pub number: u8,
 }
 
-pub fn token_fields(packet: &[u8]) -> Token
-    requires { ⌜ 3 ≤ length (now packet) ⌝ }
-    ensures { λ r. ⌜ r ≡ tokenOf (now (packet .entry)) ⌝ }
-{
-    let x = two(packet);
-    Token {
-        address: (x % 128) as u8,
-        number: (x / 128 % 16) as u8,
-    }
-}
-
-// `SOFFields` of the Rust.
-pub struct Sof {
-    pub frame: u16,
-}
-
-pub fn sof_fields(packet: &[u8]) -> Sof
-    requires { ⌜ 3 ≤ length (now packet) ⌝ }
-    ensures { λ r. ⌜ r ≡ sofOf (now (packet .entry)) ⌝ }
-{
-    Sof {
-        frame: (two(packet) % 2048) as u16,
-    }
-}
-
 // `SplitFields` of the Rust; `kind` is the endpoint type.
 pub struct Split {
     pub hub: u8,
@@ -67,31 +42,6 @@ pub struct Split {
     pub start: u8,
     pub end: u8,
     pub kind: u8,
-}
-
-pub fn split_fields(packet: &[u8]) -> Split
-    requires { ⌜ 4 ≤ length (now packet) ⌝ }
-    ensures { λ r. ⌜ r ≡ splitOf (now (packet .entry)) ⌝ }
-{
-    let x = three(packet);
-    Split {
-        hub: (x % 128) as u8,
-        sc: (x / 128 % 2) as u8,
-        port: (x / 256 % 128) as u8,
-        start: (x / 32768 % 2) as u8,
-        end: (x / 65536 % 2) as u8,
-        kind: (x / 131072 % 4) as u8,
-    }
-}
-
-// The 8 bytes of setup data in a SETUP's DATA0, as one number.
-pub fn setup_data(packet: &[u8]) -> u64
-    requires { ⌜ 9 ≤ length (now packet) ⌝ }
-    ensures { λ r. ⌜ r ≡ setupDataOf (now (packet .entry)) ⌝ }
-{
-    let low = pair(packet[1], packet[2]) as u64 + pair(packet[3], packet[4]) as u64 * 0x10000;
-    let high = pair(packet[5], packet[6]) as u64 + pair(packet[7], packet[8]) as u64 * 0x10000;
-    low + high * 0x100000000
 }
 
 // `SetupFields` of the Rust; `kind` is bmRequestType, its `RequestTypeFields`.
@@ -103,37 +53,91 @@ pub struct Setup {
     pub length: u16,
 }
 
-pub fn setup_fields(setup: u64) -> Setup
-    ensures { λ r. ⌜ r ≡ setupOf setup ⌝ }
+fn byte(packet: &[u8], i: usize) -> u8
+    ensures { λ r. ⌜ r ≡ getD (now (packet .entry)) i 0 ⌝ }
 {
-    Setup {
-        kind: (setup % 0x100) as u8,
-        request: (setup / 0x100 % 0x100) as u8,
-        value: (setup / 0x10000 % 0x10000) as u16,
-        index: (setup / 0x100000000 % 0x10000) as u16,
-        length: (setup / 0x1000000000000 % 0x10000) as u16,
+    if i < packet.len() { packet[i] } else { 0 }
+}
+
+// Two bytes from place i on as one number.
+fn two_from(packet: &[u8], i: usize) -> u16
+    requires { ⌜ i < 8 ⌝ }
+    ensures { λ r. ⌜ r ≡ number (take 2 (drop i (now (packet .entry)))) ⌝ }
+{
+    pair(byte(packet, i), byte(packet, i + 1))
+}
+
+// Four bytes from place i on as one number.
+fn four_from(packet: &[u8], i: usize) -> u32
+    requires { ⌜ i < 6 ⌝ }
+    ensures { λ r. ⌜ r ≡ number (take 4 (drop i (now (packet .entry)))) ⌝ }
+{
+    two_from(packet, i) as u32 + two_from(packet, i + 2) as u32 * 65536
+}
+
+pub fn token_of(packet: &[u8]) -> Token
+    ensures { λ r. ⌜ r ≡ tokenOf (now (packet .entry)) ⌝ }
+{
+    let x = two_from(packet, 1);
+    Token {
+        address: (x % 128) as u8,
+        number: (x / 128 % 16) as u8,
     }
 }
 
-impl Setup {
-    // 0 host to device, 1 device to host.
-    pub fn direction(self) -> u8
-        ensures { λ r. ⌜ r ≡ directionOf (self .kind) ⌝ }
-    {
-        self.kind / 128 % 2
-    }
+// SC of a SPLIT packet.
+pub fn split_sc(packet: &[u8]) -> u8
+    ensures { λ r. ⌜ r ≡ splitOf (now (packet .entry)) .sc ⌝ }
+{
+    byte(packet, 1) / 128 % 2
+}
 
-    // 0 standard, 1 class, 2 vendor.
-    pub fn request_type(self) -> u8
-        ensures { λ r. ⌜ r ≡ requestTypeOf (self .kind) ⌝ }
-    {
-        self.kind / 32 % 4
-    }
+// The endpoint type of a SPLIT packet.
+pub fn split_kind(packet: &[u8]) -> u8
+    ensures { λ r. ⌜ r ≡ splitOf (now (packet .entry)) .kind ⌝ }
+{
+    byte(packet, 3) / 2 % 4
+}
 
-    // 0 device, 1 interface, 2 endpoint, 3 other.
-    pub fn recipient(self) -> u8
-        ensures { λ r. ⌜ r ≡ recipientOf (self .kind) ⌝ }
-    {
-        self.kind % 32
-    }
+pub fn setup_of(packet: &[u8]) -> u64
+    ensures { λ r. ⌜ r ≡ setupDataOf (now (packet .entry)) ⌝ }
+{
+    four_from(packet, 1) as u64 + four_from(packet, 5) as u64 * 0x100000000
+}
+
+// ---- the fields of a request (9.3, table 9-2), out of its eight bytes as one number, first byte lowest
+
+// bmRequestType's direction: 1 is device to host.
+pub fn direction(setup: u64) -> u8
+    ensures { λ r. ⌜ r ≡ directionOf (setupOf setup .kind) ⌝ }
+{
+    (setup % 256 / 128 % 2) as u8
+}
+
+// bmRequestType's type: 0 is standard.
+pub fn request_type(setup: u64) -> u8
+    ensures { λ r. ⌜ r ≡ requestTypeOf (setupOf setup .kind) ⌝ }
+{
+    (setup % 256 / 32 % 4) as u8
+}
+
+// bRequest.
+pub fn request(setup: u64) -> u8
+    ensures { λ r. ⌜ r ≡ setupOf setup .request ⌝ }
+{
+    (setup / 256 % 256) as u8
+}
+
+// wValue.
+pub fn value(setup: u64) -> u16
+    ensures { λ r. ⌜ r ≡ setupOf setup .value ⌝ }
+{
+    (setup / 65536 % 65536) as u16
+}
+
+// wLength.
+pub fn length(setup: u64) -> u16
+    ensures { λ r. ⌜ r ≡ setupOf setup .length ⌝ }
+{
+    (setup / 281474976710656 % 65536) as u16
 }

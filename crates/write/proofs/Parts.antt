@@ -6,18 +6,19 @@ use mathlib.Core.List.{List, [], _∷_}
 use mathlib.Core.Path.{_≡_, refl, _∙_}
 use lib.ListN.{length}
 use lib.Seq.{sets, length-sets}
-use Rattle.rows.specs.Sets.{one}
-use Rattle.tables.specs.Link as kind
-use Rattle.tables.specs.Phases.{waiting, closing, cleared}
-use Rattle.tables.specs.States.{nextStates, stateBytes}
+use Rattle.rows.specs.Widths.{groupWidth, linkWidth}
+use Rattle.rows.specs.One.{one}
+use Rattle.endpoints.specs.Link as kind
+use Rattle.endpoints.specs.Phases.{waiting}
+use Rattle.endpoints.specs.Each.{closing, cleared, nextStates, stateBytes}
 use Rattle.rules.specs.World.{moreGroups}
 use Rattle.update.specs.Update.{when}
-use Rattle.write.specs.Memory.{Memory, Room, memory, linkTally, groupTally, itemTally, alter, startGroup, lastNumber}
-use Rattle.write.specs.declared.Tally.{Tally}
+use Rattle.write.specs.Memory.{Memory, Room, memory, linkWritten, groupWritten, itemWritten, alter, startGroup, lastNumber}
+use Rattle.write.specs.declared.Written.{Written}
 
-pub parts : {d d′ : Tally} {t t′ g g′ s s′ m m′ i i′ l l′ : List ℕ}
-    → d ≡ d′ → t ≡ t′ → g ≡ g′ → s ≡ s′ → m ≡ m′ → i ≡ i′ → l ≡ l′ → memory d t g s m i l ≡ memory d′ t′ g′ s′ m′ i′ l′
-parts d t g s m i l = rw (d, t, g, s, m, i, l) refl
+pub parts : {d d′ : Written} {t t′ g g′ s s′ m m′ i i′ l l′ : List ℕ}
+    → d ≡ d′ → t ≡ t′ → g ≡ g′ → m ≡ m′ → s ≡ s′ → i ≡ i′ → l ≡ l′ → memory d t g m s i l ≡ memory d′ t′ g′ m′ s′ i′ l′
+parts d t g m s i l = rw (d, t, g, s, m, i, l) refl
 
 -- the table that an item after a start row sees
 abbrev pub started : ℕ → ℕ → List ℕ → List ℕ
@@ -25,55 +26,55 @@ started n x t = nextStates (alter x moreGroups t) n x true
 
 -- the room of a start's parts
 module _ (n x : ℕ) (m : Memory) (r : Room (startGroup n x m)) where
-  pub room-groups : (m .tally .groups + 1) * 3 ≤ length (m .groups)
-  room-groups = omega (arith, r .groups, length-sets (m .groups) (m .tally .groups * 3) (x ∷ lastNumber x (alter x moreGroups (m .table)) ∷ 1 ∷ []))
+  pub room-groups : (m .written .groups + 1) * groupWidth ≤ length (m .groups)
+  room-groups = omega (arith, r .groups, length-sets (m .groups) (m .written .groups * groupWidth) (x ∷ lastNumber x (alter x moreGroups (m .table)) ∷ 1 ∷ []))
 
-  pub room-states : m .tally .states + 1 ≤ length (m .states)
-  room-states = omega (arith, r .states, length-sets (m .states) (m .tally .states) (m .tally .marks ∷ []))
+  pub room-states : m .written .states + 1 ≤ length (m .states)
+  room-states = omega (arith, r .states, length-sets (m .states) (m .written .states) (m .written .statebytes ∷ []))
 
-  pub room-marks : m .tally .marks + n ≤ length (m .marks)
-  room-marks = omega (arith, r .marks, length-sets (m .marks) (m .tally .marks) (stateBytes (started n x (m .table)) 0 n))
+  pub room-statebytes : m .written .statebytes + n ≤ length (m .statebytes)
+  room-statebytes = omega (arith, r .statebytes, length-sets (m .statebytes) (m .written .statebytes) (stateBytes (started n x (m .table)) 0 n))
 
-  pub room-items : m .tally .items + 1 ≤ length (m .items)
-  room-items = omega (arith, r .items, length-sets (m .items) (m .tally .items) (pred (m .tally .groups + 1) ∷ []))
+  pub room-items : m .written .items + 1 ≤ length (m .items)
+  room-items = omega (arith, r .items, length-sets (m .items) (m .written .items) (pred (m .written .groups + 1) ∷ []))
 
   abbrev linked : List ℕ
-  linked = sets (m .links) (m .tally .links * 4) (kind.G ∷ x ∷ m .tally .link ∷ 0 ∷ [])
+  linked = sets (m .links) (m .written .links * linkWidth) (kind.G ∷ x ∷ m .written .link ∷ 0 ∷ [])
 
-  pub room-closing : (m .tally .links + 1 + waiting (started n x (m .table)) n) * 4 ≤ length linked
-  room-closing = rw (length-sets linked ((m .tally .links + 1) * 4) (closing (started n x (m .table)) (m .tally .items) 0 n)) at (r .links)
+  pub room-closing : (m .written .links + 1 + waiting (started n x (m .table)) n) * 4 ≤ length linked
+  room-closing = rw (length-sets linked ((m .written .links + 1) * linkWidth) (closing (started n x (m .table)) (m .written .items) 0 n)) at (r .links)
 
-  pub room-link : (m .tally .links + 1) * 4 ≤ length (m .links)
-  room-link = omega (arith, room-closing, length-sets (m .links) (m .tally .links * 4) (kind.G ∷ x ∷ m .tally .link ∷ 0 ∷ []))
+  pub room-link : (m .written .links + 1) * linkWidth ≤ length (m .links)
+  room-link = omega (arith, room-closing, length-sets (m .links) (m .written .links * linkWidth) (kind.G ∷ x ∷ m .written .link ∷ 0 ∷ []))
 
   -- the room of its item, over what the rows before it left
-  pub room-item : {d₁ d₂ : Tally} {t₁ t₂ l₁ : List ℕ} → d₁ ≡ linkTally (m .tally) → l₁ ≡ linked → t₁ ≡ alter x moreGroups (m .table) → d₂ ≡ groupTally n d₁ → t₂ ≡ nextStates t₁ n x true
-      → (d₂ .items + 1 ≤ length (m .items)) × ((d₂ .links + waiting t₂ n) * 4 ≤ length l₁)
+  pub room-item : {d₁ d₂ : Written} {t₁ t₂ l₁ : List ℕ} → d₁ ≡ linkWritten (m .written) → l₁ ≡ linked → t₁ ≡ alter x moreGroups (m .table) → d₂ ≡ groupWritten n d₁ → t₂ ≡ nextStates t₁ n x true
+      → (d₂ .items + 1 ≤ length (m .items)) × ((d₂ .links + waiting t₂ n) * linkWidth ≤ length l₁)
   room-item link-d link-l more row-d row-t = rw (row-d, row-t, more, link-d, link-l) (room-items, room-closing)
 
 -- a start by what each row left: the G row, the endpoint, the start row and the item
-pub start-is : (n x : ℕ) (on : Bool) (a : Memory) {d₁ d₂ d₃ : Tally} {t₁ t₂ t₃ g₂ s₂ m₂ i₃ l₁ l₃ : List ℕ} {nth : ℕ}
+pub start-is : (n x : ℕ) (on : Bool) (a : Memory) {d₁ d₂ d₃ : Written} {t₁ t₂ t₃ g₂ s₂ m₂ i₃ l₁ l₃ : List ℕ} {nth : ℕ}
     → on ≡ true
-    → d₁ ≡ linkTally (a .tally)
-    → l₁ ≡ sets (a .links) (a .tally .links * 4) (kind.G ∷ x ∷ a .tally .link ∷ 0 ∷ [])
+    → d₁ ≡ linkWritten (a .written)
+    → l₁ ≡ sets (a .links) (a .written .links * linkWidth) (kind.G ∷ x ∷ a .written .link ∷ 0 ∷ [])
     → t₁ ≡ alter x moreGroups (a .table)
     → nth ≡ lastNumber x t₁
-    → d₂ ≡ groupTally n d₁
+    → d₂ ≡ groupWritten n d₁
     → t₂ ≡ nextStates t₁ n x true
-    → g₂ ≡ sets (a .groups) (d₁ .groups * 3) (x ∷ nth ∷ one true ∷ [])
-    → s₂ ≡ sets (a .states) (d₁ .states) (d₁ .marks ∷ [])
-    → m₂ ≡ sets (a .marks) (d₁ .marks) (stateBytes (nextStates t₁ n x true) 0 n)
-    → d₃ ≡ itemTally (waiting t₂ n) x d₂
+    → g₂ ≡ sets (a .groups) (d₁ .groups * groupWidth) (x ∷ nth ∷ one true ∷ [])
+    → m₂ ≡ sets (a .statebytes) (d₁ .statebytes) (stateBytes (nextStates t₁ n x true) 0 n)
+    → s₂ ≡ sets (a .states) (d₁ .states) (d₁ .statebytes ∷ [])
+    → d₃ ≡ itemWritten (waiting t₂ n) x d₂
     → t₃ ≡ cleared t₂ n
     → i₃ ≡ sets (a .items) (d₂ .items) (pred (d₂ .groups) ∷ [])
-    → l₃ ≡ sets l₁ (d₂ .links * 4) (closing t₂ (d₂ .items) 0 n)
-    → memory d₃ t₃ g₂ s₂ m₂ i₃ l₃ ≡ when on (startGroup n x) a
-start-is n x on a taken link-d link-l more nth row-d row-t row-g row-s row-m item-d item-t item-i item-l =
+    → l₃ ≡ sets l₁ (d₂ .links * linkWidth) (closing t₂ (d₂ .items) 0 n)
+    → memory d₃ t₃ g₂ m₂ s₂ i₃ l₃ ≡ when on (startGroup n x) a
+start-is n x on a taken link-d link-l more nth row-d row-t row-g row-m row-s item-d item-t item-i item-l =
     rw taken
     (parts (item-d ∙ rw (row-t, row-d, more, link-d) refl)
     (item-t ∙ rw (row-t, more) refl)
     (row-g ∙ rw (link-d, nth, more) refl)
-    (row-s ∙ rw link-d refl)
     (row-m ∙ rw (link-d, more) refl)
+    (row-s ∙ rw link-d refl)
     (item-i ∙ rw (row-d, link-d) refl)
     (item-l ∙ rw (row-d, row-t, link-d, link-l, more) refl))

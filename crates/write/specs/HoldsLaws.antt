@@ -1,4 +1,4 @@
--- Each step on memory carries what it holds to the world after the rules' step of the same name.
+-- Laws (proved): each step on memory carries what it holds to the world after the rules' step of the same name.
 use Prim.Native.Nat.{ℕ, zero, suc, pred, _+_, _*_, _<_, _≤_}
 use native.Mathlib.Omega.{arith}
 use mathlib.Core.Bool.{Bool, true, false, cond}
@@ -8,24 +8,27 @@ use borrow.Author.Tests.{eqb-true, eqb-false}
 use lib.Dec.{eqb}
 use lib.ListN.{length, length-append}
 use lib.Seq.{sets, length-sets}
-use Rattle.rows.specs.Sets.{one, sets-then}
-use Rattle.tables.specs.Link as kind
-use Rattle.tables.specs.Phases.{inPhase, waiting, closed, closing}
-use Rattle.tables.specs.PhasesLaws.{length-closing, length-cleared, entry-cleared, phase-entry, afterItem}
-use Rattle.tables.specs.States.{nextState, nextStates, stateBytes}
-use Rattle.tables.specs.StatesLaws.{length-states, length-next, entry-next}
-use Rattle.tables.specs.Word as word
-use Rattle.tables.specs.Table.{words, entryAt, storeAt, withPhase, withState, phaseWord, Fits}
-use Rattle.tables.specs.TableLaws.{load-store-same, load-store-other, fits-entry}
-use Rattle.tables.specs.declared.Endpoint.{Endpoint}
-use Rattle.tables.specs.declared.Phase.{Phase}
-use Rattle.tables.specs.declared.Phase.the-variants.{None, Early, Active, Ended}
+use Rattle.rows.specs.Widths.{groupWidth, linkWidth}
+use Rattle.rows.specs.One.{one}
+use Rattle.rows.specs.Sets.{sets-then}
+use Rattle.endpoints.specs.Link as kind
+use Rattle.endpoints.specs.Phases.{inPhase, waiting}
+use Rattle.endpoints.specs.Each.{closed, closing, nextStates, stateBytes}
+use Rattle.endpoints.specs.PhasesLaws.{length-closing, length-cleared, entry-cleared, phase-entry, afterItem}
+use Rattle.endpoints.specs.States.{nextState}
+use Rattle.endpoints.specs.StatesLaws.{length-states, length-next, entry-next}
+use Rattle.endpoints.specs.Word as word
+use Rattle.endpoints.specs.Table.{words, entryAt, storeAt, withPhase, withState, phaseWord}
+use Rattle.endpoints.specs.TableLaws.{Fits, load-store-same, load-store-other, fits-entry}
+use Rattle.endpoints.specs.declared.Endpoint.{Endpoint}
+use Rattle.endpoints.specs.declared.Phase.{Phase}
+use Rattle.endpoints.specs.declared.Phase.the-variants.{None, Early, Active, Ended}
 use Rattle.transaction.specs.Payload.{startPid}
 use Rattle.transaction.specs.Table.{pick}
-use Rattle.rules.specs.Rows.{Row, GroupRow, StateRow, StateBytes, ItemRow, T, G, E, Over, written, log}
+use Rattle.rules.specs.Rows.{Row, GroupRow, grouping, StateRow, StateBytes, ItemRow, T, G, E, Over, written, log}
 use Rattle.rules.specs.World.{World, push, change, lastGroup, withTransaction, withLink, moreTransactions, moreGroups, cleared}
 use Rattle.rules.specs.Groups.{addGroupEntry, addItem, link, pushGroup, over, closePhase, closeRow, closeRows, statesFrom}
-use Rattle.write.specs.Memory.{Memory, Room, groupRow, itemRow, linkRow, altered, alter, withTally, tied, entryRow, endRow, linkStep, startGroup}
+use Rattle.write.specs.Memory.{Memory, Room, groupRow, itemRow, linkRow, altered, alter, withWritten, tied, entryRow, endRow, linkStep, startGroup}
 use Rattle.write.specs.Holds.{Appended, Holds, Space}
 
 -- ---- one log
@@ -58,9 +61,9 @@ none k words to js e = rw e (record { written = refl; filled = omega arith })
 -- where a call begins
 pub holds-start : (n id pid : ℕ) (w : World) (m : Memory) → w .journal ≡ [] → length (m .table) ≡ 2176 → w .count ≡ n
     → ((j : ℕ) → j < n → entryAt (m .table) j ≡ w .endpoints j) → w .transaction .id ≡ id → startPid (w .transaction .style) ≡ pid
-    → m .tally .linked ≡ w .transaction .linked → m .tally .link ≡ w .transaction .link → m .tally .last ≡ w .lastItem
-    → m .tally .groups ≡ w .groups → m .tally .marks ≡ w .stateBytes → m .tally .items ≡ w .items → Holds n id pid m w m
-holds-start n id pid w m e sized count endpoints row began linked link lastItem groups marks items =
+    → m .written .linked ≡ w .transaction .linked → m .written .link ≡ w .transaction .link → m .written .last ≡ w .lastItem
+    → m .written .groups ≡ w .groups → m .written .statebytes ≡ w .stateBytes → m .written .items ≡ w .items → Holds n id pid m w m
+holds-start n id pid w m e sized count endpoints row began linked link lastItem groups statebytes items =
     record {
       sized = sized;
       count = count;
@@ -71,13 +74,13 @@ holds-start n id pid w m e sized count endpoints row began linked link lastItem 
       link = link;
       lastItem = lastItem;
       groupCount = groups;
-      markCount = marks;
+      stateByteCount = statebytes;
       itemCount = items;
-      groups = none 6 (m .groups) (m .tally .groups * 3) (w .journal) e;
-      marks = none 7 (m .marks) (m .tally .marks) (w .journal) e;
-      states = none 8 (m .states) (m .tally .states) (w .journal) e;
-      items = none 9 (m .items) (m .tally .items) (w .journal) e;
-      links = none 10 (m .links) (m .tally .links * 4) (w .journal) e;
+      groups = none 6 (m .groups) (m .written .groups * groupWidth) (w .journal) e;
+      statebytes = none 7 (m .statebytes) (m .written .statebytes) (w .journal) e;
+      states = none 8 (m .states) (m .written .states) (w .journal) e;
+      items = none 9 (m .items) (m .written .items) (w .journal) e;
+      links = none 10 (m .links) (m .written .links * linkWidth) (w .journal) e;
     }
 
 -- room is what the journal's rows need
@@ -86,7 +89,7 @@ holds-room h r =
     record {
       groups = appended-fits (h .groups) (r .groups);
       states = appended-fits (h .states) (r .states);
-      marks = appended-fits (h .marks) (r .marks);
+      statebytes = appended-fits (h .statebytes) (r .statebytes);
       items = appended-fits (h .items) (r .items);
       links = appended-fits (h .links) (r .links);
     }
@@ -107,10 +110,10 @@ module _ {n id pid : ℕ} {m₀ m : Memory} {w : World} (h : Holds n id pid m₀
         link = h .link;
         lastItem = h .lastItem;
         groupCount = h .groupCount;
-        markCount = h .markCount;
+        stateByteCount = h .stateByteCount;
         itemCount = h .itemCount;
         groups = h .groups;
-        marks = h .marks;
+        statebytes = h .statebytes;
         states = h .states;
         items = h .items;
         links = h .links;
@@ -136,10 +139,10 @@ module _ {n id pid : ℕ} {m₀ m : Memory} {w : World} (h : Holds n id pid m₀
         link = h .link;
         lastItem = h .lastItem;
         groupCount = h .groupCount;
-        markCount = h .markCount;
+        stateByteCount = h .stateByteCount;
         itemCount = h .itemCount;
         groups = keep (h .groups) _ (append-nil _);
-        marks = keep (h .marks) _ (append-nil _);
+        statebytes = keep (h .statebytes) _ (append-nil _);
         states = keep (h .states) _ (append-nil _);
         items = keep (h .items) _ (append-nil _);
         links = keep (h .links) _ (append-nil _);
@@ -159,17 +162,17 @@ module _ {n id pid : ℕ} {m₀ m : Memory} {w : World} (h : Holds n id pid m₀
         link = h .link;
         lastItem = h .lastItem;
         groupCount = h .groupCount;
-        markCount = h .markCount;
+        stateByteCount = h .stateByteCount;
         itemCount = h .itemCount;
         groups = keep (h .groups) _ (rw e (append-nil _));
-        marks = keep (h .marks) _ (rw e (append-nil _));
+        statebytes = keep (h .statebytes) _ (rw e (append-nil _));
         states = keep (h .states) _ (rw e (append-nil _));
         items = keep (h .items) _ (rw e (append-nil _));
         links = append (h .links) _ (k ∷ x ∷ a ∷ b ∷ []) (rw e refl) refl (omega arith);
       }
 
   -- the transaction's T row
-  pub holds-tied : (i i′ : ℕ) → i ≡ i′ → Holds n id pid m₀ (withTransaction (withLink i′ (w .transaction)) w) (withTally (tied i) m)
+  pub holds-tied : (i i′ : ℕ) → i ≡ i′ → Holds n id pid m₀ (withTransaction (withLink i′ (w .transaction)) w) (withWritten (tied i) m)
   holds-tied i i′ e =
       record {
         sized = h .sized;
@@ -181,10 +184,10 @@ module _ {n id pid : ℕ} {m₀ m : Memory} {w : World} (h : Holds n id pid m₀
         link = e;
         lastItem = h .lastItem;
         groupCount = h .groupCount;
-        markCount = h .markCount;
+        stateByteCount = h .stateByteCount;
         itemCount = h .itemCount;
         groups = h .groups;
-        marks = h .marks;
+        statebytes = h .statebytes;
         states = h .states;
         items = h .items;
         links = h .links;
@@ -218,11 +221,11 @@ module _ {n id pid : ℕ} {m₀ m : Memory} {w : World} (h : Holds n id pid m₀
         link = h .link;
         lastItem = h .lastItem;
         groupCount = omega (arith, h .groupCount);
-        markCount = omega (arith, h .markCount, h .count);
+        stateByteCount = omega (arith, h .stateByteCount, h .count);
         itemCount = h .itemCount;
         groups = append (h .groups) _ (x ∷ nth ∷ one start ∷ []) (simp (e, append-nil)) refl (omega arith);
-        marks = append (h .marks) _ (stateBytes (nextStates (m .table) n x start) 0 n) (simp (append-nil, bytes)) refl (omega (arith, length-states (nextStates (m .table) n x start) 0 n));
-        states = append (h .states) _ (m .tally .marks ∷ []) (simp (append-nil, h .markCount)) refl (omega arith);
+        statebytes = append (h .statebytes) _ (stateBytes (nextStates (m .table) n x start) 0 n) (simp (append-nil, bytes)) refl (omega (arith, length-states (nextStates (m .table) n x start) 0 n));
+        states = append (h .states) _ (m .written .statebytes ∷ []) (simp (append-nil, h .stateByteCount)) refl (omega arith);
         items = keep (h .items) _ (simp append-nil);
         links = keep (h .links) _ (simp append-nil);
       }
@@ -294,21 +297,21 @@ module _ {n id pid : ℕ} {m₀ m : Memory} {w : World} (h : Holds n id pid m₀
         link = h .link;
         lastItem = refl;
         groupCount = h .groupCount;
-        markCount = h .markCount;
+        stateByteCount = h .stateByteCount;
         itemCount = omega (arith, h .itemCount);
         groups = keep (h .groups) _ (close-else 6 refl (w .endpoints) (w .items) (w .count) _ ∙ append-nil _);
-        marks = keep (h .marks) _ (close-else 7 refl (w .endpoints) (w .items) (w .count) _ ∙ append-nil _);
+        statebytes = keep (h .statebytes) _ (close-else 7 refl (w .endpoints) (w .items) (w .count) _ ∙ append-nil _);
         states = keep (h .states) _ (close-else 8 refl (w .endpoints) (w .items) (w .count) _ ∙ append-nil _);
-        items = append (h .items) _ (pred (m .tally .groups) ∷ []) (close-else 9 refl (w .endpoints) (w .items) (w .count) _ ∙ rw (h .groupCount) refl) refl (omega arith);
-        links = append (h .links) _ (closing (m .table) (m .tally .items) 0 n) closes refl (omega (arith, length-closing (m .table) (m .tally .items) 0 n));
+        items = append (h .items) _ (pred (m .written .groups) ∷ []) (close-else 9 refl (w .endpoints) (w .items) (w .count) _ ∙ rw (h .groupCount) refl) refl (omega arith);
+        links = append (h .links) _ (closing (m .table) (m .written .items) 0 n) closes refl (omega (arith, length-closing (m .table) (m .written .items) 0 n));
       }
     where
-      closes : log 10 (addItem x w .journal) ≡ log 10 (w .journal) ++ closing (m .table) (m .tally .items) 0 n
+      closes : log 10 (addItem x w .journal) ≡ log 10 (w .journal) ++ closing (m .table) (m .written .items) 0 n
       closes =
           close-links (m .table) (w .endpoints) (w .items) (w .count) (ItemRow (pred (w .groups)) ∷ w .journal) (λ j u. h .endpoints j (omega (arith, h .count)))
           ∙ ap (λ (l : List ℕ). l ++ closing (m .table) (w .items) 0 (w .count)) (append-nil (log 10 (w .journal)))
           ∙ ap (λ (i : ℕ). log 10 (w .journal) ++ closing (m .table) i 0 (w .count)) (sym (h .itemCount))
-          ∙ ap (λ (c : ℕ). log 10 (w .journal) ++ closing (m .table) (m .tally .items) 0 c) (h .count)
+          ∙ ap (λ (c : ℕ). log 10 (w .journal) ++ closing (m .table) (m .written .items) 0 c) (h .count)
 
 -- ---- the steps of several
 
@@ -326,10 +329,10 @@ module _ {n id pid : ℕ} {m₀ m : Memory} {w : World} (h : Holds n id pid m₀
       (holds-tied (holds-link-row h (T x (w .transaction .id)) kind.T x id 0 (rw (h .row) refl)) _ _ (ap (λ (e : Endpoint). e .transactions) (h .endpoints x hx)))
       x moreTransactions hx few (λ e f. record { address = f .address; state = f .state; first = f .first; last = f .last })
 
-  pub holds-push-group : Holds n id pid m₀ (pushGroup x (w .transaction .link) w) (altered x moreGroups (linkRow kind.G x (m .tally .link) 0 m))
+  pub holds-push-group : Holds n id pid m₀ (pushGroup x (w .transaction .link) w) (altered x moreGroups (linkRow kind.G x (m .written .link) 0 m))
   holds-push-group =
       holds-altered
-      (holds-link-row h (G x (w .transaction .link)) kind.G x (m .tally .link) 0 (rw (h .link) refl))
+      (holds-link-row h (G x (w .transaction .link)) kind.G x (m .written .link) 0 (rw (h .link) refl))
       x moreGroups hx few (λ e f. record { address = f .address; state = f .state; first = f .first; last = f .last })
 
 module _ {n id pid : ℕ} {m₀ m : Memory} {w : World} (h : Holds n id pid m₀ w m) (few : n ≤ 128) (x : ℕ) (hx : x < n) where

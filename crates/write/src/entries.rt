@@ -1,11 +1,12 @@
 // An endpoint's entry changed in the table: each function loads it, changes what its name says, and stores it.
-use tables::Endpoint;
-use tables::Phase;
-use tables::entry::load;
-use tables::entry::store;
+use endpoints::Endpoint;
+use endpoints::Phase;
+use endpoints::entry::load;
+use endpoints::entry::store;
+use endpoints::entry::with_phase;
 ghost use mathlib.Core.Path.{_≡_};
 ghost use Prim.Native.Nat.{_+_, _^_, _<_};
-ghost use Rattle.tables.specs.Table.{entryAt, withPhase};
+ghost use Rattle.endpoints.specs.Table.{entryAt, withPhase};
 ghost use Rattle.rules.specs.World.{moreTransactions, moreGroups, withLast, cleared};
 ghost use Rattle.rules.specs.Groups.{activated};
 ghost use Rattle.write.specs.Memory.{alter, lastNumber};
@@ -17,31 +18,6 @@ pub fn last_group(table: &[u64; 2176], x: usize) -> u64
 {
     let e = load(table, x);
     crate::leaf::last(e.groups)
-}
-
-// A field that is an enum can't be set alone: the entry is made anew.
-fn with_phase(e: Endpoint, phase: Phase) -> Endpoint
-    ensures { λ r. ⌜ r ≡ withPhase phase e ⌝ }
-{
-    Endpoint {
-        device: e.device,
-        address: e.address,
-        phase,
-        state: e.state,
-        transactions: e.transactions,
-        groups: e.groups,
-        total: e.total,
-        first: e.first,
-        done: e.done,
-        last: e.last,
-        success: e.success,
-        ready: e.ready,
-        setup: e.setup,
-        payload: e.payload,
-        waits: e.waits,
-        waiting: e.waiting,
-        waiter: e.waiter,
-    }
 }
 
 pub fn set_phase(table: &mut [u64; 2176], x: usize, phase: Phase)

@@ -4,11 +4,10 @@ pub mod leaf;
 pub mod steps;
 
 // How far a call has written: the rows of the five logs that groups go to, the last item's endpoint, and the transaction's T row.
-pub struct Tally {
+pub struct Written {
     pub groups: usize,
+    pub statebytes: usize,
     pub states: usize,
-    // The state bytes.
-    pub marks: usize,
     pub items: usize,
     pub links: usize,
     // last_item_endpoint: 128 where there is none.

@@ -1,22 +1,23 @@
 // The steps of an update, each taken where its flag says so and otherwise not. What a log that is not lent holds is any list.
-use crate::Tally;
+use crate::Written;
 use crate::entries;
 use crate::leaf::group_row;
 use crate::leaf::item_row;
 use crate::leaf::link_row;
-use tables::Phase;
-use tables::entry::load;
-use tables::link;
+use endpoints::Phase;
+use endpoints::entry::load;
+use endpoints::link;
 ghost use mathlib.Core.Path.{_≡_};
 ghost use Prim.Native.Nat.{_+_, _*_, _^_, _<_, _≤_};
 ghost use lib.ListN.{length};
-ghost use Rattle.rows.specs.Sets.{one};
-ghost use Rattle.tables.specs.Phases.{waiting};
-ghost use Rattle.tables.specs.Table.{entryAt, withPhase};
-ghost use Rattle.tables.specs.declared.Phase.the-variants.{Ended};
+ghost use Rattle.rows.specs.Widths.{groupWidth, linkWidth};
+ghost use Rattle.rows.specs.One.{one};
+ghost use Rattle.endpoints.specs.Phases.{waiting};
+ghost use Rattle.endpoints.specs.Table.{entryAt, withPhase};
+ghost use Rattle.endpoints.specs.declared.Phase.the-variants.{Ended};
 ghost use Rattle.rules.specs.World.{cleared};
 ghost use Rattle.update.specs.Update.{when};
-ghost use Rattle.write.specs.Memory.{Room, OnGroups, OnItems, OnLinks, memory, alter, groupTally, itemTally, linkTally, endRow, linkStep, startGroup, itemRow, tied};
+ghost use Rattle.write.specs.Memory.{Room, OnGroups, OnItems, OnLinks, memory, alter, groupWritten, itemWritten, linkWritten, endRow, linkStep, startGroup, itemRow, tied};
 
 // ended = Some(..), with no row.
 pub fn over_if(on: bool, x: usize, table: &mut [u64; 2176])
@@ -41,25 +42,25 @@ pub fn clear_if(on: bool, x: usize, table: &mut [u64; 2176])
 // A group's end, and its end row.
 pub fn end_row_if(
     on: bool,
-    d: Tally,
+    d: Written,
     n: usize,
     x: usize,
     table: &mut [u64; 2176],
     groups: &mut [u64],
+    statebytes: &mut [u8],
     states: &mut [u64],
-    marks: &mut [u8],
-) -> Tally
+) -> Written
     requires { ⌜ n ≤ 128 ⌝ }
     requires { ⌜ x < 128 ⌝ }
-    requires { ⌜ when on (groupTally n) d .groups * 3 ≤ length (now groups) ⌝ }
-    requires { ⌜ when on (groupTally n) d .states ≤ length (now states) ⌝ }
-    requires { ⌜ when on (groupTally n) d .marks ≤ length (now marks) ⌝ }
-    ensures { λ r. ⌜ OnGroups (when on (endRow n x)) d (now (table .entry)) (now (groups .entry)) (now (states .entry)) (now (marks .entry)) r (now (table .exit)) (now (groups .exit)) (now (states .exit)) (now (marks .exit)) ⌝ }
+    requires { ⌜ when on (groupWritten n) d .groups * groupWidth ≤ length (now groups) ⌝ }
+    requires { ⌜ when on (groupWritten n) d .statebytes ≤ length (now statebytes) ⌝ }
+    requires { ⌜ when on (groupWritten n) d .states ≤ length (now states) ⌝ }
+    ensures { λ r. ⌜ OnGroups (when on (endRow n x)) d (now (table .entry)) (now (groups .entry)) (now (statebytes .entry)) (now (states .entry)) r (now (table .exit)) (now (groups .exit)) (now (statebytes .exit)) (now (states .exit)) ⌝ }
 {
     if on {
         entries::set_phase(table, x, Phase::Ended);
         let nth = entries::last_group(table, x);
-        group_row(d, n, x, nth, false, table, groups, states, marks)
+        group_row(d, n, x, nth, false, table, groups, statebytes, states)
     } else {
         d
     }
@@ -68,16 +69,16 @@ pub fn end_row_if(
 // An item.
 pub fn item_if(
     on: bool,
-    d: Tally,
+    d: Written,
     n: usize,
     x: usize,
     table: &mut [u64; 2176],
     items: &mut [u64],
     links: &mut [u64],
-) -> Tally
+) -> Written
     requires { ⌜ n ≤ 128 ⌝ }
-    requires { ⌜ when on (itemTally (waiting (now table) n) x) d .items ≤ length (now items) ⌝ }
-    requires { ⌜ when on (itemTally (waiting (now table) n) x) d .links * 4 ≤ length (now links) ⌝ }
+    requires { ⌜ when on (itemWritten (waiting (now table) n) x) d .items ≤ length (now items) ⌝ }
+    requires { ⌜ when on (itemWritten (waiting (now table) n) x) d .links * linkWidth ≤ length (now links) ⌝ }
     ensures { λ r. ⌜ OnItems (when on (itemRow n x)) d (now (table .entry)) (now (items .entry)) (now (links .entry)) r (now (table .exit)) (now (items .exit)) (now (links .exit)) ⌝ }
 {
     if on {
@@ -88,7 +89,7 @@ pub fn item_if(
 }
 
 // ep_transaction_id = Some(i)
-fn tie(d: Tally, i: u64) -> Tally
+fn tie(d: Written, i: u64) -> Written
     ensures { λ r. ⌜ r ≡ tied i d ⌝ }
 {
     let mut d = d;
@@ -100,15 +101,15 @@ fn tie(d: Tally, i: u64) -> Tally
 // The T row of transaction id.
 pub fn link_if(
     on: bool,
-    d: Tally,
+    d: Written,
     x: usize,
     id: u64,
     table: &mut [u64; 2176],
     links: &mut [u64],
-) -> Tally
+) -> Written
     requires { ⌜ x < 128 ⌝ }
     requires { ⌜ entryAt (now table) x .transactions + one on < 2 ^ 64 ⌝ }
-    requires { ⌜ when on linkTally d .links * 4 ≤ length (now links) ⌝ }
+    requires { ⌜ when on linkWritten d .links * linkWidth ≤ length (now links) ⌝ }
     ensures { λ r. ⌜ OnLinks (when on (linkStep x id)) d (now (table .entry)) (now (links .entry)) r (now (table .exit)) (now (links .exit)) ⌝ }
 {
     if on {
@@ -124,27 +125,27 @@ pub fn link_if(
 // A G row, a start row and an item.
 pub fn start_if(
     on: bool,
-    d: Tally,
+    d: Written,
     n: usize,
     x: usize,
     table: &mut [u64; 2176],
     groups: &mut [u64],
+    statebytes: &mut [u8],
     states: &mut [u64],
-    marks: &mut [u8],
     items: &mut [u64],
     links: &mut [u64],
-) -> Tally
+) -> Written
     requires { ⌜ n ≤ 128 ⌝ }
     requires { ⌜ x < 128 ⌝ }
     requires { ⌜ entryAt (now table) x .groups + one on < 2 ^ 64 ⌝ }
-    requires { ⌜ Room (when on (startGroup n x) (memory d (now table) (now groups) (now states) (now marks) (now items) (now links))) ⌝ }
-    ensures { λ r. ⌜ memory r (now (table .exit)) (now (groups .exit)) (now (states .exit)) (now (marks .exit)) (now (items .exit)) (now (links .exit)) ≡ when on (startGroup n x) (memory d (now (table .entry)) (now (groups .entry)) (now (states .entry)) (now (marks .entry)) (now (items .entry)) (now (links .entry))) ⌝ }
+    requires { ⌜ Room (when on (startGroup n x) (memory d (now table) (now groups) (now statebytes) (now states) (now items) (now links))) ⌝ }
+    ensures { λ r. ⌜ memory r (now (table .exit)) (now (groups .exit)) (now (statebytes .exit)) (now (states .exit)) (now (items .exit)) (now (links .exit)) ≡ when on (startGroup n x) (memory d (now (table .entry)) (now (groups .entry)) (now (statebytes .entry)) (now (states .entry)) (now (items .entry)) (now (links .entry))) ⌝ }
 {
     if on {
         let d = link_row(d, link::G, x, d.link, 0, links);
         entries::more_groups(table, x);
         let nth = entries::last_group(table, x);
-        let d = group_row(d, n, x, nth, true, table, groups, states, marks);
+        let d = group_row(d, n, x, nth, true, table, groups, statebytes, states);
         item_row(d, n, x, table, items, links)
     } else {
         d

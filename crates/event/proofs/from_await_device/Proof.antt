@@ -1,5 +1,5 @@
 -- `from_await_device` meets its contract: one answer for each way out of it.
-use Rattle.transaction.proofs.Arms.{off}
+use Rattle.usb.proofs.Arms.{off}
 use Rattle.event.proofs.from_await_device.Statement.{statement}
 use Rattle.event.proofs.from_await_device.Tie as tie
 

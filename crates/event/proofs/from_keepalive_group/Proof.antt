@@ -1,5 +1,5 @@
 -- `from_keepalive_group` meets its contract: one answer for each way out of it.
-use Rattle.transaction.proofs.Arms.{off}
+use Rattle.usb.proofs.Arms.{off}
 use Rattle.event.proofs.from_keepalive_group.Statement.{statement}
 use Rattle.event.proofs.from_keepalive_group.Tie as tie
 

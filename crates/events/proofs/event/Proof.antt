@@ -1,6 +1,6 @@
 -- `events::event` meets its contract: the first tests (Refuses), and `event_in` past them.
 use borrow.Author.Tests.{ltb-false}
-use Rattle.outcome.specs.State.{State, state, logs}
+use Rattle.call.specs.State.{State, state, logs}
 use Rattle.events.proofs.Refuses.{first-refuses, first-passes}
 use Rattle.events.proofs.event.Statement.{statement}
 use Rattle.events.proofs.event.Tie as tie
@@ -9,7 +9,7 @@ use Rattle.events.proofs.event.Tie as tie
 abbrev begun : tie.Start → State
 begun s =
     state (s .args .d) (s .args .devices) (s .args .table .now)
-    (logs (s .args .bytes .now) (s .args .device-rows .now) (s .args .endpoint-rows .now) (s .args .packets .now) (s .args .events .now) (s .args .transactions .now) (s .args .groups .now) (s .args .marks .now) (s .args .states .now) (s .args .items .now) (s .args .links .now) (s .args .requests .now))
+    (logs (s .args .bytes .now) (s .args .device-rows .now) (s .args .endpoint-rows .now) (s .args .packets .now) (s .args .events .now) (s .args .transactions .now) (s .args .groups .now) (s .args .statebytes .now) (s .args .states .now) (s .args .items .now) (s .args .links .now) (s .args .requests .now))
 
 returns : tie.Need-returns
 returns c = let s = c .before .before .before .before .before .before .before .before .before .before .before .before .before .before .before .before in first-refuses (begun s) _ (s .args .kind) _ (c .before .before .before .room-of .ensures) (c .before .first-tests .ensures) (c .if1 .taken) _ _ _ _

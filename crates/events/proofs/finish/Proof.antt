@@ -1,5 +1,5 @@
 -- `events::finish` meets its contract: the first tests (Refuses), and `finish_in` past them.
-use Rattle.outcome.specs.State.{State, state, logs}
+use Rattle.call.specs.State.{State, state, logs}
 use Rattle.events.proofs.Refuses.{first-refuses, first-passes}
 use Rattle.events.proofs.finish.Statement.{statement}
 use Rattle.events.proofs.finish.Tie as tie
@@ -8,7 +8,7 @@ use Rattle.events.proofs.finish.Tie as tie
 abbrev begun : tie.Start → State
 begun s =
     state (s .args .d) (s .args .devices) (s .args .table .now)
-    (logs (s .args .bytes .now) (s .args .device-rows .now) (s .args .endpoint-rows .now) (s .args .packets .now) (s .args .events .now) (s .args .transactions .now) (s .args .groups .now) (s .args .marks .now) (s .args .states .now) (s .args .items .now) (s .args .links .now) (s .args .requests .now))
+    (logs (s .args .bytes .now) (s .args .device-rows .now) (s .args .endpoint-rows .now) (s .args .packets .now) (s .args .events .now) (s .args .transactions .now) (s .args .groups .now) (s .args .statebytes .now) (s .args .states .now) (s .args .items .now) (s .args .links .now) (s .args .requests .now))
 
 returns : tie.Need-returns
 returns c = first-refuses (begun (c .before .before .before .before .before .before .before .before .before .before .before .before .before .before .before .before)) _ 0 _ (c .before .before .before .room-of .ensures) (c .before .first-tests .ensures) (c .if1 .taken) _ _ _ _

@@ -1,5 +1,5 @@
 -- `group_at` meets its contract: one answer for each way out of it.
-use Rattle.transaction.proofs.Arms.{either3, off}
+use Rattle.usb.proofs.Arms.{either3, off}
 use Rattle.group.proofs.group_at.Statement.{statement}
 use Rattle.group.proofs.group_at.Tie as tie
 

@@ -5,8 +5,8 @@ use mathlib.Core.Path.{refl, sym}
 use mathlib.Core.List.{List, [], append-nil}
 use Rattle.text.specs.Words.{title}
 use Rattle.text.proofs.Appends.{Left, start, room, step, done}
-use Rattle.judge.specs.declared.Counts.{Counts}
-use Rattle.outcome.specs.State.{Logs, logs}
+use Rattle.record.specs.declared.Counts.{Counts}
+use Rattle.call.specs.State.{Logs, logs}
 use Rattle.lines.specs.Listing.{linesOf, stateLines, listing}
 use Rattle.lines.specs.declared.Kind.the-variants.{Device, Endpoint, Packet, Event, Transaction, Group, Item, Link, Request}
 use Rattle.lines.proofs.Whole.{fromDevices, fromEndpoints, fromPackets, fromEvents, fromTransactions, fromGroups, fromStates, fromItems, fromLinks, fromRequests, listing-is}
@@ -17,7 +17,7 @@ abbrev n : tie.Start → Counts
 n s = s .args .n
 
 abbrev l : tie.Start → Logs
-l s = logs [] (s .args .device-rows .now) (s .args .endpoint-rows .now) (s .args .packets .now) (s .args .events .now) (s .args .transactions .now) (s .args .groups .now) (s .args .marks .now) (s .args .states .now) (s .args .items .now) (s .args .links .now) (s .args .requests .now)
+l s = logs [] (s .args .device-rows .now) (s .args .endpoint-rows .now) (s .args .packets .now) (s .args .events .now) (s .args .transactions .now) (s .args .groups .now) (s .args .statebytes .now) (s .args .states .now) (s .args .items .now) (s .args .links .now) (s .args .requests .now)
 
 -- where each call has returned: the entry, and what is left to append
 abbrev entry0 : tie.After-title-line → tie.Start
@@ -66,7 +66,7 @@ abbrev entry7 : tie.After-state-lines → tie.Start
 entry7 c = entry6 (c .before .before .before .before)
 
 left7 : (c : tie.After-state-lines) → Left (entry7 c .args .out .now) 0 (listing (n (entry7 c)) (l (entry7 c))) (c .state-lines .last .0) (c .state-lines .result) (fromItems (n (entry7 c)) (l (entry7 c)))
-left7 c = let s = entry7 c in step (stateLines (n s .states) (l s .states) (n s .marks) (l s .marks)) (fromItems (n s) (l s)) (left6 (c .before .before .before .before)) refl (c .state-lines .ensures)
+left7 c = let s = entry7 c in step (stateLines (n s .states) (l s .states) (n s .statebytes) (l s .statebytes)) (fromItems (n s) (l s)) (left6 (c .before .before .before .before)) refl (c .state-lines .ensures)
 
 abbrev entry8 : tie.After-lines7 → tie.Start
 entry8 c = entry7 (c .before .before .before .before)
@@ -108,7 +108,7 @@ lines-requires-6 : tie.Need-lines-requires-6
 lines-requires-6 c κs = let s = entry5 (c .before .before .before) in (s .pre .0 .groups, room (linesOf Group (n s .groups) (l s .groups)) (fromStates (n s) (l s)) (left5 (c .before .before .before)) refl (s .pre .1))
 
 state-lines-requires : tie.Need-state-lines-requires
-state-lines-requires c κs = let s = entry6 (c .before .before .before) in (s .pre .0 .states, (s .pre .0 .marks, room (stateLines (n s .states) (l s .states) (n s .marks) (l s .marks)) (fromItems (n s) (l s)) (left6 (c .before .before .before)) refl (s .pre .1)))
+state-lines-requires c κs = let s = entry6 (c .before .before .before) in (s .pre .0 .states, (s .pre .0 .statebytes, room (stateLines (n s .states) (l s .states) (n s .statebytes) (l s .statebytes)) (fromItems (n s) (l s)) (left6 (c .before .before .before)) refl (s .pre .1)))
 
 lines-requires-7 : tie.Need-lines-requires-7
 lines-requires-7 c κs = let s = entry7 (c .before .before .before) in (omega (arith, s .pre .0 .items), room (linesOf Item (n s .items) (l s .items)) (fromLinks (n s) (l s)) (left7 (c .before .before .before)) refl (s .pre .1))

@@ -11,17 +11,26 @@ use Rattle.listing.proofs.Shown.{zeros, own-room}
 use Rattle.listing.proofs.main.Statement.{statement}
 use Rattle.listing.proofs.main.Tie as tie
 
-slice-aggregate-read-full : tie.Need-slice-aggregate-read-full
-slice-aggregate-read-full c = zeros 16385
+slice-aggregate-read-input : tie.Need-slice-aggregate-read-input
+slice-aggregate-read-input c = zeros 16385
 
-read-full-requires : tie.Need-read-full-requires
-read-full-requires c κs = tt
+read-input-requires : tie.Need-read-input-requires
+read-input-requires c κs = tt
+
+slice-aggregate-fail : tie.Need-slice-aggregate-fail
+slice-aggregate-fail c = search needs
+
+fail-requires : tie.Need-fail-requires
+fail-requires c κs = tt
+
+returns : tie.Need-returns
+returns c = tt
 
 array-share-prefix-input : tie.Need-array-share-prefix-input
 array-share-prefix-input c = search needs
 
 slice-aggregate-print : tie.Need-slice-aggregate-print
-slice-aggregate-print c = search needs
+slice-aggregate-print c = sym (length-take-le _ _ (search needs))
 
 slice-aggregate-print-2 : tie.Need-slice-aggregate-print-2
 slice-aggregate-print-2 c = zeros 419484
@@ -42,15 +51,27 @@ slice-aggregate-write-all c = let p = c .before .before in sym (length-take-le (
 write-all-requires : tie.Need-write-all-requires
 write-all-requires c κs = tt
 
-returns : tie.Need-returns
-returns c = tt
+slice-aggregate-fail-2 : tie.Need-slice-aggregate-fail-2
+slice-aggregate-fail-2 c = search needs
+
+fail-requires-2 : tie.Need-fail-requires-2
+fail-requires-2 c κs = tt
+
+returns-2 : tie.Need-returns-2
+returns-2 c = tt
+
+returns-3 : tie.Need-returns-3
+returns-3 c = tt
 
 pub main-spec : {M : Type 1} → statement M
 main-spec =
     tie.close
     (tie.spec
-    slice-aggregate-read-full
-    read-full-requires
+    slice-aggregate-read-input
+    read-input-requires
+    slice-aggregate-fail
+    fail-requires
+    returns
     array-share-prefix-input
     slice-aggregate-print
     slice-aggregate-print-2
@@ -58,4 +79,7 @@ main-spec =
     array-share-prefix-out
     slice-aggregate-write-all
     write-all-requires
-    returns)
+    slice-aggregate-fail-2
+    fail-requires-2
+    returns-2
+    returns-3)

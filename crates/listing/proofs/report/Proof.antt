@@ -3,7 +3,7 @@
 use mathlib.Core.List.{[]}
 use mathlib.Core.Path.{_≡_}
 use Rattle.text.specs.Lines.{refusedLine}
-use Rattle.outcome.specs.State.{Logs, logs}
+use Rattle.call.specs.State.{Logs, logs}
 use Rattle.lines.specs.Listing.{listing}
 use Rattle.listing.specs.Prints.{shown}
 use Rattle.listing.proofs.Shown as laws
@@ -11,7 +11,7 @@ use Rattle.listing.proofs.report.Statement.{statement}
 use Rattle.listing.proofs.report.Tie as tie
 
 abbrev lent : tie.Start → Logs
-lent s = logs [] (s .args .device-rows .now) (s .args .endpoint-rows .now) (s .args .packets .now) (s .args .events .now) (s .args .transactions .now) (s .args .groups .now) (s .args .marks .now) (s .args .states .now) (s .args .items .now) (s .args .links .now) (s .args .requests .now)
+lent s = logs [] (s .args .device-rows .now) (s .args .endpoint-rows .now) (s .args .packets .now) (s .args .events .now) (s .args .transactions .now) (s .args .groups .now) (s .args .statebytes .now) (s .args .states .now) (s .args .items .now) (s .args .links .now) (s .args .requests .now)
 
 refusal : (s : tie.Start) → (s .args .answer ≡ 0 → ⊥) → shown (s .args .answer) (s .args .place) (s .args .n) (lent s) ≡ refusedLine (s .args .answer) (s .args .place)
 refusal s = laws.refusal (s .args .answer) (s .args .place) (s .args .n) (lent s)

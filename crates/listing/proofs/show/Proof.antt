@@ -1,13 +1,13 @@
 -- The run, and what is shown of it.
 -- Assumes nothing.
 use mathlib.Core.Path.{_≡_}
-use Rattle.outcome.specs.State.{Logs, logs, roomBy, roomOf}
+use Rattle.call.specs.State.{Logs, logs, roomBy, roomOf}
 use Rattle.listing.proofs.Shown.{has-rows, text-room, shows}
 use Rattle.listing.proofs.show.Statement.{statement}
 use Rattle.listing.proofs.show.Tie as tie
 
 -- the run leaves the logs as long as they were
-same-room : (c : tie.After-run) → roomOf (logs (c .run .last .1 .1 .0) (c .run .last .1 .1 .1 .0) (c .run .last .1 .1 .1 .1 .0) (c .run .last .1 .1 .1 .1 .1 .0) (c .run .last .1 .1 .1 .1 .1 .1 .0) (c .run .last .1 .1 .1 .1 .1 .1 .1 .0) (c .run .last .1 .1 .1 .1 .1 .1 .1 .1 .0) (c .run .last .1 .1 .1 .1 .1 .1 .1 .1 .1 .0) (c .run .last .1 .1 .1 .1 .1 .1 .1 .1 .1 .1 .0) (c .run .last .1 .1 .1 .1 .1 .1 .1 .1 .1 .1 .1 .0) (c .run .last .1 .1 .1 .1 .1 .1 .1 .1 .1 .1 .1 .1 .0) (c .run .last .1 .1 .1 .1 .1 .1 .1 .1 .1 .1 .1 .1 .1 .0)) ≡ roomOf (logs (c .before .before .before .before .before .before .before .before .before .before .before .before .before .before .before .before .before .before .before .before .before .before .before .before .before .before .before .before .args .bytes .now) (c .before .before .before .before .before .before .before .before .before .before .before .before .before .before .before .before .before .before .before .before .before .before .before .before .before .before .before .before .args .device-rows .now) (c .before .before .before .before .before .before .before .before .before .before .before .before .before .before .before .before .before .before .before .before .before .before .before .before .before .before .before .before .args .endpoint-rows .now) (c .before .before .before .before .before .before .before .before .before .before .before .before .before .before .before .before .before .before .before .before .before .before .before .before .before .before .before .before .args .packets .now) (c .before .before .before .before .before .before .before .before .before .before .before .before .before .before .before .before .before .before .before .before .before .before .before .before .before .before .before .before .args .events .now) (c .before .before .before .before .before .before .before .before .before .before .before .before .before .before .before .before .before .before .before .before .before .before .before .before .before .before .before .before .args .transactions .now) (c .before .before .before .before .before .before .before .before .before .before .before .before .before .before .before .before .before .before .before .before .before .before .before .before .before .before .before .before .args .groups .now) (c .before .before .before .before .before .before .before .before .before .before .before .before .before .before .before .before .before .before .before .before .before .before .before .before .before .before .before .before .args .marks .now) (c .before .before .before .before .before .before .before .before .before .before .before .before .before .before .before .before .before .before .before .before .before .before .before .before .before .before .before .before .args .states .now) (c .before .before .before .before .before .before .before .before .before .before .before .before .before .before .before .before .before .before .before .before .before .before .before .before .before .before .before .before .args .items .now) (c .before .before .before .before .before .before .before .before .before .before .before .before .before .before .before .before .before .before .before .before .before .before .before .before .before .before .before .before .args .links .now) (c .before .before .before .before .before .before .before .before .before .before .before .before .before .before .before .before .before .before .before .before .before .before .before .before .before .before .before .before .args .requests .now))
+same-room : (c : tie.After-run) → roomOf (logs (c .run .last .1 .1 .0) (c .run .last .1 .1 .1 .0) (c .run .last .1 .1 .1 .1 .0) (c .run .last .1 .1 .1 .1 .1 .0) (c .run .last .1 .1 .1 .1 .1 .1 .0) (c .run .last .1 .1 .1 .1 .1 .1 .1 .0) (c .run .last .1 .1 .1 .1 .1 .1 .1 .1 .0) (c .run .last .1 .1 .1 .1 .1 .1 .1 .1 .1 .0) (c .run .last .1 .1 .1 .1 .1 .1 .1 .1 .1 .1 .0) (c .run .last .1 .1 .1 .1 .1 .1 .1 .1 .1 .1 .1 .0) (c .run .last .1 .1 .1 .1 .1 .1 .1 .1 .1 .1 .1 .1 .0) (c .run .last .1 .1 .1 .1 .1 .1 .1 .1 .1 .1 .1 .1 .1 .0)) ≡ roomOf (logs (c .before .before .before .before .before .before .before .before .before .before .before .before .before .before .before .before .before .before .before .before .before .before .before .before .before .before .before .before .args .bytes .now) (c .before .before .before .before .before .before .before .before .before .before .before .before .before .before .before .before .before .before .before .before .before .before .before .before .before .before .before .before .args .device-rows .now) (c .before .before .before .before .before .before .before .before .before .before .before .before .before .before .before .before .before .before .before .before .before .before .before .before .before .before .before .before .args .endpoint-rows .now) (c .before .before .before .before .before .before .before .before .before .before .before .before .before .before .before .before .before .before .before .before .before .before .before .before .before .before .before .before .args .packets .now) (c .before .before .before .before .before .before .before .before .before .before .before .before .before .before .before .before .before .before .before .before .before .before .before .before .before .before .before .before .args .events .now) (c .before .before .before .before .before .before .before .before .before .before .before .before .before .before .before .before .before .before .before .before .before .before .before .before .before .before .before .before .args .transactions .now) (c .before .before .before .before .before .before .before .before .before .before .before .before .before .before .before .before .before .before .before .before .before .before .before .before .before .before .before .before .args .groups .now) (c .before .before .before .before .before .before .before .before .before .before .before .before .before .before .before .before .before .before .before .before .before .before .before .before .before .before .before .before .args .statebytes .now) (c .before .before .before .before .before .before .before .before .before .before .before .before .before .before .before .before .before .before .before .before .before .before .before .before .before .before .before .before .args .states .now) (c .before .before .before .before .before .before .before .before .before .before .before .before .before .before .before .before .before .before .before .before .before .before .before .before .before .before .before .before .args .items .now) (c .before .before .before .before .before .before .before .before .before .before .before .before .before .before .before .before .before .before .before .before .before .before .before .before .before .before .before .before .args .links .now) (c .before .before .before .before .before .before .before .before .before .before .before .before .before .before .before .before .before .before .before .before .before .before .before .before .before .before .before .before .args .requests .now))
 same-room c = let r = c .run in λ i. roomBy (r .kept .1 .1 .0 i) (r .kept .1 .1 .1 .0 i) (r .kept .1 .1 .1 .1 .0 i) (r .kept .1 .1 .1 .1 .1 .0 i) (r .kept .1 .1 .1 .1 .1 .1 .0 i) (r .kept .1 .1 .1 .1 .1 .1 .1 .0 i) (r .kept .1 .1 .1 .1 .1 .1 .1 .1 .0 i) (r .kept .1 .1 .1 .1 .1 .1 .1 .1 .1 .0 i) (r .kept .1 .1 .1 .1 .1 .1 .1 .1 .1 .1 .0 i) (r .kept .1 .1 .1 .1 .1 .1 .1 .1 .1 .1 .1 .0 i) (r .kept .1 .1 .1 .1 .1 .1 .1 .1 .1 .1 .1 .1 .0 i) (r .kept .1 .1 .1 .1 .1 .1 .1 .1 .1 .1 .1 .1 .1 .0 i)
 
 run-requires : tie.Need-run-requires

@@ -1,5 +1,6 @@
 -- `step` meets its contract: the law of each case of what stands at the place.
-use mathlib.Core.Path.{_≡_, refl, sym, _∙_}
+use mathlib.Core.Path.{_≡_, refl, sym, ap, _∙_}
+use Rattle.trace.specs.Trace.{answerOf}
 use Rattle.run.proofs.Running.{packet-bounds, packet-step, event-step, detail-step, unknown-step, cut-step, end-step}
 use Rattle.run.proofs.step.Statement.{statement}
 use Rattle.run.proofs.step.Tie as tie
@@ -23,10 +24,14 @@ returns-3 : tie.Need-returns-3
 returns-3 c = detail-step (sym (c .before .before .before .before .before .before .before .before .before .before .before .before .before .before .before .before .before .before .before .before .next-record .ensures) ∙ c .before .before .before .before .before .before .before .before .before .before .before .before .before .before .before .before .before .before .found3 .given .1) (c .before .before .before .detail .ensures) (c .went3 .ensures)
 
 returns-4 : tie.Need-returns-4
-returns-4 c = unknown-step (sym (c .before .before .before .next-record .ensures) ∙ c .before .enum-told .given .1) (c .over .ensures)
+returns-4 c =
+    let told = c .before .before .enum-told .given .1 in
+    unknown-step (sym (c .before .before .before .before .next-record .ensures) ∙ told) (c .before .answer .ensures ∙ ap answerOf told) (c .over .ensures)
 
 returns-5 : tie.Need-returns-5
-returns-5 c = cut-step (sym (c .before .before .before .next-record .ensures) ∙ c .before .enum-told2 .given .1) (c .over2 .ensures)
+returns-5 c =
+    let told = c .before .before .enum-told2 .given .1 in
+    cut-step (sym (c .before .before .before .before .next-record .ensures) ∙ told) (c .before .answer2 .ensures ∙ ap answerOf told) (c .over2 .ensures)
 
 returns-6 : tie.Need-returns-6
 returns-6 c = end-step (sym (c .before .before .before .before .before .before .before .before .before .before .before .before .before .before .before .before .before .before .before .before .before .before .before .before .before .before .before .before .before .next-record .ensures) ∙ c .before .before .before .before .before .before .before .before .before .before .before .before .before .before .before .before .before .before .before .before .before .before .before .before .before .before .before .enum-told3 .given .1) (c .before .before .before .before .before .before .before .before .before .before .before .before .before .finish .ensures) (c .over3 .ensures)
@@ -52,7 +57,9 @@ step-spec =
     (λ c κs. tt)
     (λ c. c .match .keys4)
     (λ c κs. tt)
+    (λ c κs. tt)
     (λ c. c .match .keys5)
+    (λ c κs. tt)
     (λ c κs. tt)
     (λ c. c .match .keys6)
     (λ c κs. tt)

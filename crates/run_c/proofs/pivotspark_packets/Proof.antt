@@ -1,6 +1,6 @@
 -- `pivotspark_packets` meets its contract: what `fresh` makes, and what `run` leaves of it.
 use mathlib.Core.Path.{refl, _∙_}
-use Rattle.outcome.specs.State.{Logs, logs, state}
+use Rattle.call.specs.State.{Logs, logs, state}
 use Rattle.run_c.proofs.Running.{ran-refused, ran-made}
 use Rattle.run_c.proofs.pivotspark_packets.Statement.{statement}
 use Rattle.run_c.proofs.pivotspark_packets.Tie as tie

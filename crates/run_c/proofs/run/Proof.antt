@@ -5,24 +5,24 @@ use mathlib.Core.Path.{sym, _∙_}
 use borrow.Author.Needs.{needs}
 use borrow.Author.Tests.{not-true, not-false}
 use lib.ListN.{length}
-use Rattle.outcome.specs.State.{state, Logs, logs}
+use Rattle.call.specs.State.{state, Logs, logs}
 use Rattle.run_c.proofs.Running.{SameSizes, Going, going-start, going-ends, going-between, going-stops, going-more}
 use Rattle.run_c.proofs.run.Statement.{statement}
 use Rattle.run_c.proofs.run.Tie as tie
 
 abbrev Inv-loop : tie.InvT-loop
-Inv-loop input table₀ bytes₀ device-rows₀ endpoint-rows₀ packets₀ events transactions₀ groups₀ marks₀ states₀ items₀ links₀ requests₀ decoder₀ devices₀ at₀ count₀ end₀ table bytes device-rows endpoint-rows packets transactions groups marks states items links requests decoder devices at count end =
+Inv-loop input table₀ bytes₀ device-rows₀ endpoint-rows₀ packets₀ events transactions₀ groups₀ marks₀ states₀ items₀ links₀ requests₀ decoder₀ devices₀ at₀ count₀ end₀ table bytes device-rows endpoint-rows packets transactions groups statebytes states items links requests decoder devices at count end =
     Going input (state decoder₀ devices₀ table₀ (logs bytes₀ device-rows₀ endpoint-rows₀ packets₀ events transactions₀ groups₀ marks₀ states₀ items₀ links₀ requests₀)) at count end
-    (state decoder devices table (logs bytes device-rows endpoint-rows packets events transactions groups marks states items links requests))
+    (state decoder devices table (logs bytes device-rows endpoint-rows packets events transactions groups statebytes states items links requests))
 
 abbrev μ-loop : tie.MeasureT-loop
-μ-loop input table₀ bytes₀ device-rows₀ endpoint-rows₀ packets₀ events transactions₀ groups₀ marks₀ states₀ items₀ links₀ requests₀ decoder₀ devices₀ at₀ count₀ end₀ table bytes device-rows endpoint-rows packets transactions groups marks states items links requests decoder devices at count end =
+μ-loop input table₀ bytes₀ device-rows₀ endpoint-rows₀ packets₀ events transactions₀ groups₀ marks₀ states₀ items₀ links₀ requests₀ decoder₀ devices₀ at₀ count₀ end₀ table bytes device-rows endpoint-rows packets transactions groups statebytes states items links requests decoder devices at count end =
     length input - at
 
 -- the logs before a packet, and behind it
 abbrev lent : tie.At-loop Inv-loop μ-loop → Logs
 lent c =
-    logs (c .loop .bytes) (c .loop .device-rows) (c .loop .endpoint-rows) (c .loop .packets) (c .before .before .before .before .before .before .before .before .before .before .before .before .before .before .before .args .events .now) (c .loop .transactions) (c .loop .groups) (c .loop .marks) (c .loop .states) (c .loop .items) (c .loop .links) (c .loop .requests)
+    logs (c .loop .bytes) (c .loop .device-rows) (c .loop .endpoint-rows) (c .loop .packets) (c .before .before .before .before .before .before .before .before .before .before .before .before .before .before .before .args .events .now) (c .loop .transactions) (c .loop .groups) (c .loop .statebytes) (c .loop .states) (c .loop .items) (c .loop .links) (c .loop .requests)
 
 abbrev left : tie.After-packet Inv-loop μ-loop → Logs
 left c =
@@ -37,7 +37,7 @@ sizes c =
       packets = c .packet .kept .1 .1 .1 .1 .1 .1 .1 .1 .0;
       transactions = c .packet .kept .1 .1 .1 .1 .1 .1 .1 .1 .1 .1 .0;
       groups = c .packet .kept .1 .1 .1 .1 .1 .1 .1 .1 .1 .1 .1 .0;
-      marks = c .packet .kept .1 .1 .1 .1 .1 .1 .1 .1 .1 .1 .1 .1 .0;
+      statebytes = c .packet .kept .1 .1 .1 .1 .1 .1 .1 .1 .1 .1 .1 .1 .0;
       states = c .packet .kept .1 .1 .1 .1 .1 .1 .1 .1 .1 .1 .1 .1 .1 .0;
       items = c .packet .kept .1 .1 .1 .1 .1 .1 .1 .1 .1 .1 .1 .1 .1 .1 .0;
       links = c .packet .kept .1 .1 .1 .1 .1 .1 .1 .1 .1 .1 .1 .1 .1 .1 .1 .0;
@@ -114,7 +114,7 @@ run-spec =
     (λ c. sizes (c .before .before .before .before .before .before .before .before .before .before .before .before .before .before .before .before .before .before .before .before .before .before .before .before .before .before) .packets ∙ c .before .before .before .before .before .before .before .before .before .before .before .before .before .before .before .before .before .before .before .before .before .before .before .before .before .before .before .before .before .before .before .before .before .before .before .before .before .before .before .before .before .loop .inv .sizes .packets)
     (λ c. sizes (c .before .before .before .before .before .before .before .before .before .before .before .before .before .before .before .before .before .before .before .before .before .before .before .before .before .before) .transactions ∙ c .before .before .before .before .before .before .before .before .before .before .before .before .before .before .before .before .before .before .before .before .before .before .before .before .before .before .before .before .before .before .before .before .before .before .before .before .before .before .before .before .before .loop .inv .sizes .transactions)
     (λ c. sizes (c .before .before .before .before .before .before .before .before .before .before .before .before .before .before .before .before .before .before .before .before .before .before .before .before .before .before) .groups ∙ c .before .before .before .before .before .before .before .before .before .before .before .before .before .before .before .before .before .before .before .before .before .before .before .before .before .before .before .before .before .before .before .before .before .before .before .before .before .before .before .before .before .loop .inv .sizes .groups)
-    (λ c. sizes (c .before .before .before .before .before .before .before .before .before .before .before .before .before .before .before .before .before .before .before .before .before .before .before .before .before .before) .marks ∙ c .before .before .before .before .before .before .before .before .before .before .before .before .before .before .before .before .before .before .before .before .before .before .before .before .before .before .before .before .before .before .before .before .before .before .before .before .before .before .before .before .before .loop .inv .sizes .marks)
+    (λ c. sizes (c .before .before .before .before .before .before .before .before .before .before .before .before .before .before .before .before .before .before .before .before .before .before .before .before .before .before) .statebytes ∙ c .before .before .before .before .before .before .before .before .before .before .before .before .before .before .before .before .before .before .before .before .before .before .before .before .before .before .before .before .before .before .before .before .before .before .before .before .before .before .before .before .before .loop .inv .sizes .statebytes)
     (λ c. sizes (c .before .before .before .before .before .before .before .before .before .before .before .before .before .before .before .before .before .before .before .before .before .before .before .before .before .before) .states ∙ c .before .before .before .before .before .before .before .before .before .before .before .before .before .before .before .before .before .before .before .before .before .before .before .before .before .before .before .before .before .before .before .before .before .before .before .before .before .before .before .before .before .loop .inv .sizes .states)
     (λ c. sizes (c .before .before .before .before .before .before .before .before .before .before .before .before .before .before .before .before .before .before .before .before .before .before .before .before .before .before) .items ∙ c .before .before .before .before .before .before .before .before .before .before .before .before .before .before .before .before .before .before .before .before .before .before .before .before .before .before .before .before .before .before .before .before .before .before .before .before .before .before .before .before .before .loop .inv .sizes .items)
     (λ c. sizes (c .before .before .before .before .before .before .before .before .before .before .before .before .before .before .before .before .before .before .before .before .before .before .before .before .before .before) .links ∙ c .before .before .before .before .before .before .before .before .before .before .before .before .before .before .before .before .before .before .before .before .before .before .before .before .before .before .before .before .before .before .before .before .before .before .before .before .before .before .before .before .before .loop .inv .sizes .links)
@@ -130,7 +130,7 @@ run-spec =
     (λ c. c .before .loop .inv .sizes .packets)
     (λ c. c .before .loop .inv .sizes .transactions)
     (λ c. c .before .loop .inv .sizes .groups)
-    (λ c. c .before .loop .inv .sizes .marks)
+    (λ c. c .before .loop .inv .sizes .statebytes)
     (λ c. c .before .loop .inv .sizes .states)
     (λ c. c .before .loop .inv .sizes .items)
     (λ c. c .before .loop .inv .sizes .links)

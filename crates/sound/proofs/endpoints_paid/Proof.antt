@@ -3,8 +3,8 @@ use Prim.Native.Nat.{_-_, _≤_}
 use native.Mathlib.Omega.{arith}
 use mathlib.Core.Path.{_≡_, refl, sym, _∙_}
 use borrow.Author.Needs.{needs}
-use Rattle.judge.specs.Formed.{every}
-use Rattle.judge.proofs.Every.{every-next, every-stop}
+use Rattle.record.specs.Formed.{every}
+use Rattle.record.proofs.Every.{every-next, every-stop}
 use Rattle.sound.specs.Sound.{isPaid}
 use Rattle.sound.proofs.endpoints_paid.Statement.{statement}
 use Rattle.sound.proofs.endpoints_paid.Tie as tie

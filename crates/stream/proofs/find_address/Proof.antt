@@ -3,8 +3,8 @@ use Prim.Native.Nat.{_≤_}
 use mathlib.Core.Path.{_≡_, refl, sym, _∙_}
 use borrow.Author.Needs.{needs}
 use borrow.Author.Tests.{eq-eqb, ne-eqb}
-use Rattle.tables.specs.Search.{lastOf}
-use Rattle.tables.proofs.Searches.{last-hit, last-miss}
+use Rattle.details.specs.Search.{lastOf}
+use Rattle.details.proofs.Searches.{last-hit, last-miss}
 use Rattle.stream.specs.Addresses.{isAddress, foundAddress}
 use Rattle.stream.proofs.find_address.Statement.{statement}
 use Rattle.stream.proofs.find_address.Tie as tie

@@ -5,10 +5,10 @@ use mathlib.Core.Path.{_≡_, sym, subst, _∙_}
 use borrow.Author.Needs.{needs}
 use borrow.Author.Tests.{not-true, not-false}
 use lib.ListN.{length}
-use Rattle.outcome.specs.State.{State, state, Logs, logs}
+use Rattle.call.specs.State.{State, state, Logs, logs}
 use Rattle.packet.specs.Lent.{Lent}
 use Rattle.packet.proofs.Changes.{changed-by, changed-none}
-use Rattle.plan.proofs.Places.{number-small}
+use Rattle.decide.proofs.Places.{number-small}
 use Rattle.run_c.proofs.Running.{SameSizes, going-between, partOf}
 use Rattle.stream.specs.Addresses.{Addressed}
 use Rattle.stream.proofs.Addresses.{addressed-changed}
@@ -17,17 +17,17 @@ use Rattle.stream.proofs.run.Statement.{statement}
 use Rattle.stream.proofs.run.Tie as tie
 
 abbrev Inv-loop : tie.InvT-loop
-Inv-loop input table₀ bytes₀ device-rows₀ endpoint-rows₀ packets₀ events transactions₀ groups₀ marks₀ states₀ items₀ links₀ requests₀ decoder₀ addresses₀ devices₀ at₀ count₀ end₀ table bytes device-rows endpoint-rows packets transactions groups marks states items links requests decoder addresses devices at count end =
+Inv-loop input table₀ bytes₀ device-rows₀ endpoint-rows₀ packets₀ events transactions₀ groups₀ marks₀ states₀ items₀ links₀ requests₀ decoder₀ addresses₀ devices₀ at₀ count₀ end₀ table bytes device-rows endpoint-rows packets transactions groups statebytes states items links requests decoder addresses devices at count end =
     Streaming input (state decoder₀ devices₀ table₀ (logs bytes₀ device-rows₀ endpoint-rows₀ packets₀ events transactions₀ groups₀ marks₀ states₀ items₀ links₀ requests₀)) at count end
-    (state decoder devices table (logs bytes device-rows endpoint-rows packets events transactions groups marks states items links requests)) addresses
+    (state decoder devices table (logs bytes device-rows endpoint-rows packets events transactions groups statebytes states items links requests)) addresses
 
 abbrev μ-loop : tie.MeasureT-loop
-μ-loop input table₀ bytes₀ device-rows₀ endpoint-rows₀ packets₀ events transactions₀ groups₀ marks₀ states₀ items₀ links₀ requests₀ decoder₀ addresses₀ devices₀ at₀ count₀ end₀ table bytes device-rows endpoint-rows packets transactions groups marks states items links requests decoder addresses devices at count end =
+μ-loop input table₀ bytes₀ device-rows₀ endpoint-rows₀ packets₀ events transactions₀ groups₀ marks₀ states₀ items₀ links₀ requests₀ decoder₀ addresses₀ devices₀ at₀ count₀ end₀ table bytes device-rows endpoint-rows packets transactions groups statebytes states items links requests decoder addresses devices at count end =
     length input - at
 
 -- the state before a packet, and the logs behind it
 abbrev held : tie.At-loop Inv-loop μ-loop → State
-held c = state (c .loop .decoder) (c .loop .devices) (c .loop .table) (logs (c .loop .bytes) (c .loop .device-rows) (c .loop .endpoint-rows) (c .loop .packets) (c .before .before .before .before .before .before .before .before .before .before .before .before .before .before .before .before .args .events .now) (c .loop .transactions) (c .loop .groups) (c .loop .marks) (c .loop .states) (c .loop .items) (c .loop .links) (c .loop .requests))
+held c = state (c .loop .decoder) (c .loop .devices) (c .loop .table) (logs (c .loop .bytes) (c .loop .device-rows) (c .loop .endpoint-rows) (c .loop .packets) (c .before .before .before .before .before .before .before .before .before .before .before .before .before .before .before .before .args .events .now) (c .loop .transactions) (c .loop .groups) (c .loop .statebytes) (c .loop .states) (c .loop .items) (c .loop .links) (c .loop .requests))
 
 abbrev left : tie.After-packet-in Inv-loop μ-loop → Logs
 left c = logs (c .packet-in .last .1 .1 .1 .1 .1 .0) (c .packet-in .last .1 .1 .1 .1 .1 .1 .0) (c .packet-in .last .1 .1 .1 .1 .1 .1 .1 .0) (c .packet-in .last .1 .1 .1 .1 .1 .1 .1 .1 .0) (c .before .before .before .before .before .before .before .before .before .before .before .before .before .before .before .before .before .before .before .before .before .before .before .before .before .before .before .before .before .before .before .before .before .before .before .before .before .before .before .before .before .before .before .args .events .now) (c .packet-in .last .1 .1 .1 .1 .1 .1 .1 .1 .1 .1 .0) (c .packet-in .last .1 .1 .1 .1 .1 .1 .1 .1 .1 .1 .1 .0) (c .packet-in .last .1 .1 .1 .1 .1 .1 .1 .1 .1 .1 .1 .1 .0) (c .packet-in .last .1 .1 .1 .1 .1 .1 .1 .1 .1 .1 .1 .1 .1 .0) (c .packet-in .last .1 .1 .1 .1 .1 .1 .1 .1 .1 .1 .1 .1 .1 .1 .0) (c .packet-in .last .1 .1 .1 .1 .1 .1 .1 .1 .1 .1 .1 .1 .1 .1 .1 .0) (c .packet-in .last .1 .1 .1 .1 .1 .1 .1 .1 .1 .1 .1 .1 .1 .1 .1 .1 .0)
@@ -41,7 +41,7 @@ sizes c =
       packets = c .packet-in .kept .1 .1 .1 .1 .1 .1 .1 .1 .0;
       transactions = c .packet-in .kept .1 .1 .1 .1 .1 .1 .1 .1 .1 .1 .0;
       groups = c .packet-in .kept .1 .1 .1 .1 .1 .1 .1 .1 .1 .1 .1 .0;
-      marks = c .packet-in .kept .1 .1 .1 .1 .1 .1 .1 .1 .1 .1 .1 .1 .0;
+      statebytes = c .packet-in .kept .1 .1 .1 .1 .1 .1 .1 .1 .1 .1 .1 .1 .0;
       states = c .packet-in .kept .1 .1 .1 .1 .1 .1 .1 .1 .1 .1 .1 .1 .1 .0;
       items = c .packet-in .kept .1 .1 .1 .1 .1 .1 .1 .1 .1 .1 .1 .1 .1 .1 .0;
       links = c .packet-in .kept .1 .1 .1 .1 .1 .1 .1 .1 .1 .1 .1 .1 .1 .1 .1 .0;
@@ -181,7 +181,7 @@ run-spec =
     (λ c. c .before .before .loop .inv .going .sizes .packets)
     (λ c. c .before .before .loop .inv .going .sizes .transactions)
     (λ c. c .before .before .loop .inv .going .sizes .groups)
-    (λ c. c .before .before .loop .inv .going .sizes .marks)
+    (λ c. c .before .before .loop .inv .going .sizes .statebytes)
     (λ c. c .before .before .loop .inv .going .sizes .states)
     (λ c. c .before .before .loop .inv .going .sizes .items)
     (λ c. c .before .before .loop .inv .going .sizes .links)
@@ -211,7 +211,7 @@ run-spec =
     (λ c. sizes (c .before .before .before .before .before .before .before .before .before .before .before .before .before .before .before .before .before .before .before .before .before .before .before .before .before) .packets ∙ c .before .before .before .before .before .before .before .before .before .before .before .before .before .before .before .before .before .before .before .before .before .before .before .before .before .before .before .before .before .before .before .before .before .before .before .before .before .before .before .before .before .before .before .before .before .before .before .before .before .before .before .before .loop .inv .going .sizes .packets)
     (λ c. sizes (c .before .before .before .before .before .before .before .before .before .before .before .before .before .before .before .before .before .before .before .before .before .before .before .before .before) .transactions ∙ c .before .before .before .before .before .before .before .before .before .before .before .before .before .before .before .before .before .before .before .before .before .before .before .before .before .before .before .before .before .before .before .before .before .before .before .before .before .before .before .before .before .before .before .before .before .before .before .before .before .before .before .before .loop .inv .going .sizes .transactions)
     (λ c. sizes (c .before .before .before .before .before .before .before .before .before .before .before .before .before .before .before .before .before .before .before .before .before .before .before .before .before) .groups ∙ c .before .before .before .before .before .before .before .before .before .before .before .before .before .before .before .before .before .before .before .before .before .before .before .before .before .before .before .before .before .before .before .before .before .before .before .before .before .before .before .before .before .before .before .before .before .before .before .before .before .before .before .before .loop .inv .going .sizes .groups)
-    (λ c. sizes (c .before .before .before .before .before .before .before .before .before .before .before .before .before .before .before .before .before .before .before .before .before .before .before .before .before) .marks ∙ c .before .before .before .before .before .before .before .before .before .before .before .before .before .before .before .before .before .before .before .before .before .before .before .before .before .before .before .before .before .before .before .before .before .before .before .before .before .before .before .before .before .before .before .before .before .before .before .before .before .before .before .before .loop .inv .going .sizes .marks)
+    (λ c. sizes (c .before .before .before .before .before .before .before .before .before .before .before .before .before .before .before .before .before .before .before .before .before .before .before .before .before) .statebytes ∙ c .before .before .before .before .before .before .before .before .before .before .before .before .before .before .before .before .before .before .before .before .before .before .before .before .before .before .before .before .before .before .before .before .before .before .before .before .before .before .before .before .before .before .before .before .before .before .before .before .before .before .before .before .loop .inv .going .sizes .statebytes)
     (λ c. sizes (c .before .before .before .before .before .before .before .before .before .before .before .before .before .before .before .before .before .before .before .before .before .before .before .before .before) .states ∙ c .before .before .before .before .before .before .before .before .before .before .before .before .before .before .before .before .before .before .before .before .before .before .before .before .before .before .before .before .before .before .before .before .before .before .before .before .before .before .before .before .before .before .before .before .before .before .before .before .before .before .before .before .loop .inv .going .sizes .states)
     (λ c. sizes (c .before .before .before .before .before .before .before .before .before .before .before .before .before .before .before .before .before .before .before .before .before .before .before .before .before) .items ∙ c .before .before .before .before .before .before .before .before .before .before .before .before .before .before .before .before .before .before .before .before .before .before .before .before .before .before .before .before .before .before .before .before .before .before .before .before .before .before .before .before .before .before .before .before .before .before .before .before .before .before .before .before .loop .inv .going .sizes .items)
     (λ c. sizes (c .before .before .before .before .before .before .before .before .before .before .before .before .before .before .before .before .before .before .before .before .before .before .before .before .before) .links ∙ c .before .before .before .before .before .before .before .before .before .before .before .before .before .before .before .before .before .before .before .before .before .before .before .before .before .before .before .before .before .before .before .before .before .before .before .before .before .before .before .before .before .before .before .before .before .before .before .before .before .before .before .before .loop .inv .going .sizes .links)
@@ -242,7 +242,7 @@ run-spec =
     (λ c. c .before .loop .inv .going .sizes .packets)
     (λ c. c .before .loop .inv .going .sizes .transactions)
     (λ c. c .before .loop .inv .going .sizes .groups)
-    (λ c. c .before .loop .inv .going .sizes .marks)
+    (λ c. c .before .loop .inv .going .sizes .statebytes)
     (λ c. c .before .loop .inv .going .sizes .states)
     (λ c. c .before .loop .inv .going .sizes .items)
     (λ c. c .before .loop .inv .going .sizes .links)

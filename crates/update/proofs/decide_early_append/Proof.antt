@@ -1,6 +1,6 @@
 -- `decide_early_append` meets its contract: one answer for each way out of it.
 use mathlib.Core.Path.{sym, _∙_}
-use Rattle.transaction.proofs.Arms.{off}
+use Rattle.usb.proofs.Arms.{off}
 use Rattle.update.proofs.decide_early_append.Statement.{statement}
 use Rattle.update.proofs.decide_early_append.Tie as tie
 

@@ -1,7 +1,7 @@
 -- `is_undecided` meets its contract: one answer for each way out of it.
 use Rattle.group.specs.Step.{isActive}
 use mathlib.Core.Path.{sym, _∙_}
-use Rattle.transaction.proofs.Arms.{off, and-false}
+use Rattle.usb.proofs.Arms.{off, and-false}
 use Rattle.update.proofs.Bools.{and-true}
 use Rattle.update.proofs.is_undecided.Statement.{statement}
 use Rattle.update.proofs.is_undecided.Tie as tie

@@ -1,5 +1,5 @@
 -- `starts_early` meets its contract: one answer for each way out of it.
-use Rattle.transaction.proofs.Arms.{off}
+use Rattle.usb.proofs.Arms.{off}
 use Rattle.update.proofs.starts_early.Statement.{statement}
 use Rattle.update.proofs.starts_early.Tie as tie
 

@@ -1,4 +1,4 @@
--- `usb_vectors::answer_first` is safe: n bytes of eight are n bytes.
+-- `usb_vectors::answer_first` is safe: n bytes of eleven are n bytes.
 -- Assumes nothing.
 use borrow.Author.Needs.{needs}
 use mathlib.Core.Path.{sym}

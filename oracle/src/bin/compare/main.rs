@@ -14,10 +14,9 @@ use oracle::usb::validate_packet;
 use oracle::{compare, report};
 use port::Library;
 
-#[link(name = "capi", kind = "static")]
-#[link(name = "group_c", kind = "static")]
+#[link(name = "pivotspark", kind = "static")]
 unsafe extern "C" {
-    /// The PID byte of a valid packet, 0 for a malformed one (crates/capi). It reads the bytes and nothing else.
+    /// The PID byte of a valid packet, 0 for a malformed one (crates/pivotspark). It reads the bytes and nothing else.
     fn pivotspark_check(packet: *const u8, length: usize) -> u8;
     /// `group_status` in words: reads 23, writes 10.
     fn pivotspark_group_status(state: *const u64, out: *mut u64);

@@ -1,9 +1,9 @@
-//! The proved port, linked as a static library: whole traces through `pivotspark_trace` (crates/trace_c) on lent logs.
+//! The proved port, linked as a static library: whole traces through `pivotspark_trace` (crates/pivotspark) on lent logs.
 
 use oracle::calls::{LOGS, Rows, WIDTHS};
 use oracle::compare::{Left, Port};
 
-#[link(name = "trace_c", kind = "static")]
+#[link(name = "pivotspark", kind = "static")]
 unsafe extern "C" {
     /// Each slice is a pointer and a number of elements; the table has 2,176 words. The answer is in the top byte, the offset below it.
     fn pivotspark_trace(

@@ -6,7 +6,7 @@ use Rattle.events.proofs.ending.end_here.Tie as tie
 
 -- the memory that the call begins with
 abbrev first : tie.Start → Memory
-first s = memory (s .args .d) (s .args .table .now) (s .args .groups .now) (s .args .states .now) (s .args .marks .now) (s .args .items .now) (s .args .links .now)
+first s = memory (s .args .d) (s .args .table .now) (s .args .groups .now) (s .args .statebytes .now) (s .args .states .now) (s .args .items .now) (s .args .links .now)
 
 store-requires : tie.Need-store-requires
 store-requires c κs = let s = c .before .before .before .before .before .before .before .before in store-asks (s .args .e) (s .args .n) (s .args .id) (s .args .pid) (first s) (s .pre) (c .before .before .if1 .taken)
@@ -20,10 +20,10 @@ same-length : tie.Need-same-length
 same-length c = c .before .before .before .before .before .before .before .before .before .before .carry-out .kept .1 .1 .1 .1 .1 .1 .1 .0
 
 same-length-2 : tie.Need-same-length-2
-same-length-2 c = c .before .before .before .before .before .before .before .before .before .before .carry-out .kept .1 .1 .1 .1 .1 .1 .1 .1 .1 .0
+same-length-2 c = c .before .before .before .before .before .before .before .before .before .before .carry-out .kept .1 .1 .1 .1 .1 .1 .1 .1 .0
 
 same-length-3 : tie.Need-same-length-3
-same-length-3 c = c .before .before .before .before .before .before .before .before .before .before .carry-out .kept .1 .1 .1 .1 .1 .1 .1 .1 .0
+same-length-3 c = c .before .before .before .before .before .before .before .before .before .before .carry-out .kept .1 .1 .1 .1 .1 .1 .1 .1 .1 .0
 
 same-length-4 : tie.Need-same-length-4
 same-length-4 c = c .before .before .before .before .before .before .before .before .before .before .carry-out .kept .1 .1 .1 .1 .1 .1 .1 .1 .1 .1 .0

@@ -6,7 +6,7 @@ use Rattle.events.proofs.ending.settle.Tie as tie
 
 -- the memory that the call begins with
 abbrev first : tie.Start → Memory
-first s = memory (s .args .d) (s .args .table .now) (s .args .groups .now) (s .args .states .now) (s .args .marks .now) (s .args .items .now) (s .args .links .now)
+first s = memory (s .args .d) (s .args .table .now) (s .args .groups .now) (s .args .statebytes .now) (s .args .states .now) (s .args .items .now) (s .args .links .now)
 
 end-here-requires : tie.Need-end-here-requires
 end-here-requires c κs = c .before .before .before .before .before .before .before .before .before .before .before .before .pre (c .before .before .before .before .before .before .if1 .taken)
@@ -34,7 +34,7 @@ returns c =
     let s = c .before .before .before .before .before .before .before .before .before .before .before .before .before .before .before .before .before .before .before .before .before .before .before .before .before in
     let l = c .before .before .before .before .before .before .before .before .before .before .before .before .end-here .last in
     settles (s .args .resets) (s .args .e) (s .args .n) (s .args .id) (s .args .pid) (first s) (c .before .before .before .before .before .before .before .before .before .before .before .before .before .before .before .before .before .before .before .if1 .taken)
-    (memory (c .before .before .before .before .before .before .before .before .before .before .before .before .end-here .result) (l .1 .1 .1 .1 .1 .0) (l .1 .1 .1 .1 .1 .1 .0) (l .1 .1 .1 .1 .1 .1 .1 .1 .0) (l .1 .1 .1 .1 .1 .1 .1 .0) (l .1 .1 .1 .1 .1 .1 .1 .1 .1 .0) (l .1 .1 .1 .1 .1 .1 .1 .1 .1 .1 .0))
+    (memory (c .before .before .before .before .before .before .before .before .before .before .before .before .end-here .result) (l .1 .1 .1 .1 .1 .0) (l .1 .1 .1 .1 .1 .1 .0) (l .1 .1 .1 .1 .1 .1 .1 .0) (l .1 .1 .1 .1 .1 .1 .1 .1 .0) (l .1 .1 .1 .1 .1 .1 .1 .1 .1 .0) (l .1 .1 .1 .1 .1 .1 .1 .1 .1 .1 .0))
     (c .before .before .before .before .before .before .before .before .before .before .before .before .end-here .ensures) _ (c .end-active .ensures)
 
 returns-2 : tie.Need-returns-2

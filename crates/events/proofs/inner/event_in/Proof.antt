@@ -6,7 +6,7 @@ use mathlib.Core.Bool.{true}
 use mathlib.Core.Path.{_≡_, sym, ap, _∙_}
 use Rattle.transaction.specs.Payload.{startPid}
 use Rattle.write.specs.Memory.{Memory, memory}
-use Rattle.outcome.specs.State.{State, state, logs}
+use Rattle.call.specs.State.{State, state, logs}
 use Rattle.events.specs.After.{resetsBy}
 use Rattle.events.specs.declared.sum.Sum.{Sum}
 use Rattle.events.proofs.Before.{memoryThen}
@@ -21,7 +21,7 @@ use Rattle.events.proofs.inner.event_in.Tie as tie
 abbrev begun : tie.Start → State
 begun s =
     state (s .args .d) (s .args .devices) (s .args .table .now)
-    (logs (s .args .bytes .now) (s .args .device-rows .now) (s .args .endpoint-rows .now) (s .args .packets .now) (s .args .events .now) (s .args .transactions .now) (s .args .groups .now) (s .args .marks .now) (s .args .states .now) (s .args .items .now) (s .args .links .now) (s .args .requests .now))
+    (logs (s .args .bytes .now) (s .args .device-rows .now) (s .args .endpoint-rows .now) (s .args .packets .now) (s .args .events .now) (s .args .transactions .now) (s .args .groups .now) (s .args .statebytes .now) (s .args .states .now) (s .args .items .now) (s .args .links .now) (s .args .requests .now))
 
 decide-requires : tie.Need-decide-requires
 decide-requires c κs =
@@ -36,7 +36,7 @@ returns c =
     event-full (begun s) (s .pre .0) (c .before .before .before .before .before .before .before .known .ensures) (s .pre .1 .0) (s .args .kind) (s .args .code) (s .args .time) (s .pre .1 .1) (ap (λ (x : Sum). x .fits) (sym sum) ∙ flipped _ _ (c .if1 .taken))
 
 -- what is known in front of settle, where there is room
-module _ (c : tie.After-tally-of) where
+module _ (c : tie.After-written-of) where
   abbrev first : tie.Start
   first = c .before .before .before .before .before .before .before .before .before .before .before .before .before .before .before .before .before .before .before .before .before .before .before .before .before .before .before .before .before .before .before
 
@@ -56,7 +56,7 @@ settle-requires : tie.Need-settle-requires
 settle-requires c κs =
     let a = c .before .before .before .before .before .before in
     let s = first a in
-    settles-at (begun s) (s .args .kind) _ _ (a .before .before .before .before .before .before .before .before .before .before .before .before .decide .ensures) _ _ (a .before .start-pid .ensures) (a .tally-of .ensures)
+    settles-at (begun s) (s .args .kind) _ _ (a .before .before .before .before .before .before .before .before .before .before .before .before .decide .ensures) _ _ (a .before .start-pid .ensures) (a .written-of .ensures)
     (event-settles (begun s) (s .pre .0) (a .before .before .before .before .before .before .before .before .before .before .before .before .before .before .before .before .known .ensures) (s .pre .1 .0) (s .args .kind) (s .args .code) (s .args .time) (s .pre .1 .1) (byte a) (fits a))
 
 put-event-requires : tie.Need-put-event-requires
@@ -70,12 +70,12 @@ module _ (c : tie.After-settle) where
   abbrev settled : Memory
   settled =
       let l = c .settle .last in
-      memory (c .settle .result) (l .1 .1 .1 .1 .1 .1 .0) (l .1 .1 .1 .1 .1 .1 .1 .0) (l .1 .1 .1 .1 .1 .1 .1 .1 .1 .0) (l .1 .1 .1 .1 .1 .1 .1 .1 .0) (l .1 .1 .1 .1 .1 .1 .1 .1 .1 .1 .0) (l .1 .1 .1 .1 .1 .1 .1 .1 .1 .1 .1 .0)
+      memory (c .settle .result) (l .1 .1 .1 .1 .1 .1 .0) (l .1 .1 .1 .1 .1 .1 .1 .0) (l .1 .1 .1 .1 .1 .1 .1 .1 .0) (l .1 .1 .1 .1 .1 .1 .1 .1 .1 .0) (l .1 .1 .1 .1 .1 .1 .1 .1 .1 .1 .0) (l .1 .1 .1 .1 .1 .1 .1 .1 .1 .1 .1 .0)
 
   settled-is : settled ≡ memoryThen (resetsBy (first (c .before .before .before .before .before .before .before) .args .kind)) (begun (first (c .before .before .before .before .before .before .before)))
   settled-is =
       let a = c .before .before .before .before .before .before .before in
-      settled-at (begun (first a)) (first a .args .kind) _ _ (a .before .before .before .before .before .before .before .before .before .before .before .before .decide .ensures) _ _ (a .before .start-pid .ensures) (a .tally-of .ensures) settled (c .settle .ensures)
+      settled-at (begun (first a)) (first a .args .kind) _ _ (a .before .before .before .before .before .before .before .before .before .before .before .before .decide .ensures) _ _ (a .before .start-pid .ensures) (a .written-of .ensures) settled (c .settle .ensures)
 
 event-rows-requires : tie.Need-event-rows-requires
 event-rows-requires c κs =
@@ -97,10 +97,10 @@ same-length-4 : tie.Need-same-length-4
 same-length-4 c = c .before .before .before .before .before .before .before .before .before .before .before .event-rows .kept .1 .1 .1 .1 .1 .1 .1 .0 ∙ c .before .before .before .before .before .before .before .before .before .before .before .before .before .before .before .before .before .before .before .before .before .before .before .before .before .before .before .before .before .before .before .before .before .before .before .before .before .before .settle .kept .1 .1 .1 .1 .1 .1 .1 .0
 
 same-length-5 : tie.Need-same-length-5
-same-length-5 c = c .before .before .before .before .before .before .before .before .before .before .before .event-rows .kept .1 .1 .1 .1 .1 .1 .1 .1 .1 .0 ∙ c .before .before .before .before .before .before .before .before .before .before .before .before .before .before .before .before .before .before .before .before .before .before .before .before .before .before .before .before .before .before .before .before .before .before .before .before .before .before .settle .kept .1 .1 .1 .1 .1 .1 .1 .1 .0
+same-length-5 c = c .before .before .before .before .before .before .before .before .before .before .before .event-rows .kept .1 .1 .1 .1 .1 .1 .1 .1 .0 ∙ c .before .before .before .before .before .before .before .before .before .before .before .before .before .before .before .before .before .before .before .before .before .before .before .before .before .before .before .before .before .before .before .before .before .before .before .before .before .before .settle .kept .1 .1 .1 .1 .1 .1 .1 .1 .0
 
 same-length-6 : tie.Need-same-length-6
-same-length-6 c = c .before .before .before .before .before .before .before .before .before .before .before .event-rows .kept .1 .1 .1 .1 .1 .1 .1 .1 .0 ∙ c .before .before .before .before .before .before .before .before .before .before .before .before .before .before .before .before .before .before .before .before .before .before .before .before .before .before .before .before .before .before .before .before .before .before .before .before .before .before .settle .kept .1 .1 .1 .1 .1 .1 .1 .1 .1 .0
+same-length-6 c = c .before .before .before .before .before .before .before .before .before .before .before .event-rows .kept .1 .1 .1 .1 .1 .1 .1 .1 .1 .0 ∙ c .before .before .before .before .before .before .before .before .before .before .before .before .before .before .before .before .before .before .before .before .before .before .before .before .before .before .before .before .before .before .before .before .before .before .before .before .before .before .settle .kept .1 .1 .1 .1 .1 .1 .1 .1 .1 .0
 
 same-length-7 : tie.Need-same-length-7
 same-length-7 c = c .before .before .before .before .before .before .before .before .before .before .before .event-rows .kept .1 .1 .1 .1 .1 .1 .1 .1 .1 .1 .0 ∙ c .before .before .before .before .before .before .before .before .before .before .before .before .before .before .before .before .before .before .before .before .before .before .before .before .before .before .before .before .before .before .before .before .before .before .before .before .before .before .settle .kept .1 .1 .1 .1 .1 .1 .1 .1 .1 .1 .0

@@ -3,7 +3,7 @@ use Prim.Native.Nat.{_<_}
 use native.Mathlib.Omega.{arith}
 use mathlib.Core.Path.{sym, ap, _∙_}
 use Rattle.write.specs.Memory.{memory}
-use Rattle.outcome.specs.State.{State, state, logs}
+use Rattle.call.specs.State.{State, state, logs}
 use Rattle.events.specs.declared.sum.Sum.{Sum}
 use Rattle.events.proofs.Refuses.{flipped}
 use Rattle.events.proofs.Sane.{is-ready, sum-asks}
@@ -15,7 +15,7 @@ use Rattle.events.proofs.inner.finish_in.Tie as tie
 abbrev begun : tie.Start → State
 begun s =
     state (s .args .d) (s .args .devices) (s .args .table .now)
-    (logs (s .args .bytes .now) (s .args .device-rows .now) (s .args .endpoint-rows .now) (s .args .packets .now) (s .args .events .now) (s .args .transactions .now) (s .args .groups .now) (s .args .marks .now) (s .args .states .now) (s .args .items .now) (s .args .links .now) (s .args .requests .now))
+    (logs (s .args .bytes .now) (s .args .device-rows .now) (s .args .endpoint-rows .now) (s .args .packets .now) (s .args .events .now) (s .args .transactions .now) (s .args .groups .now) (s .args .statebytes .now) (s .args .states .now) (s .args .items .now) (s .args .links .now) (s .args .requests .now))
 
 plan-ending-requires : tie.Need-plan-ending-requires
 plan-ending-requires c κs = is-ready (begun (c .before .before .before .before .before .before .before .before .before .before .before .before .before .before .before .before .before .before)) (c .before .before .before .before .before .before .before .before .before .before .before .before .before .before .before .before .before .before .pre .0)
@@ -35,7 +35,7 @@ end-here-requires c κs =
     let pid = c .before .before .before .before .before .before .before .start-pid .ensures in
     let sum = sum-at (begun s) _ _ _ (c .before .before .before .before .before .before .before .before .before .before .before .plan-ending .ensures) (c .before .before .before .before .before .before .before .before .before .before .before .before .before .before .before .before .before .room-of .ensures) (c .before .before .before .before .before .before .before .before .before .before .sum-finish .ensures) in
     let byte : c .before .before .before .before .before .before .before .start-pid .result < 256 = omega (arith, c .before .before .before .before .before .before .before .start-pid .ok) in
-    end-asks (begun s) _ _ _ (c .before .before .before .before .before .before .before .before .before .before .before .plan-ending .ensures) pid (c .before .before .before .before .before .before .tally-of .ensures)
+    end-asks (begun s) _ _ _ (c .before .before .before .before .before .before .before .before .before .before .before .plan-ending .ensures) pid (c .before .before .before .before .before .before .written-of .ensures)
     (finish-endable (begun s) (s .pre .0) (c .before .before .before .before .before .before .before .before .before .before .before .before .before .before .before .known .ensures) (rw pid at byte) (s .pre .1) (ap (λ (x : Sum). x .fits) (sym sum) ∙ flipped _ _ (c .before .before .before .before .before .before .before .before .if1 .left)))
 
 same-length : tie.Need-same-length
@@ -59,9 +59,9 @@ returns-2 c =
     let pid = c .before .before .before .before .before .before .before .before .before .before .before .before .before .before .before .before .before .before .before .start-pid .ensures in
     let sum = sum-at (begun s) _ _ _ (c .before .before .before .before .before .before .before .before .before .before .before .before .before .before .before .before .before .before .before .before .before .before .before .plan-ending .ensures) (c .before .before .before .before .before .before .before .before .before .before .before .before .before .before .before .before .before .before .before .before .before .before .before .before .before .before .before .before .before .room-of .ensures) (c .before .before .before .before .before .before .before .before .before .before .before .before .before .before .before .before .before .before .before .before .before .before .sum-finish .ensures) in
     let byte : c .before .before .before .before .before .before .before .before .before .before .before .before .before .before .before .before .before .before .before .start-pid .result < 256 = omega (arith, c .before .before .before .before .before .before .before .before .before .before .before .before .before .before .before .before .before .before .before .start-pid .ok) in
-    let m = memory (c .before .before .before .before .before .before .before .before .before .before .before .end-here .result) (c .before .before .before .before .before .before .before .before .before .before .before .end-here .last .1 .1 .1 .1 .1 .0) (c .before .before .before .before .before .before .before .before .before .before .before .end-here .last .1 .1 .1 .1 .1 .1 .0) (c .before .before .before .before .before .before .before .before .before .before .before .end-here .last .1 .1 .1 .1 .1 .1 .1 .1 .0) (c .before .before .before .before .before .before .before .before .before .before .before .end-here .last .1 .1 .1 .1 .1 .1 .1 .0) (c .before .before .before .before .before .before .before .before .before .before .before .end-here .last .1 .1 .1 .1 .1 .1 .1 .1 .1 .0) (c .before .before .before .before .before .before .before .before .before .before .before .end-here .last .1 .1 .1 .1 .1 .1 .1 .1 .1 .1 .0) in
+    let m = memory (c .before .before .before .before .before .before .before .before .before .before .before .end-here .result) (c .before .before .before .before .before .before .before .before .before .before .before .end-here .last .1 .1 .1 .1 .1 .0) (c .before .before .before .before .before .before .before .before .before .before .before .end-here .last .1 .1 .1 .1 .1 .1 .0) (c .before .before .before .before .before .before .before .before .before .before .before .end-here .last .1 .1 .1 .1 .1 .1 .1 .0) (c .before .before .before .before .before .before .before .before .before .before .before .end-here .last .1 .1 .1 .1 .1 .1 .1 .1 .0) (c .before .before .before .before .before .before .before .before .before .before .before .end-here .last .1 .1 .1 .1 .1 .1 .1 .1 .1 .0) (c .before .before .before .before .before .before .before .before .before .before .before .end-here .last .1 .1 .1 .1 .1 .1 .1 .1 .1 .1 .0) in
     finish-returns (begun s) m _ _ (finish-accepted (begun s) (s .pre .0) (c .before .before .before .before .before .before .before .before .before .before .before .before .before .before .before .before .before .before .before .before .before .before .before .before .before .before .before .known .ensures) (rw pid at byte) (s .pre .1) (ap (λ (x : Sum). x .fits) (sym sum) ∙ flipped _ _ (c .before .before .before .before .before .before .before .before .before .before .before .before .before .before .before .before .before .before .before .before .if1 .left)))
-    (ended-at (begun s) _ _ _ m (c .before .before .before .before .before .before .before .before .before .before .before .before .before .before .before .before .before .before .before .before .before .before .before .plan-ending .ensures) pid (c .before .before .before .before .before .before .before .before .before .before .before .before .before .before .before .before .before .before .tally-of .ensures) (c .before .before .before .before .before .before .before .before .before .before .before .end-here .ensures)) sum (c .finished-decoder .ensures)
+    (ended-at (begun s) _ _ _ m (c .before .before .before .before .before .before .before .before .before .before .before .before .before .before .before .before .before .before .before .before .before .before .before .plan-ending .ensures) pid (c .before .before .before .before .before .before .before .before .before .before .before .before .before .before .before .before .before .before .written-of .ensures) (c .before .before .before .before .before .before .before .before .before .before .before .end-here .ensures)) sum (c .finished-decoder .ensures)
 
 pub finish-in-spec : {M : Type 1} → statement M
 finish-in-spec =

@@ -3,7 +3,7 @@ use Prim.Native.Nat.{_^_}
 use native.Mathlib.Omega.{arith}
 use borrow.Author.Needs.{needs}
 use Rattle.event.specs.Event.{actOf}
-use Rattle.reckon.proofs.Bounds.{looser, keepalive-small, reset-small}
+use Rattle.tally.proofs.Bounds.{looser, keepalive-small, reset-small}
 use Rattle.events.specs.After.{eventTally}
 use Rattle.events.proofs.sum.sum_event.Statement.{statement}
 use Rattle.events.proofs.sum.sum_event.Tie as tie

@@ -2,7 +2,7 @@
 use Prim.Native.Nat.{_^_}
 use native.Mathlib.Omega.{arith}
 use borrow.Author.Needs.{needs}
-use Rattle.reckon.proofs.Bounds.{looser, ending-small}
+use Rattle.tally.proofs.Bounds.{looser, ending-small}
 use Rattle.events.proofs.sum.sum_finish.Statement.{statement}
 use Rattle.events.proofs.sum.sum_finish.Tie as tie
 

@@ -1,5 +1,5 @@
 -- `control::outcome` meets its contract: one answer for each way out of it.
-use Rattle.transaction.proofs.Arms.{off}
+use Rattle.usb.proofs.Arms.{off}
 use Rattle.group.proofs.control.outcome.Statement.{statement}
 use Rattle.group.proofs.control.outcome.Tie as tie
 

@@ -1,6 +1,6 @@
 -- `control::setup_group` meets its contract: one answer for each way out of it.
 use Rattle.group.specs.Control.{setupGroup}
-use Rattle.transaction.proofs.Arms.{off}
+use Rattle.usb.proofs.Arms.{off}
 use Rattle.group.proofs.control.setup_group.Statement.{statement}
 use Rattle.group.proofs.control.setup_group.Tie as tie
 

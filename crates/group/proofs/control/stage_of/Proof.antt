@@ -1,5 +1,5 @@
 -- `control::stage_of` meets its contract: one answer for each way out of it.
-use Rattle.transaction.proofs.Arms.{off}
+use Rattle.usb.proofs.Arms.{off}
 use Rattle.group.proofs.control.stage_of.Statement.{statement}
 use Rattle.group.proofs.control.stage_of.Tie as tie
 

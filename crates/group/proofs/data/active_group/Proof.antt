@@ -1,6 +1,6 @@
 -- `data::active_group` meets its contract: one answer for each way out of it.
 use Rattle.group.specs.Data.{otherGroup}
-use Rattle.transaction.proofs.Arms.{off}
+use Rattle.usb.proofs.Arms.{off}
 use Rattle.group.proofs.data.active_group.Statement.{statement}
 use Rattle.group.proofs.data.active_group.Tie as tie
 

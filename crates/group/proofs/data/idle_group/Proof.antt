@@ -1,6 +1,6 @@
 -- `data::idle_group` meets its contract: one answer for each way out of it.
 use Rattle.group.specs.Data.{otherGroup}
-use Rattle.transaction.proofs.Arms.{either, off}
+use Rattle.usb.proofs.Arms.{either, off}
 use Rattle.group.proofs.data.idle_group.Statement.{statement}
 use Rattle.group.proofs.data.idle_group.Tie as tie
 

@@ -1,5 +1,5 @@
 -- `step::is_short` meets its contract: one answer for each way out of it.
-use Rattle.transaction.proofs.Arms.{off}
+use Rattle.usb.proofs.Arms.{off}
 use borrow.Author.Needs.{needs}
 use Rattle.group.proofs.step.is_short.Statement.{statement}
 use Rattle.group.proofs.step.is_short.Tie as tie

@@ -1,5 +1,5 @@
 -- `step::payload_waits` meets its contract: one answer for each way out of it.
-use Rattle.transaction.proofs.Arms.{off}
+use Rattle.usb.proofs.Arms.{off}
 use Rattle.group.proofs.step.payload_waits.Statement.{statement}
 use Rattle.group.proofs.step.payload_waits.Tie as tie
 

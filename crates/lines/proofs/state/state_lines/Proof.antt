@@ -15,28 +15,28 @@ use Rattle.lines.proofs.state.state_lines.Statement.{statement}
 use Rattle.lines.proofs.state.state_lines.Tie as tie
 
 abbrev lineAt : ℕ → List ℕ → ℕ → List ℕ → ℕ → List ℕ
-lineAt n states m marks i = stateLine i (stateBytes n states m marks i)
+lineAt n states m statebytes i = stateLine i (stateBytes n states m statebytes i)
 
 abbrev Inv-loop : tie.InvT-loop
-Inv-loop out₀ at n states m marks next₀ i₀ out next i =
-    (i ≤ n) × Left out₀ at (stateLines n states m marks) out next (each (lineAt n states m marks) i (n - i))
+Inv-loop out₀ at n states m statebytes next₀ i₀ out next i =
+    (i ≤ n) × Left out₀ at (stateLines n states m statebytes) out next (each (lineAt n states m statebytes) i (n - i))
 
 abbrev μ-loop : tie.MeasureT-loop
-μ-loop out₀ at n states m marks next₀ i₀ out next i = n - i
+μ-loop out₀ at n states m statebytes next₀ i₀ out next i = n - i
 
 -- where the row's bytes are known
 module _ (c : tie.After-size-of Inv-loop μ-loop) where
-  stops : c .before .before .start-of .result + c .size-of .result ≤ length (c .before .before .before .before .before .before .before .before .args .marks .now)
+  stops : c .before .before .start-of .result + c .size-of .result ≤ length (c .before .before .before .before .before .before .before .before .args .statebytes .now)
   stops = let a = c .before .before .before .before .before .before .before .before .args in omega (arith, stops-within (a .n) (a .states .now) (a .m) (c .before .before .before .before .loop .i) (c .before .before .start-of .ensures) (c .before .end-of .ensures) (c .size-of .ensures), c .before .before .before .before .before .before .before .before .pre .1 .0)
 
   lines-are :
-      stateLine (c .before .before .before .before .loop .i) (take (c .before .before .start-of .result + c .size-of .result - c .before .before .start-of .result) (drop (c .before .before .start-of .result) (c .before .before .before .before .before .before .before .before .args .marks .now)))
-      ≡ lineAt (c .before .before .before .before .before .before .before .before .args .n) (c .before .before .before .before .before .before .before .before .args .states .now) (c .before .before .before .before .before .before .before .before .args .m) (c .before .before .before .before .before .before .before .before .args .marks .now) (c .before .before .before .before .loop .i)
-  lines-are = let a = c .before .before .before .before .before .before .before .before .args in ap (stateLine (c .before .before .before .before .loop .i)) (bytes-are (a .n) (a .states .now) (a .m) (c .before .before .before .before .loop .i) (c .before .before .start-of .ensures) (c .before .end-of .ensures) (c .size-of .ensures) (a .marks .now))
+      stateLine (c .before .before .before .before .loop .i) (take (c .before .before .start-of .result + c .size-of .result - c .before .before .start-of .result) (drop (c .before .before .start-of .result) (c .before .before .before .before .before .before .before .before .args .statebytes .now)))
+      ≡ lineAt (c .before .before .before .before .before .before .before .before .args .n) (c .before .before .before .before .before .before .before .before .args .states .now) (c .before .before .before .before .before .before .before .before .args .m) (c .before .before .before .before .before .before .before .before .args .statebytes .now) (c .before .before .before .before .loop .i)
+  lines-are = let a = c .before .before .before .before .before .before .before .before .args in ap (stateLine (c .before .before .before .before .loop .i)) (bytes-are (a .n) (a .states .now) (a .m) (c .before .before .before .before .loop .i) (c .before .before .start-of .ensures) (c .before .end-of .ensures) (c .size-of .ensures) (a .statebytes .now))
 
 loop-holds : tie.Need-loop-holds Inv-loop μ-loop
 unfolding stateLines
-loop-holds c = let a = c .before .before .before .args in (search needs, begin (lineAt (a .n) (a .states .now) (a .m) (a .marks .now)) (a .n))
+loop-holds c = let a = c .before .before .before .args in (search needs, begin (lineAt (a .n) (a .states .now) (a .m) (a .statebytes .now)) (a .n))
 
 start-of-requires : tie.Need-start-of-requires Inv-loop μ-loop
 start-of-requires c κs = search needs
@@ -60,7 +60,7 @@ part-state-line-end : tie.Need-part-state-line-end Inv-loop μ-loop
 part-state-line-end c = omega (arith, stops (c .before))
 
 state-line-requires : tie.Need-state-line-requires Inv-loop μ-loop
-state-line-requires c κs = let l = c .before .before .before .before .before .before in let s = l .before .before .before .before in let a = s .args in turn-room (lineAt (a .n) (a .states .now) (a .m) (a .marks .now)) (l .loop .i) (a .n) (l .loop .inv .1) (c .before .before .before .before .before .loop-test .taken) (lines-are (c .before .before)) (s .pre .1 .1)
+state-line-requires c κs = let l = c .before .before .before .before .before .before in let s = l .before .before .before .before in let a = s .args in turn-room (lineAt (a .n) (a .states .now) (a .m) (a .statebytes .now)) (l .loop .i) (a .n) (l .loop .inv .1) (c .before .before .before .before .before .loop-test .taken) (lines-are (c .before .before)) (s .pre .1 .1)
 
 add-i : tie.Need-add-i Inv-loop μ-loop
 add-i c = search needs
@@ -69,13 +69,13 @@ loop-less : tie.Need-loop-less Inv-loop μ-loop
 loop-less c = search needs
 
 loop-again : tie.Need-loop-again Inv-loop μ-loop
-loop-again c = let l = c .before .before .before .before .before .before .before .before .before in let a = l .before .before .before .before .args in (search needs, turn (lineAt (a .n) (a .states .now) (a .m) (a .marks .now)) (l .loop .i) (a .n) (l .loop .inv .1) (c .before .before .before .before .before .before .before .before .loop-test .taken) (lines-are (c .before .before .before .before .before)) (c .before .before .state-line .ensures))
+loop-again c = let l = c .before .before .before .before .before .before .before .before .before in let a = l .before .before .before .before .args in (search needs, turn (lineAt (a .n) (a .states .now) (a .m) (a .statebytes .now)) (l .loop .i) (a .n) (l .loop .inv .1) (c .before .before .before .before .before .before .before .before .loop-test .taken) (lines-are (c .before .before .before .before .before)) (c .before .before .state-line .ensures))
 
 same-length : tie.Need-same-length Inv-loop μ-loop
 same-length c = c .before .loop .inv .1 .kept
 
 returns : tie.Need-returns Inv-loop μ-loop
-returns c = let a = c .before .before .before .before .before .args in finished (lineAt (a .n) (a .states .now) (a .m) (a .marks .now)) (c .before .loop .i) (a .n) (c .before .loop .inv .1) (c .loop-test .left)
+returns c = let a = c .before .before .before .before .before .args in finished (lineAt (a .n) (a .states .now) (a .m) (a .statebytes .now)) (c .before .loop .i) (a .n) (c .before .loop .inv .1) (c .loop-test .left)
 
 pub state-lines-spec : {M : Type 1} → statement M
 state-lines-spec =

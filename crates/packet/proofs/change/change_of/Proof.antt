@@ -2,23 +2,21 @@
 use native.Mathlib.Omega.{arith}
 use Prim.Native.Nat.{_≤_}
 use mathlib.Core.Bool.{Bool, true, false}
-use Rattle.rows.specs.Sets.{one}
+use Rattle.rows.specs.Sets.{one-small}
 use Rattle.packet.proofs.change.change_of.Statement.{statement}
 use Rattle.packet.proofs.change.change_of.Tie as tie
-
-one-small : (b : Bool) → one b ≤ 1
-one-small true = omega arith
-one-small false = omega arith
+mod Places
+use Places.*
 
 add-behind : tie.Need-add-behind
 add-behind c =
-    let s = c .before .before .before .before .before in
+    let s = add-behind·Start c in
     let e = c .flag-word .ensures in
     let n = s .pre in
     omega (arith, e, n, one-small (s .args .plan .begin .device))
 
 returns : tie.Need-returns
-returns c = simp (c .address-of .ensures, c .before .row-if2 .ensures, c .before .before .row-if .ensures, c .before .before .before .before .flag-word .ensures, c .before .before .before .before .before .before .adds-device .ensures)
+returns c = simp (c .address-of .ensures, returns·row-if2 c .row-if2 .ensures, returns·row-if c .row-if .ensures, returns·flag-word c .flag-word .ensures, returns·adds-device c .adds-device .ensures)
 
 pub change-of-spec : {M : Type 1} → statement M
 change-of-spec =

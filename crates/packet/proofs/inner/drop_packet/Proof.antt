@@ -7,17 +7,19 @@ use mathlib.Core.List.{List, [], _∷_}
 use mathlib.Core.Path.{_≡_, refl, ap, _∙_}
 use lib.ListN.{length}
 use lib.Seq.{sets}
-use Rattle.judge.specs.Room.{fitting}
-use Rattle.judge.specs.RoomLaws.{within}
-use Rattle.judge.specs.declared.Counts.{Counts}
-use Rattle.judge.specs.declared.Decoder.{Decoder}
-use Rattle.reckon.specs.Tallies.{addCounts}
+use Rattle.record.specs.Room.{fitting}
+use Rattle.record.specs.RoomLaws.{within}
+use Rattle.record.specs.declared.Counts.{Counts}
+use Rattle.record.specs.declared.Decoder.{Decoder}
+use Rattle.tally.specs.Tallies.{addCounts}
 use Rattle.packet.specs.After.{sumBy, sumDropped, tallyDropped, droppedDecoder}
 use Rattle.packet.specs.Dropped.{Drops, fitsDropped}
 use Rattle.packet.specs.declared.change.Change.{Change}
 use Rattle.packet.specs.declared.sum.Sum.{Sum}
 use Rattle.packet.proofs.inner.drop_packet.Statement.{statement}
 use Rattle.packet.proofs.inner.drop_packet.Tie as tie
+mod Places
+use Places.*
 
 -- ---- what an accepted sum tells of the room
 
@@ -51,10 +53,10 @@ module _ (d : Decoder) (none : Change) (packet : List ℕ) (time : ℕ) (room : 
       record { answer = rw f refl; decoder = rw f (q ∙ ap (droppedDecoder d) e); change = refl; bytes = rw f g; packets = rw f k }
 
 sum-dropped-requires : tie.Need-sum-dropped-requires
-sum-dropped-requires c κs = let s = c .before .before .before in (s .pre .0, (s .pre .1 .0, s .pre .1 .1 .0))
+sum-dropped-requires c κs = let s = sum-dropped-requires·Start c in (s .pre .0, (s .pre .1 .0, s .pre .1 .1 .0))
 
 returns : tie.Need-returns
-returns c = full _ _ _ _ _ _ _ _ (c .before .before .sum-dropped .ensures) (c .if1 .taken)
+returns c = full _ _ _ _ _ _ _ _ (returns·sum-dropped c .sum-dropped .ensures) (c .if1 .taken)
 
 put-packet-requires : tie.Need-put-packet-requires
 put-packet-requires c κs =
@@ -70,16 +72,16 @@ dropped-decoder-requires : tie.Need-dropped-decoder-requires
 dropped-decoder-requires c κs = tt
 
 same-length : tie.Need-same-length
-same-length c = c .before .before .before .before .before .put-packet .kept .1 .1 .1 .0
+same-length c = returns-2·put-packet c .put-packet .kept .1 .1 .1 .0
 
 same-length-2 : tie.Need-same-length-2
-same-length-2 c = c .before .before .before .before .before .put-packet .kept .1 .1 .1 .1 .0
+same-length-2 c = returns-2·put-packet c .put-packet .kept .1 .1 .1 .1 .0
 
 returns-2 : tie.Need-returns-2
 returns-2 c =
-    let w = c .before .before .before .before .before in
-    let b = w .before .before .before in
-    dropped _ _ _ _ _ _ _ _ (b .before .before .sum-dropped .ensures) _ _ _ (b .if1 .left) (c .dropped-decoder .ensures) (w .put-packet .ensures .0) (w .put-packet .ensures .1)
+    let w = returns-2·put-packet c in
+    let b = put-packet·Else1 w in
+    dropped _ _ _ _ _ _ _ _ (Else1·sum-dropped b .sum-dropped .ensures) _ _ _ (b .if1 .left) (c .dropped-decoder .ensures) (w .put-packet .ensures .0) (w .put-packet .ensures .1)
 
 pub drop-packet-spec : {M : Type 1} → statement M
 drop-packet-spec = tie.close (tie.spec sum-dropped-requires returns put-packet-requires dropped-decoder-requires same-length same-length-2 returns-2)

@@ -2,9 +2,9 @@
 use native.Mathlib.Omega.{arith}
 use Prim.Native.Nat.{_^_}
 use mathlib.Core.Path.{_≡_}
-use Rattle.judge.specs.Room.{fitting}
-use Rattle.reckon.specs.Tallies.{addCounts}
-use Rattle.reckon.proofs.Bounds.{small-none, looser, packet-small}
+use Rattle.record.specs.Room.{fitting}
+use Rattle.tally.specs.Tallies.{addCounts}
+use Rattle.tally.proofs.Bounds.{small-none, looser, packet-small}
 use Rattle.packet.specs.After.{sumDropped, tallyDropped}
 use Rattle.packet.proofs.sum.sum_dropped.Statement.{statement}
 use Rattle.packet.proofs.sum.sum_dropped.Tie as tie

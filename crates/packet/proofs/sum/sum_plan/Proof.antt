@@ -5,15 +5,17 @@ use mathlib.Core.Path.{_≡_, ap}
 use mathlib.Core.Bool.{Bool, true, false, _&&_}
 use borrow.Author.Tests.{eqb-true, eqb-false, not-true}
 use lib.Dec.{eqb}
-use Rattle.rows.specs.Sets.{one}
-use Rattle.judge.specs.Bools.{both}
-use Rattle.judge.specs.Room.{fitting}
-use Rattle.reckon.specs.Tallies.{endpointsThen, addCounts}
-use Rattle.reckon.proofs.Bounds.{looser, plan-small}
-use Rattle.reckon.proofs.Endpoints.{too-many}
+use Rattle.rows.specs.One.{one}
+use Rattle.record.specs.Bools.{both}
+use Rattle.record.specs.Room.{fitting}
+use Rattle.tally.specs.Tallies.{endpointsThen, addCounts}
+use Rattle.tally.proofs.Bounds.{looser, plan-small}
+use Rattle.tally.proofs.Endpoints.{too-many}
 use Rattle.packet.specs.After.{sumPlan, tallyOf}
 use Rattle.packet.proofs.sum.sum_plan.Statement.{statement}
 use Rattle.packet.proofs.sum.sum_plan.Tie as tie
+mod Places
+use Places.*
 
 -- the test of the first return
 many : (b : Bool) (n : ℕ) → (b && eqb n 128) ≡ true → 128 < n + one b
@@ -25,8 +27,8 @@ few false n l h = omega arith
 
 -- ---- the code's places
 
-spare : (c : tie.Else1) → endpointsThen (c .before .before .before .before .args .plan .begin) (c .before .before .before .before .args .d .counts .endpoints) ≤ 128
-spare c = let s = c .before .before .before .before in few (s .args .plan .begin .endpoint) (s .args .d .counts .endpoints) (s .pre .1 .1 .1 .0) (c .if1 .left)
+spare : (c : tie.Else1) → endpointsThen (Else1·Start c .args .plan .begin) (Else1·Start c .args .d .counts .endpoints) ≤ 128
+spare c = let s = Else1·Start c in few (s .args .plan .begin .endpoint) (s .args .d .counts .endpoints) (s .pre .1 .1 .1 .0) (c .if1 .left)
 
 counts : (c : tie.After-add-counts) → let s = c .before .before .before .before .before .before in c .add-counts .result ≡ addCounts (s .args .d .counts) (tallyOf (s .args .d) (s .args .plan) (s .args .len))
 counts c = rw (c .before .tally-plan .ensures) at (c .add-counts .ensures)
@@ -47,7 +49,7 @@ returns c =
     rw f (c .refuse .ensures)
 
 tally-plan-requires : tie.Need-tally-plan-requires
-tally-plan-requires c κs = let s = c .before .before .before .before in (s .pre .0, (s .pre .1 .0, (s .pre .1 .1 .1 .1, spare c)))
+tally-plan-requires c κs = let s = tally-plan-requires·Start c in (s .pre .0, (s .pre .1 .0, (s .pre .1 .1 .1 .1, spare c)))
 
 add-counts-requires : tie.Need-add-counts-requires
 add-counts-requires c κs =

@@ -1,6 +1,6 @@
 -- `payload::extract_payload` meets its contract: one answer for each way out of it.
 use Rattle.transaction.specs.Payload.{extractPayload}
-use Rattle.transaction.proofs.Arms.{off}
+use Rattle.usb.proofs.Arms.{off}
 use Rattle.transaction.proofs.payload.extract_payload.Statement.{statement}
 use Rattle.transaction.proofs.payload.extract_payload.Tie as tie
 

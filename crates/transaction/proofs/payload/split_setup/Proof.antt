@@ -1,5 +1,5 @@
 -- `payload::split_setup` meets its contract: one answer for each way out of it.
-use Rattle.transaction.proofs.Arms.{off}
+use Rattle.usb.proofs.Arms.{off}
 use Rattle.transaction.proofs.payload.split_setup.Statement.{statement}
 use Rattle.transaction.proofs.payload.split_setup.Tie as tie
 

@@ -1,5 +1,5 @@
 -- `simple::after_ack` meets its contract: one answer for each way out of it.
-use Rattle.transaction.proofs.Arms.{either, either3, off}
+use Rattle.usb.proofs.Arms.{either, either3, off}
 use Rattle.transaction.proofs.simple.after_ack.Statement.{statement}
 use Rattle.transaction.proofs.simple.after_ack.Tie as tie
 

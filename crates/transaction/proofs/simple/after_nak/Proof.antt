@@ -1,5 +1,5 @@
 -- `simple::after_nak` meets its contract: one answer for each way out of it.
-use Rattle.transaction.proofs.Arms.{either, off}
+use Rattle.usb.proofs.Arms.{either, off}
 use Rattle.transaction.proofs.simple.after_nak.Statement.{statement}
 use Rattle.transaction.proofs.simple.after_nak.Tie as tie
 

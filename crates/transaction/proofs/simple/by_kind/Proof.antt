@@ -1,5 +1,5 @@
 -- `simple::by_kind` meets its contract: one answer for each way out of it.
-use Rattle.transaction.proofs.Arms.{off}
+use Rattle.usb.proofs.Arms.{off}
 use Rattle.transaction.proofs.simple.by_kind.Statement.{statement}
 use Rattle.transaction.proofs.simple.by_kind.Tie as tie
 

@@ -1,5 +1,5 @@
 -- `simple::simple_status` meets its contract: one answer for each way out of it.
-use Rattle.transaction.proofs.Arms.{either, either5, off}
+use Rattle.usb.proofs.Arms.{either, either5, off}
 use Rattle.transaction.proofs.simple.simple_status.Statement.{statement}
 use Rattle.transaction.proofs.simple.simple_status.Tie as tie
 

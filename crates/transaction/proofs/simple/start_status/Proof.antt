@@ -1,5 +1,5 @@
 -- `simple::start_status` meets its contract: one answer for each way out of it.
-use Rattle.transaction.proofs.Arms.{either7, off}
+use Rattle.usb.proofs.Arms.{either7, off}
 use Rattle.transaction.proofs.simple.start_status.Statement.{statement}
 use Rattle.transaction.proofs.simple.start_status.Tie as tie
 

@@ -1,5 +1,5 @@
 -- `split::control_start` meets its contract: one answer for each way out of it.
-use Rattle.transaction.proofs.Arms.{either, either3, off}
+use Rattle.usb.proofs.Arms.{either, either3, off}
 use Rattle.transaction.proofs.split.control_start.Statement.{statement}
 use Rattle.transaction.proofs.split.control_start.Tie as tie
 

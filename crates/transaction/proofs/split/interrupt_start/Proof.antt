@@ -1,5 +1,5 @@
 -- `split::interrupt_start` meets its contract: one answer for each way out of it.
-use Rattle.transaction.proofs.Arms.{either, off}
+use Rattle.usb.proofs.Arms.{either, off}
 use Rattle.transaction.proofs.split.interrupt_start.Statement.{statement}
 use Rattle.transaction.proofs.split.interrupt_start.Tie as tie
 

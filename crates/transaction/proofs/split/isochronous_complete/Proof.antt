@@ -1,5 +1,5 @@
 -- `split::isochronous_complete` meets its contract: one answer for each way out of it.
-use Rattle.transaction.proofs.Arms.{either, off}
+use Rattle.usb.proofs.Arms.{either, off}
 use Rattle.transaction.proofs.split.isochronous_complete.Statement.{statement}
 use Rattle.transaction.proofs.split.isochronous_complete.Tie as tie
 

@@ -1,5 +1,5 @@
 -- `split::isochronous_start` meets its contract: one answer for each way out of it.
-use Rattle.transaction.proofs.Arms.{off}
+use Rattle.usb.proofs.Arms.{off}
 use Rattle.transaction.proofs.split.isochronous_start.Statement.{statement}
 use Rattle.transaction.proofs.split.isochronous_start.Tie as tie
 

@@ -1,5 +1,5 @@
 -- `split::split_status` meets its contract: one answer for each way out of it.
-use Rattle.transaction.proofs.Arms.{off}
+use Rattle.usb.proofs.Arms.{off}
 use Rattle.transaction.proofs.split.split_status.Statement.{statement}
 use Rattle.transaction.proofs.split.split_status.Tie as tie
 

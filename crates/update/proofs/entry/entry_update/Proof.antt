@@ -3,7 +3,7 @@ use mathlib.Core.Path.{_≡_, refl, ap, _∙_}
 use mathlib.Core.Bool.{Bool, true, false}
 use Prim.Native.Nat.{ℕ}
 use native.Mathlib.Omega.{arith}
-use Rattle.tables.specs.declared.Endpoint.{Endpoint}
+use Rattle.endpoints.specs.declared.Endpoint.{Endpoint}
 use Rattle.rules.specs.World.{moreTransactions}
 use Rattle.update.specs.Update.{when}
 use Rattle.update.specs.Entry.{overEntry, endEntry, entryAfter}

@@ -34,7 +34,7 @@ add-result : tie.Need-add-result
 add-result c = search needs
 
 returns : tie.Need-returns
-returns c = omega (arith, after-three (c .before .before .before .before .before .before .args .packet .now) (c .before .before .before .before .before .before .pre), c .pair2 .ensures, c .before .before .pair .ensures)
+returns c = omega (arith, after-three (c .before .before .before .before .before .before .args .packet .now), c .pair2 .ensures, c .before .before .pair .ensures)
 
 pub three-spec : {M : Type 1} → statement M
 three-spec =

@@ -19,7 +19,7 @@ cast-result : tie.Need-cast-result
 cast-result c = search needs
 
 returns : tie.Need-returns
-returns c = c .pair .ensures ∙ after-two _ (c .before .before .before .before .pre)
+returns c = c .pair .ensures ∙ after-two _
 
 pub two-spec : {M : Type 1} → statement M
 two-spec =

@@ -4,6 +4,8 @@ use mathlib.Core.Path.{_≡_, refl, _∙_}
 use borrow.Author.Needs.{needs}
 use Rattle.write.proofs.leaf.group_row.Statement.{statement}
 use Rattle.write.proofs.leaf.group_row.Tie as tie
+mod Places
+use Places.*
 
 add-end : tie.Need-add-end
 add-end c = search needs
@@ -27,7 +29,7 @@ add-d : tie.Need-add-d
 add-d c = search needs
 
 add-d-2 : tie.Need-add-d-2
-add-d-2 c = search needs
+add-d-2 c = let s = add-d-2·Start c in search (needs, s .pre .1 .1 .1, s .good, s .fits)
 
 same-length : tie.Need-same-length
 same-length c = search needs
@@ -39,7 +41,7 @@ same-length-3 : tie.Need-same-length-3
 same-length-3 c = search needs
 
 returns : tie.Need-returns
-returns c = (refl, (c .before .before .before .before .before .before .before .before .before .before .before .add-endpoint-state .ensures .0, (c .before .before .put3 .ensures ∙ rw (c .before .before .before .flag-word .ensures) refl, (c .before .before .before .before .before .before .before .put1 .ensures, c .before .before .before .before .before .before .before .before .before .before .before .add-endpoint-state .ensures .1))))
+returns c = (refl, (c .before .before .before .before .before .before .before .before .before .before .before .add-endpoint-state .ensures .0, (c .before .before .put3 .ensures ∙ rw (c .before .before .before .flag-word .ensures) refl, (c .before .before .before .before .before .before .before .before .before .before .before .add-endpoint-state .ensures .1, c .before .before .before .before .before .before .before .put1 .ensures))))
 
 pub group-row-spec : {M : Type 1} → statement M
 group-row-spec =

@@ -1,10 +1,12 @@
 -- `write::leaf::item_row` meets its contract: what the writers ensure, the E rows being those of the table before it is cleared.
-use Rattle.tables.specs.PhasesLaws.{length-closing}
+use Rattle.endpoints.specs.PhasesLaws.{length-closing}
 use native.Mathlib.Omega.{arith}
 use mathlib.Core.Path.{_≡_, refl, _∙_}
 use borrow.Author.Needs.{needs}
 use Rattle.write.proofs.leaf.item_row.Statement.{statement}
 use Rattle.write.proofs.leaf.item_row.Tie as tie
+mod Places
+use Places.*
 
 count-waiting-requires : tie.Need-count-waiting-requires
 count-waiting-requires c κs = search needs
@@ -16,7 +18,7 @@ put1-requires : tie.Need-put1-requires
 put1-requires c κs = search needs
 
 close-waiting-requires : tie.Need-close-waiting-requires
-close-waiting-requires c κs = (c .before .before .before .before .before .before .before .before .before .before .before .pre .0, omega (arith, length-closing (c .before .before .before .before .before .before .before .before .before .before .before .args .table .now) (c .before .before .before .before .before .before .before .before .before .before .before .args .d .items) 0 (c .before .before .before .before .before .before .before .before .before .before .before .args .n), c .before .before .before .before .before .before .before .before .before .before .before .pre .1 .1))
+close-waiting-requires c κs = (close-waiting-requires·Start c .pre .0, omega (arith, length-closing (close-waiting-requires·Start c .args .table .now) (close-waiting-requires·Start c .args .d .items) 0 (close-waiting-requires·Start c .args .n), close-waiting-requires·Start c .pre .1 .1))
 
 clear-waiting-requires : tie.Need-clear-waiting-requires
 clear-waiting-requires c κs = search needs

@@ -1,0 +1,4 @@
+pub mod State
+pub mod Outcome
+pub mod OutcomeLaws
+pub mod Share

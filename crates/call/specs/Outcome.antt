@@ -1,0 +1,126 @@
+-- To be believed: what a call may leave, for every input: the answer by 01's table, and the state either as it was or as the rules leave it.
+-- OutcomeLaws proves that any two outcomes that this permits coincide.
+-- Hold it to: 01, "Answer numbers" (1, 7, 9, "Accepted calls write only the new rows") and "What the contracts owe us"
+use Prim.Native.Nat.{ℕ, zero, suc, _+_, _*_, _/_, _<_, _≤_}
+use mathlib.Core.Bool.{Bool, true, false, not, _||_}
+use mathlib.Core.List.{List}
+use mathlib.Core.Path.{_≡_}
+use lib.Dec.{eqb, ltb}
+use lib.ListN.{length, getD}
+use lib.Seq.{sets}
+use Rattle.rows.specs.Widths.{endpointWidth, eventWidth, groupWidth, linkWidth, packetWidth, requestWidth, transactionWidth}
+use Rattle.details.specs.Search.{blank}
+use Rattle.endpoints.specs.Table.{entryAt}
+use Rattle.endpoints.specs.Word as word
+use Rattle.details.specs.declared.Device.{Device}
+use Rattle.rules.specs.Rows.{Row, log}
+use Rattle.rules.specs.World.{World, waitingOf}
+use Rattle.record.specs.Answers.{Tests, firstOf}
+use Rattle.record.specs.Formed.{wellFormed, Stored}
+use Rattle.record.specs.Room.{fitting, long}
+use Rattle.record.specs.World.{worldOf}
+use Rattle.record.specs.declared.Counts.{Counts}
+use Rattle.record.specs.declared.Decoder.{Decoder}
+use Rattle.call.specs.State.{Logs, State, roomOf}
+
+-- ---- the tests of 01's table that are the same for each call
+
+-- 1: "a lent log is too long, or the record is not well formed"
+unfoldable pub isIll : State → Bool
+isIll s = long (roomOf (s .logs)) || not (wellFormed (s .decoder) (s .devices) (s .table) (roomOf (s .logs)))
+
+-- the counts behind which n and the rows of a journal stand
+unfoldable pub countsAfter : Counts → World → Counts
+countsAfter n w =
+    record {
+      bytes = w .bytes;
+      devices = w .deviceCount;
+      endpoints = w .count;
+      packets = w .packets;
+      events = n .events + length (log 4 (w .journal)) / eventWidth;
+      transactions = w .transactions;
+      groups = w .groups;
+      statebytes = w .stateBytes;
+      states = n .states + length (log 8 (w .journal));
+      items = w .items;
+      links = n .links + length (log 10 (w .journal)) / linkWidth;
+      requests = n .requests + length (log 11 (w .journal)) / requestWidth;
+    }
+
+-- 7: "by the rules the call would end with more rows, bytes, devices or endpoints than there is room for"; by the rules it ends in the world w
+unfoldable pub isFull : State → World → Bool
+isFull s w = not (fitting (countsAfter (s .decoder .counts) w) (roomOf (s .logs)))
+
+-- 9: "an endpoint's byte total would pass 2^64 - 1", of one of the n endpoints
+abbrev pub anyOver : ℕ → World → Bool
+anyOver zero w = false
+anyOver (suc n) w = ltb 18446744073709551615 (w .endpoints n .total) || anyOver n w
+
+unfoldable pub isOver : World → Bool
+isOver w = anyOver (w .count) w
+
+-- ---- what the rules leave: the world w, from the state s
+
+-- each log has the rows of the call behind those that stood there, and its other words as they were
+pub record Appends (w : World) (n : Counts) (l l′ : Logs) : Type 0 where
+  pub bytes : l′ .bytes ≡ sets (l .bytes) (n .bytes) (log 0 (w .journal))
+  pub devices : l′ .devices ≡ sets (l .devices) (n .devices) (log 1 (w .journal))
+  pub endpoints : l′ .endpoints ≡ sets (l .endpoints) (n .endpoints * endpointWidth) (log 2 (w .journal))
+  pub packets : l′ .packets ≡ sets (l .packets) (n .packets * packetWidth) (log 3 (w .journal))
+  pub events : l′ .events ≡ sets (l .events) (n .events * eventWidth) (log 4 (w .journal))
+  pub transactions : l′ .transactions ≡ sets (l .transactions) (n .transactions * transactionWidth) (log 5 (w .journal))
+  pub groups : l′ .groups ≡ sets (l .groups) (n .groups * groupWidth) (log 6 (w .journal))
+  pub statebytes : l′ .statebytes ≡ sets (l .statebytes) (n .statebytes) (log 7 (w .journal))
+  pub states : l′ .states ≡ sets (l .states) (n .states) (log 8 (w .journal))
+  pub items : l′ .items ≡ sets (l .items) (n .items) (log 9 (w .journal))
+  pub links : l′ .links ≡ sets (l .links) (n .links * linkWidth) (log 10 (w .journal))
+  pub requests : l′ .requests ≡ sets (l .requests) (n .requests * requestWidth) (log 11 (w .journal))
+
+-- the record is the world's; `finished` is for finish to set
+unfoldable pub decoderOf : Counts → Bool → World → Decoder
+decoderOf n finished w =
+    record {
+      counts = countsAfter n w;
+      slot = w .slot;
+      transaction = w .transaction;
+      last = w .lastItem;
+      event = w .eventState;
+      keepalive = w .keepalive;
+      waiting = waitingOf w;
+      finished = finished;
+    }
+
+-- a row for each device of the world, the others as they were
+pub record DevicesOf (w : World) (v v′ : List Device) : Type 0 where
+  pub size : length v′ ≡ length v
+  pub there : (i : ℕ) → i < w .deviceCount → getD v′ i blank ≡ w .devices i
+  pub beyond : (i : ℕ) → w .deviceCount ≤ i → getD v′ i blank ≡ getD v i blank
+
+-- an entry for each endpoint of the world, in words as `store` writes them; the other words as they were
+pub record TableOf (w : World) (t t′ : List ℕ) : Type 0 where
+  pub size : length t′ ≡ length t
+  pub entries : (i : ℕ) → i < w .count → entryAt t′ i ≡ w .endpoints i
+  pub words : (i : ℕ) → i < w .count → Stored t′ i
+  pub beyond : (i : ℕ) → w .count * word.width ≤ i → getD t′ i 0 ≡ getD t i 0
+
+pub record Left (w : World) (finished : Bool) (s s′ : State) : Type 0 where
+  pub decoder : s′ .decoder ≡ decoderOf (s .decoder .counts) finished w
+  pub devices : DevicesOf w (s .devices) (s′ .devices)
+  pub table : TableOf w (s .table) (s′ .table)
+  pub logs : Appends w (s .decoder .counts) (s .logs) (s′ .logs)
+
+-- ---- the outcome
+
+-- 0 and 8 leave what the rules leave, any other answer leaves all as it was
+abbrev pub accepts : ℕ → Bool
+accepts a = eqb a 0 || eqb a 8
+
+-- a call with these tests, by the rules ending in the world w, answers a and leaves s′
+pub record Answers (q : Tests) (w : World) (finished : Bool) (s : State) (a : ℕ) (s′ : State) : Type 0 where
+  pub answer : a ≡ firstOf q
+  pub left : accepts (firstOf q) ≡ true → Left w finished s s′
+  pub kept : accepts (firstOf q) ≡ false → s′ ≡ s
+
+-- the world that a state stands for (record, World)
+abbrev pub worldAt : State → World
+worldAt s = worldOf (s .decoder) (s .devices) (s .table)

@@ -1,0 +1,73 @@
+-- To be believed: all that a call works on: the record, the devices, the endpoint table, and the twelve logs.
+-- Hold it to: the parameters of the public functions, in their order; 01, "Sizes"
+use Prim.Native.Nat.{ℕ, _/_}
+use mathlib.Core.List.{List}
+use lib.ListN.{length}
+use Rattle.rows.specs.Widths.{endpointWidth, eventWidth, groupWidth, linkWidth, packetWidth, requestWidth, transactionWidth}
+use Rattle.details.specs.declared.Device.{Device}
+use Rattle.record.specs.declared.Counts.{Counts}
+use Rattle.record.specs.declared.Decoder.{Decoder}
+
+-- in the order of their numbers (rules, Rows)
+pub record Logs : Type 0 where
+  pub bytes : List ℕ
+  pub devices : List ℕ
+  pub endpoints : List ℕ
+  pub packets : List ℕ
+  pub events : List ℕ
+  pub transactions : List ℕ
+  pub groups : List ℕ
+  pub statebytes : List ℕ
+  pub states : List ℕ
+  pub items : List ℕ
+  pub links : List ℕ
+  pub requests : List ℕ
+
+abbrev pub logs : List ℕ → List ℕ → List ℕ → List ℕ → List ℕ → List ℕ → List ℕ → List ℕ → List ℕ → List ℕ → List ℕ → List ℕ → Logs
+logs a b c d e f g h i j k l =
+    record {
+      bytes = a;
+      devices = b;
+      endpoints = c;
+      packets = d;
+      events = e;
+      transactions = f;
+      groups = g;
+      statebytes = h;
+      states = i;
+      items = j;
+      links = k;
+      requests = l;
+    }
+
+pub record State : Type 0 where
+  pub decoder : Decoder
+  pub devices : List Device
+  pub table : List ℕ
+  pub logs : Logs
+
+abbrev pub state : Decoder → List Device → List ℕ → Logs → State
+state d v t l = record { decoder = d; devices = v; table = t; logs = l }
+
+-- how many rows there is room for: words by a row's width (rows, Widths)
+unfoldable pub roomBy : ℕ → ℕ → ℕ → ℕ → ℕ → ℕ → ℕ → ℕ → ℕ → ℕ → ℕ → ℕ → Counts
+roomBy a b c d e f g h i j k l =
+    record {
+      bytes = a;
+      devices = b;
+      endpoints = c / endpointWidth;
+      packets = d / packetWidth;
+      events = e / eventWidth;
+      transactions = f / transactionWidth;
+      groups = g / groupWidth;
+      statebytes = h;
+      states = i;
+      items = j;
+      links = k / linkWidth;
+      requests = l / requestWidth;
+    }
+
+abbrev pub roomOf : Logs → Counts
+roomOf l =
+    roomBy (length (l .bytes)) (length (l .devices)) (length (l .endpoints)) (length (l .packets)) (length (l .events)) (length (l .transactions))
+    (length (l .groups)) (length (l .statebytes)) (length (l .states)) (length (l .items)) (length (l .links)) (length (l .requests))

@@ -1,0 +1,142 @@
+// What every call shares: the answer's type, the room of the lent logs, the first tests, and where it begins to write. What a call may leave is in specs/.
+use details::Device;
+use endpoints::entry::sized;
+use record::Counts;
+use record::Decoder;
+use record::formed::well_formed;
+use record::room::too_long;
+use rows::width;
+use transaction::Transaction;
+use write::Written;
+ghost use mathlib.Core.Path.{_≡_};
+ghost use mathlib.Core.Bool.{not, _||_};
+ghost use Rattle.record.specs.Formed.{wellFormed};
+ghost use Rattle.record.specs.Room.{long};
+ghost use Rattle.call.specs.Share.{Words, Bytes, Known, firstTests, writtenOf, tied};
+ghost use Rattle.call.specs.State.{roomBy};
+
+// What a call gives back; the endpoint table and the logs are lent.
+pub struct Called {
+    // The answer of 01's table.
+    pub answer: u8,
+    pub decoder: Decoder,
+    pub devices: [Device; 64],
+}
+
+// How many rows there is room for, by the lengths of the twelve logs in their order.
+pub fn room_of(
+    bytes: usize,
+    devices: usize,
+    endpoints: usize,
+    packets: usize,
+    events: usize,
+    transactions: usize,
+    groups: usize,
+    statebytes: usize,
+    states: usize,
+    items: usize,
+    links: usize,
+    requests: usize,
+) -> Counts
+    ensures { λ r. ⌜ r ≡ roomBy bytes devices endpoints packets events transactions groups statebytes states items links requests ⌝ }
+{
+    Counts {
+        bytes,
+        devices,
+        endpoints: endpoints / width::ENDPOINT,
+        packets: packets / width::PACKET,
+        events: events / width::EVENT,
+        transactions: transactions / width::TRANSACTION,
+        groups: groups / width::GROUP,
+        statebytes,
+        states,
+        items,
+        links: links / width::LINK,
+        requests: requests / width::REQUEST,
+    }
+}
+
+// Answer 1: a lent log is too long, or the record is not well formed on logs with that room.
+pub fn is_ill(d: Decoder, devices: [Device; 64], table: &[u64; 2176], room: Counts) -> bool
+    ensures { λ r. ⌜ r ≡ (long room || not (wellFormed d devices (now (table .entry)) room)) ⌝ }
+{
+    too_long(room) | !well_formed(d, devices, table, room)
+}
+
+// Answers 1 and 2, then `number` where n passes `most`, and 0 where none of them is given.
+pub fn first_tests(
+    d: Decoder,
+    devices: [Device; 64],
+    table: &[u64; 2176],
+    room: Counts,
+    n: usize,
+    most: usize,
+    number: u8,
+) -> u8
+    ensures { λ r. ⌜ r ≡ firstTests d devices (now (table .entry)) room n most number ⌝ }
+{
+    if is_ill(d, devices, table, room) {
+        return 1;
+    }
+    if d.finished {
+        return 2;
+    }
+    if most < n {
+        return number;
+    }
+    0
+}
+
+// Where a call begins to write.
+pub fn written_of(d: Decoder) -> Written
+    ensures { λ r. ⌜ r ≡ writtenOf d ⌝ }
+{
+    let n = d.counts;
+    let t = d.transaction;
+    Written {
+        groups: n.groups,
+        statebytes: n.statebytes,
+        states: n.states,
+        items: n.items,
+        links: n.links,
+        last: d.last,
+        linked: t.linked,
+        link: t.link,
+    }
+}
+
+// The transaction with the T row that it has by now.
+pub fn tie(t: Transaction, d: Written) -> Transaction
+    ensures { λ r. ⌜ r ≡ tied t d ⌝ }
+{
+    let mut t = t;
+    t.linked = d.linked;
+    t.link = d.link;
+    t
+}
+
+fn lent(_words: &[u64]) {}
+
+// Each word of a lent slice is one: a proof learns it where the slice is lent on.
+fn words(words: &[u64])
+    ensures { λ r. ⌜ Words (now (words .entry)) ⌝ }
+{
+    lent(words);
+}
+
+fn lent_bytes(_bytes: &[u8]) {}
+
+// Each byte of a lent packet is one.
+pub fn bytes_known(packet: &[u8])
+    ensures { λ r. ⌜ Bytes (now (packet .entry)) ⌝ }
+{
+    lent_bytes(packet);
+}
+
+// What a proof may know of a lent table: that it has all its words, and that each is one.
+pub fn known(table: &[u64; 2176])
+    ensures { λ r. ⌜ Known (now (table .entry)) ⌝ }
+{
+    sized(table);
+    words(table);
+}

@@ -1,4 +1,0 @@
-pub mod Fresh
-pub mod Detail
-pub mod FreshLaws
-pub mod DetailLaws

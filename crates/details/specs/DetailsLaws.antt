@@ -1,0 +1,52 @@
+-- Laws (proved): one entry changed: what a split's type and a detail call leave as it was.
+use Prim.Native.Nat.{ℕ, _<_}
+use mathlib.Core.Path.{_≡_, refl}
+use mathlib.Core.Bool.{Bool, true, false, cond}
+use lib.ListN.{length, length-set}
+use lib.Seq.{getD-set-same, getD-set-other}
+use Rattle.details.specs.declared.Detail.{Detail}
+use Rattle.details.specs.declared.Device.{Device}
+use Rattle.details.specs.Details.{bare, entryFor, stored, change, storable, withType, detailEntry, withDetail, fresh}
+
+-- the device keeps its address and its number of entries
+pub record Kept (d e : Device) : Type 0 where
+  pub address : e .address ≡ d .address
+  pub count : length (e .details) ≡ length (d .details)
+
+-- a change that is made or not
+module _ (d : Device) (i : ℕ) (x : Detail) where
+  maybe-kept : (b : Bool) → Kept d (cond b (change d i x) d)
+  maybe-kept true = record { address = refl; count = length-set (d .details) i x }
+  maybe-kept false = record { address = refl; count = refl }
+
+  maybe-other : (b : Bool) (j : ℕ) → (j ≡ i → ⊥) → stored (cond b (change d i x) d) j ≡ stored d j
+  maybe-other true j ne = getD-set-other (d .details) i j x (bare 0) ne
+  maybe-other false j ne = refl
+
+module _ (d : Device) (address k : ℕ) where
+  pub type-kept : Kept d (withType d address k)
+  unfolding withType
+  type-kept = maybe-kept d (entryFor address) _ (storable d address)
+
+  -- the other entries stay
+  pub type-other : (j : ℕ) → (j ≡ entryFor address → ⊥) → stored (withType d address k) j ≡ stored d j
+  unfolding withType
+  type-other j ne = maybe-other d (entryFor address) _ (storable d address) j ne
+
+module _ (d : Device) (number direction k m : ℕ) where
+  pub detail-kept : Kept d (withDetail d number direction k m)
+  unfolding withDetail
+  detail-kept = maybe-kept d (detailEntry number direction) (record { kind = k; max = m }) true
+
+  pub detail-other : (j : ℕ) → (j ≡ detailEntry number direction → ⊥) → stored (withDetail d number direction k m) j ≡ stored d j
+  unfolding withDetail
+  detail-other j ne = maybe-other d (detailEntry number direction) (record { kind = k; max = m }) true j ne
+
+  -- the entry itself holds both
+  pub detail-same : detailEntry number direction < length (d .details) → stored (withDetail d number direction k m) (detailEntry number direction) ≡ record { kind = k; max = m }
+  unfolding withDetail
+  detail-same h = getD-set-same (d .details) (detailEntry number direction) (record { kind = k; max = m }) (bare 0) h
+
+pub length-fresh : (address : ℕ) → length (fresh address .details) ≡ 32
+unfolding fresh
+length-fresh address = refl

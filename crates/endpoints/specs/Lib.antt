@@ -1,0 +1,11 @@
+pub mod Link
+pub mod Word
+pub mod Table
+pub mod Each
+pub mod Phases
+pub mod States
+pub mod Find
+pub mod TableLaws
+pub mod EachLaws
+pub mod PhasesLaws
+pub mod StatesLaws

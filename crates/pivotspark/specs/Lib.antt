@@ -1,0 +1,4 @@
+pub mod Answer
+pub mod Words
+pub mod Told
+pub mod ToldLaws

@@ -1,0 +1,4 @@
+// What C and Rust programs call, under names that begin with the project's: the packet check and the CRC16, group_status in words, whole traces.
+pub mod groups;
+pub mod packets;
+pub mod traces;

@@ -1,0 +1,289 @@
+-- What is decided from a world whose numbers are in their ranges asks nothing of carrying it out that is not so (specs, Sound).
+use mathlib.Core.Path.{_≡_, refl, sym, ap, subst, _∙_}
+use mathlib.Core.Bool.{Bool, true, false, _&&_, not}
+use mathlib.Core.List.{List}
+use Prim.Native.Nat.{ℕ, _+_, _^_, _<_, _≤_}
+use native.Mathlib.Omega.{arith}
+use lib.Dec.{eqb}
+use lib.ListN.{length, getD}
+use Rattle.rows.specs.One.{one}
+use Rattle.usb.specs.Fields.{setupDataOf}
+use Rattle.usb.specs.Laws.{valid}
+use Rattle.usb.specs.Packet.{checkedOf}
+use Rattle.usb.specs.declared.Checked.{Checked}
+use Rattle.usb.specs.declared.Checked.the-variants.{Valid, Malformed}
+use Rattle.transaction.specs.Payload.{startPid, extractPayload}
+use Rattle.transaction.specs.Status.{judgedOf, transactionStatus}
+use Rattle.transaction.specs.declared.Status.{Status}
+use Rattle.transaction.specs.declared.Style.{Style}
+use Rattle.transaction.specs.declared.Transaction.{Transaction}
+use Rattle.transaction.proofs.Laws.{extract-keeps}
+use Rattle.details.specs.Details.{detailsOf}
+use Rattle.endpoints.specs.TableLaws.{Fits}
+use Rattle.details.specs.declared.Detail.{Detail}
+use Rattle.endpoints.specs.declared.Endpoint.{Endpoint}
+use Rattle.group.specs.declared.Effect.{Effect}
+use Rattle.rules.specs.World.{World, withTransaction}
+use Rattle.rules.specs.Endpoints.{detailOf}
+use Rattle.rules.specs.Transactions.{stateAt}
+use Rattle.rules.specs.declared.Slot.{Slot}
+use Rattle.rules.specs.declared.Slot.the-variants.{Empty, Current, Suspended}
+use Rattle.update.specs.Effect.{passes}
+use Rattle.update.specs.Entry.{entryAfter, transactionAfter}
+use Rattle.update.specs.Update.{when}
+use Rattle.plan.specs.Step.{opened, begun, ended, endOf}
+use Rattle.plan.specs.Packet.{resumes, slotThen, oldEndpoint, transactionThen, entryThen, middleOf, isNew, succeeds, completesBy, closeOf, entryEnded, lastEnded, planBy, planOf, played, endIf}
+use Rattle.plan.specs.declared.Middle.{Middle}
+use Rattle.plan.specs.Ending.{currentEndpoint, endingOf}
+use Rattle.plan.specs.Sound.{BeginFits, EndFits, world1, world2, world3, world4, PlanFits}
+use Rattle.plan.specs.declared.Begin.{Begin}
+use Rattle.plan.specs.declared.End.{End}
+use Rattle.plan.specs.declared.Plan.{Plan}
+use Rattle.plan.proofs.Frame.{Rest, act-rest}
+use Rattle.plan.proofs.Quiet.{no-effect, no-transaction}
+use Rattle.plan.proofs.Small.{Small, FewAll, few-more, small-more, after-small, linked-small, group-small, opened-few, begun-few, opened-count, begun-count, ended-few, ended-count}
+use Rattle.plan.proofs.Bounded.{Bounded, onGoing, middle-bounded, never}
+
+-- the world before a packet
+pub record Sane (packet : List ℕ) (w : World) : Type 0 where
+  -- the special endpoints stand, and there is room for a new one where the packet has one
+  pub special : 3 ≤ w .count
+  pub room : w .count + one (planOf packet w .begin .endpoint) ≤ 128
+  pub devices : w .deviceCount ≤ 64
+  -- the endpoints' numbers are in their ranges
+  pub transactions : (j : ℕ) → j < w .count → w .endpoints j .transactions < 2 ^ 60
+  pub groups : (j : ℕ) → j < w .count → w .endpoints j .groups < 2 ^ 60
+  pub fits : (j : ℕ) → j < w .count → Fits (w .endpoints j)
+  -- the old transaction's endpoint is one of them, and its token a byte
+  pub old : oldEndpoint (w .slot) (w .transaction) < w .count
+  pub token : startPid (w .transaction .style) < 256
+  -- and so is the packet's first
+  pub first : getD packet 0 0 < 256
+
+-- ---- one step
+
+begin-fits : (id : ℕ) (s : Begin) (v : World) (n : ℕ) → v .count ≡ n → n + one (s .endpoint) ≤ 128 → FewAll 2 v
+    → s .transaction .endpoint < n + one (s .endpoint) → s .number < 256 → startPid (s .transaction .style) < 256 → (s .endpoint ≡ true → s .place < 2 ^ 64) → BeginFits id s v
+begin-fits id s v n c room few there number token place =
+    let o = opened-count id s v in
+    let h : s .transaction .endpoint < opened id s v .count = omega arith in
+    let f = opened-few id s v few (s .transaction .endpoint) h in
+    record { few = omega arith; there = h; transactions = omega (arith, f .transactions); groups = omega (arith, f .groups); number = number; token = token; place = place }
+
+end-fits : (x : ℕ) (s : End) (v : World) → v .count ≤ 128 → x < v .count → Small 3 (s .entry) → startPid (v .transaction .style) < 256 → passes (s .effect) (s .entry .total) ≡ false → EndFits x s v
+end-fits x s v few there small token total =
+    record { few = few; there = there; transactions = omega (arith, small .few .transactions); groups = omega (arith, small .few .groups); bytes = small .fits; token = token; total = total }
+
+-- the end of what has just begun
+begun-style : (id : ℕ) (s : Begin) (w : World) → begun id s w .transaction .style ≡ s .transaction .style
+unfolding begun
+begun-style id s w = ap (λ (r : Rest). r .style) (act-rest (s .update) (s .transaction .endpoint) (withTransaction (s .transaction) (opened id s w)))
+
+close-small : (m : Middle) (last : ℕ) (success complete : Bool) → startPid (m .begin .transaction .style) < 256 → Small 2 (m .entry) → Small 3 (closeOf m last success complete .entry)
+unfolding closeOf endOf
+close-small m last success complete token small =
+    let s = m .begin in
+    let t = s .transaction in
+    group-small (entryAfter (s .update) (startPid (t .style)) (m .entry)) (transactionAfter (s .update) (m .entry .transactions) t) (m .detail) success complete (after-small (s .update) (startPid (t .style)) token (m .entry) small)
+
+-- the PID of a packet is a byte
+pid-byte : (t : Transaction) (packet : List ℕ) → getD packet 0 0 < 256 → transactionStatus t packet .pid < 256
+unfolding transactionStatus
+pid-byte t packet h = by (checkedOf packet) refl
+  where
+    by : (c : Checked) → checkedOf packet ≡ c → judgedOf t c (length packet) .pid < 256
+    by Malformed q = omega arith
+    by (Valid next) q = omega (arith, valid packet next q .first)
+
+-- ---- the steps of a plan
+
+module _ (packet : List ℕ) (time : ℕ) (w : World) (special : 3 ≤ w .count) (devices : w .deviceCount ≤ 64) (entries : (j : ℕ) → j < w .count → Small 0 (w .endpoints j))
+    (s : Status) (pid : ℕ) (byte : pid < 256) (x0 : ℕ) (old : x0 < w .count) (e : Endpoint) (small : Small 1 e) (t : Transaction) (on : onGoing s ≡ true → t .endpoint < w .count) (token : startPid (t .style) < 256)
+    (resumed : resumes (w .slot) ≡ true → (w .transaction .endpoint < w .count) × (startPid (w .transaction .style) < 256)) where
+  abbrev plan : Plan
+  plan = planBy (record { pid = pid; status = s }) x0 e t packet w
+
+  abbrev b : Transaction
+  b = extractPayload t pid (length packet) (setupDataOf packet)
+
+  abbrev detail : Detail
+  detail = detailOf x0 w
+
+  abbrev end : End
+  end = endOf x0 e b detail (w .lastItem) false false
+
+  brought-token : startPid (b .style) < 256
+  brought-token = subst (λ (z : Style). startPid z < 256) (sym (extract-keeps t pid (length packet) (setupDataOf packet) .style)) token
+
+  end-small : Small 1 (end .entry)
+  unfolding endOf
+  end-small = group-small e b detail false false small
+
+  end-quiet : passes (end .effect) (end .entry .total) ≡ false
+  unfolding endOf
+  end-quiet = ap (λ (f : Effect). passes f (end .entry .total)) (no-effect e b detail false)
+
+  ended-small : (c : Bool) → Small 2 (entryEnded c end (startPid (b .style)) e)
+  ended-small true = after-small (end .update) (startPid (b .style)) brought-token (end .entry) end-small
+  ended-small false = small-more small
+
+  abbrev middle : Middle
+  middle = middleOf s x0 (entryEnded (isNew s && not (eqb x0 0)) end (startPid (b .style)) e) pid packet (w .transactions + one (resumes (w .slot))) b w
+
+  bounded : Bounded (w .count) 2 middle
+  bounded =
+      middle-bounded w special devices 2 x0 (entryEnded (isNew s && not (eqb x0 0)) end (startPid (b .style)) e) old (ended-small (isNew s && not (eqb x0 0))) (λ j h. small-more (small-more (entries j h))) s pid (w .transactions + one (resumes (w .slot))) byte packet b
+      (λ q. subst (λ (x : ℕ). x < w .count) (sym (extract-keeps t pid (length packet) (setupDataOf packet) .endpoint)) (on q)) brought-token
+
+  -- the worlds between
+  few1 : FewAll 0 (world1 packet time w)
+  few1 j h = entries j h .few
+
+  few2 : FewAll 1 (world2 plan packet time w)
+  unfolding planBy
+  few2 = by (resumes (w .slot))
+    where
+      by : (c : Bool) → FewAll 1 (when c (begun (w .packets) (plan .resume)) (world1 packet time w))
+      by true = begun-few (w .packets) (plan .resume) (world1 packet time w) few1
+      by false = λ j h. few-more (few1 j h)
+
+  count2 : world2 plan packet time w .count ≡ w .count
+  unfolding planBy
+  count2 = by (resumes (w .slot))
+    where
+      by : (c : Bool) → when c (begun (w .packets) (plan .resume)) (world1 packet time w) .count ≡ w .count
+      by true = omega (arith, begun-count (w .packets) (plan .resume) (world1 packet time w))
+      by false = refl
+
+  few3 : FewAll 2 (world3 plan packet time w)
+  unfolding planBy
+  few3 = by (isNew s && not (eqb x0 0))
+    where
+      by : (c : Bool) → FewAll 2 (when c (λ v. ended x0 (endIf c end e) (withTransaction b v)) (world2 plan packet time w))
+      by true = ended-few x0 end (withTransaction b (world2 plan packet time w)) (end-small .few) few2
+      by false = λ j h. few-more (few2 j h)
+
+  count3 : world3 plan packet time w .count ≡ w .count
+  unfolding planBy
+  count3 = by (isNew s && not (eqb x0 0)) ∙ count2
+    where
+      by : (c : Bool) → when c (λ v. ended x0 (endIf c end e) (withTransaction b v)) (world2 plan packet time w) .count ≡ world2 plan packet time w .count
+      by true = ended-count x0 end (withTransaction b (world2 plan packet time w))
+      by false = refl
+
+  module _ (room : w .count + one (middle .begin .endpoint) ≤ 128) where
+    resume-fits : plan .resumes ≡ true → BeginFits (w .packets) (plan .resume) (world1 packet time w)
+    unfolding planBy
+    resume-fits q =
+        begin-fits (w .packets) (plan .resume) (world1 packet time w) (w .count) refl (omega arith) (λ j h. few-more (few-more (few1 j h))) (omega (arith, resumed q .0)) (omega arith) (resumed q .1) never
+
+    old-fits : plan .ends ≡ true → EndFits (plan .old) (plan .end) (withTransaction (plan .brought) (world2 plan packet time w))
+    unfolding planBy
+    old-fits q =
+        let v = withTransaction b (world2 plan packet time w) in
+        subst (λ (c : Bool). EndFits x0 (endIf c end e) v) (sym q) (end-fits x0 end v (omega (arith, count2)) (omega (arith, count2)) (small-more (small-more end-small)) brought-token end-quiet)
+
+    new-fits : BeginFits (w .packets) (plan .begin) (world3 plan packet time w)
+    unfolding planBy
+    new-fits = begin-fits (w .packets) (middle .begin) (world3 plan packet time w) (w .count) count3 room few3 (bounded .there) (bounded .number) (bounded .token) (bounded .place)
+
+    abbrev close : End
+    close = closeOf middle (lastEnded (isNew s && not (eqb x0 0)) end x0 (w .lastItem)) (succeeds s) (completesBy s (t .style))
+
+    close-fits : passes (close .effect) (close .entry .total) ≡ false → EndFits (middle .begin .transaction .endpoint) close (world4 plan packet time w)
+    unfolding planBy
+    close-fits total =
+        let c = begun-count (w .packets) (middle .begin) (world3 plan packet time w) in
+        end-fits (middle .begin .transaction .endpoint) close (world4 plan packet time w) (omega (arith, count3)) (omega (arith, count3, bounded .there)) (close-small middle (lastEnded (isNew s && not (eqb x0 0)) end x0 (w .lastItem)) (succeeds s) (completesBy s (t .style)) (bounded .token) (bounded .entry))
+        (subst (λ (z : Style). startPid z < 256) (sym (begun-style (w .packets) (middle .begin) (world3 plan packet time w))) (bounded .token)) total
+
+    last-fits : (plan .closes ≡ true → passes (plan .close .effect) (plan .close .entry .total) ≡ false) → plan .closes ≡ true → EndFits (plan .begin .transaction .endpoint) (plan .close) (world4 plan packet time w)
+    unfolding planBy
+    last-fits total q =
+        subst (λ (c : Bool). passes (endIf c close (middle .entry) .effect) (endIf c close (middle .entry) .entry .total) ≡ false → EndFits (middle .begin .transaction .endpoint) (endIf c close (middle .entry)) (world4 plan packet time w)) (sym q) close-fits (total q)
+
+    plan-fits : (plan .closes ≡ true → passes (plan .close .effect) (plan .close .entry .total) ≡ false) → PlanFits plan packet time w
+    plan-fits total = record { resume = resume-fits; end = old-fits; begin = new-fits; close = last-fits total }
+
+-- ---- a packet
+
+small-entries : (packet : List ℕ) (w : World) → Sane packet w → (j : ℕ) → j < w .count → Small 0 (w .endpoints j)
+small-entries packet w a j h = record { few = record { transactions = omega (arith, a .transactions j h); groups = omega (arith, a .groups j h) }; fits = a .fits j h }
+
+then-small : (s : Slot) (e : Endpoint) → Small 0 e → Small 1 (entryThen s e)
+then-small Empty e h = small-more h
+then-small Current e h = small-more h
+then-small Suspended e h = linked-small e h
+
+then-style : (s : Slot) (id : ℕ) (e : Endpoint) (t : Transaction) → transactionThen s id e t .style ≡ t .style
+then-style Empty id e t = refl
+then-style Current id e t = refl
+then-style Suspended id e t = refl
+
+-- where there is no transaction, none goes on
+then-on : (s : Slot) (id n : ℕ) (e : Endpoint) (t : Transaction) (packet : List ℕ) → oldEndpoint s t < n
+    → (let v = transactionThen s id e t in onGoing (transactionStatus (stateAt (slotThen s) v) packet .status) ≡ true → v .endpoint < n)
+then-on Empty id n e t packet h = no-transaction (λ s. onGoing s ≡ true → t .endpoint < n) never never (stateAt Empty t) refl packet
+then-on Current id n e t packet h = λ q. h
+then-on Suspended id n e t packet h = λ q. h
+
+pub then-resumed : (s : Slot) (n : ℕ) (t : Transaction) → oldEndpoint s t < n → resumes s ≡ true → t .endpoint < n
+then-resumed Empty n t h = never
+then-resumed Current n t h = never
+then-resumed Suspended n t h = λ q. h
+
+pub fits-packet : (packet : List ℕ) (time : ℕ) (w : World) → Sane packet w
+    → (planOf packet w .closes ≡ true → passes (planOf packet w .close .effect) (planOf packet w .close .entry .total) ≡ false)
+    → PlanFits (planOf packet w) packet time w
+unfolding planOf planBy
+fits-packet packet time w a total =
+    let x0 = oldEndpoint (w .slot) (w .transaction) in
+    let t = transactionThen (w .slot) (w .transactions) (w .endpoints x0) (w .transaction) in
+    let j = transactionStatus (stateAt (slotThen (w .slot)) t) packet in
+    plan-fits packet time w (a .special) (a .devices) (small-entries packet w a) (j .status) (j .pid) (pid-byte (stateAt (slotThen (w .slot)) t) packet (a .first)) x0 (a .old) (entryThen (w .slot) (w .endpoints x0))
+    (then-small (w .slot) (w .endpoints x0) (small-entries packet w a x0 (a .old)))
+    t
+    (then-on (w .slot) (w .transactions) (w .count) (w .endpoints x0) (w .transaction) packet (a .old))
+    (subst (λ (z : Style). startPid z < 256) (sym (then-style (w .slot) (w .transactions) (w .endpoints x0) (w .transaction))) (a .token))
+    (λ q. (then-resumed (w .slot) (w .count) (w .transaction) (a .old) q, a .token))
+    (a .room) total
+
+-- how many endpoints there are after it, so that `room` says that they are not too many
+pub played-count : (packet : List ℕ) (time : ℕ) (w : World) → played (planOf packet w) packet time w .count ≡ w .count + one (planOf packet w .begin .endpoint)
+unfolding planOf planBy played
+played-count packet time w = closed (p .closes) ∙ (begun-count (w .packets) (p .begin) (world3 p packet time w) ∙ ap (λ (n : ℕ). n + one (p .begin .endpoint)) (old-ended (p .ends) ∙ resumed (p .resumes)))
+  where
+    p : Plan
+    p = planOf packet w
+
+    closed : (c : Bool) → when c (ended (planOf packet w .begin .transaction .endpoint) (planOf packet w .close)) (world4 (planOf packet w) packet time w) .count ≡ world4 (planOf packet w) packet time w .count
+    closed true = ended-count (planOf packet w .begin .transaction .endpoint) (planOf packet w .close) (world4 (planOf packet w) packet time w)
+    closed false = refl
+
+    old-ended : (c : Bool) → when c (λ v. ended (planOf packet w .old) (planOf packet w .end) (withTransaction (planOf packet w .brought) v)) (world2 (planOf packet w) packet time w) .count ≡ world2 (planOf packet w) packet time w .count
+    old-ended true = ended-count (planOf packet w .old) (planOf packet w .end) (withTransaction (planOf packet w .brought) (world2 (planOf packet w) packet time w))
+    old-ended false = refl
+
+    resumed : (c : Bool) → when c (begun (w .packets) (planOf packet w .resume)) (world1 packet time w) .count ≡ w .count
+    resumed true = omega (arith, begun-count (w .packets) (planOf packet w .resume) (world1 packet time w))
+    resumed false = refl
+
+-- ---- an event or finish
+
+pub record SaneEnding (w : World) : Type 0 where
+  pub few : w .count ≤ 128
+  pub there : currentEndpoint (w .slot) (w .transaction) < w .count
+  pub transactions : w .endpoints (currentEndpoint (w .slot) (w .transaction)) .transactions < 2 ^ 60
+  pub groups : w .endpoints (currentEndpoint (w .slot) (w .transaction)) .groups < 2 ^ 60
+  pub fits : Fits (w .endpoints (currentEndpoint (w .slot) (w .transaction)))
+  pub token : startPid (w .transaction .style) < 256
+
+pub fits-ending : (w : World) → SaneEnding w → EndFits (endingOf w .old) (endingOf w .end) w
+unfolding endingOf endOf
+fits-ending w a =
+    let x = currentEndpoint (w .slot) (w .transaction) in
+    let e = w .endpoints x in
+    let d = detailsOf (w .devices (e .device)) (e .address) in
+    let small : Small 0 e = record { few = record { transactions = omega (arith, a .transactions); groups = omega (arith, a .groups) }; fits = a .fits } in
+    end-fits x (endingOf w .end) w (a .few) (a .there) (small-more (small-more (small-more (group-small e (w .transaction) d false false small)))) (a .token)
+    (ap (λ (f : Effect). passes f (endingOf w .end .entry .total)) (no-effect e (w .transaction) d false))

@@ -1,6 +1,0 @@
-pub mod Tallies
-pub mod Passes
-pub mod Suited
-pub mod Has
-pub mod Event
-pub mod PlanLaws

@@ -1,0 +1,5 @@
+pub mod Fresh
+pub mod Detail
+pub mod Judges
+pub mod FreshLaws
+pub mod DetailLaws

@@ -1,0 +1,75 @@
+-- What specs/Whole.antt claims: of every sequence of calls, and of every run, since its calls are such a sequence.
+use Prim.Native.Nat.{ℕ}
+use native.Mathlib.Omega.{arith}
+use mathlib.Core.List.{List, _∷_, _++_, []}
+use mathlib.Core.Path.{_≡_, refl, sym, ap, subst}
+use lib.ListN.{length, take}
+use Rattle.rules.specs.Demand.{packet, event, detail, finishing}
+use Rattle.rules.specs.Rows.{Row}
+use Rattle.text.specs.Lines.{stateLine}
+use Rattle.trace.specs.Clock.{tickOf}
+use Rattle.trace.specs.Trace.{nextAt}
+use Rattle.trace.specs.declared.Next.{Next}
+use Rattle.trace.specs.declared.Next.the-variants.{Packet, Event, Detail, Unknown, Cut, End}
+use Rattle.trace.specs.declared.clock.Clock.{Clock}
+use Rattle.record.specs.RoomLaws.{Within}
+use Rattle.call.specs.OutcomeLaws.{sound}
+use Rattle.call.specs.State.{Logs, State, roomBy, roomOf}
+use Rattle.lines.specs.Listing.{stateBytes, stateLines}
+use Rattle.run.specs.Run.{Gives, Runs, Ran}
+use Rattle.run.specs.Run.Runs.{ends, stops, goes}
+use Rattle.run.specs.Run.Ran.{wrong, refused, runs}
+use Rattle.demands.specs.Sequence.{Sequence, made, then, Meets}
+use Rattle.demands.proofs.Meets.{meets}
+use Rattle.states.specs.Whole.{rows, bytesAt, Whole, Comes, ListedWhole}
+use Rattle.states.proofs.Tiled.{Stepped, wider, stepped}
+use Rattle.states.proofs.Sequences.{tiled}
+use Rattle.states.proofs.Cuts as cuts
+
+-- ---- a sequence
+
+pub whole : {js : List Row} {s : State} → Sequence js s → Whole s
+unfolding roomBy stateLines
+whole {js} {s} q =
+    let h : Meets js s = meets q in
+    let fits : Within (s .decoder .counts) (roomOf (s .logs)) = sound s (h .well) .0 .counts in
+    let n = rows s in
+    let m = s .decoder .counts .statebytes in
+    let states = s .logs .states in
+    let bytes = s .logs .statebytes in
+    let places : Stepped 0 128 (take n states ++ (m ∷ [])) = subst (λ (l : List ℕ). Stepped 0 128 (l ++ (m ∷ []))) (sym (h .told .states)) (stepped (wider (fits .fewEndpoints) (tiled q))) in
+    record {
+      first = cuts.first n states m bytes (fits .states) (fits .statebytes) places;
+      forward = cuts.forward n states m bytes (fits .states) (fits .statebytes) places;
+      most = cuts.most n states m bytes (fits .states) (fits .statebytes) places;
+      all = cuts.all n states m bytes (fits .states) (fits .statebytes) places;
+      listed =
+          cuts.each-same (λ i. stateLine i (stateBytes n states m bytes i)) (λ i. stateLine i (bytesAt s i)) n 0
+          (λ i a b. ap (stateLine i) (cuts.uncut n states m bytes (fits .states) (fits .statebytes) places i (omega arith)));
+    }
+
+-- ---- a run
+
+-- a record is a call, or none
+one : (trace : List ℕ) (n : Next) (c : Clock) {s : State} (a : ℕ) (s′ : State) → Comes s → Gives trace n c s a s′ → Comes s′
+one trace (Packet ticks start end next) c a s′ q g = record { history = _; sequence = then (packet _ _) a s′ (q .sequence) g }
+one trace (Event ticks kind code next) c a s′ q g = record { history = _; sequence = then (event kind code (tickOf c ticks .time)) a s′ (q .sequence) g }
+one trace (Detail address number direction kind max next) c a s′ q g = record { history = _; sequence = then (detail address number direction kind max) a s′ (q .sequence) g }
+one trace Unknown c a s′ q g = subst Comes (sym (g .1)) q
+one trace Cut c a s′ q g = subst Comes (sym (g .1)) q
+one trace End c a s′ q g = absurd g
+
+records : {trace : List ℕ} {at a p : ℕ} {c : Clock} {s s′ : State} → Comes s → Runs trace at c s a p s′ → Comes s′
+records q (ends e f) = record { history = _; sequence = then finishing _ _ (q .sequence) f }
+records {trace} {at} {c = c} q (stops g h) = one trace (nextAt trace at) c _ _ q g
+records {trace} {at} {c = c} q (goes a g h r) = records (one trace (nextAt trace at) c a _ q g) r
+
+pub comes : {trace t : List ℕ} {l : Logs} {a p : ℕ} {s : State} → length t ≡ 2176 → Ran trace t l a p s → a ≡ 0 → Comes s
+comes ht (wrong h) e = absurd (h e)
+comes ht (refused h m n) e = absurd (n e)
+comes ht (runs h m r) e = records (record { history = _; sequence = made refl ht m }) r
+
+-- ---- both
+
+pub listed-whole : ListedWhole
+listed-whole = record { sequence = whole; comes = comes; run = λ ht r e. whole (comes ht r e .sequence) }

@@ -1,5 +1,0 @@
-pub mod Step
-pub mod Packet
-pub mod Ending
-pub mod Sound
-pub mod Devices

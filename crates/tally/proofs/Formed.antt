@@ -1,0 +1,97 @@
+-- What a well-formed record gives the reckoning, and answers 7 and 9 of a packet and of finish from it.
+use mathlib.Core.Path.{_≡_, refl, sym, ap, subst, _∙_}
+use mathlib.Core.Bool.{Bool, true, false, not, cond}
+use mathlib.Core.List.{List}
+use Prim.Native.Nat.{ℕ, zero, suc, _+_, _<_, _≤_, _^_}
+use native.Mathlib.Omega.{arith}
+use lib.ListN.{length}
+use Rattle.transaction.specs.declared.Transaction.{Transaction}
+use Rattle.endpoints.specs.Phases.{count, inPhase, waiting}
+use Rattle.endpoints.specs.PhasesLaws.{count-ext, phase-entry}
+use Rattle.endpoints.specs.Table.{entryAt}
+use Rattle.endpoints.specs.Word as word
+use Rattle.details.specs.declared.Device.{Device}
+use Rattle.rules.specs.World.{World}
+use Rattle.rules.specs.declared.Slot.{Slot}
+use Rattle.rules.specs.declared.Slot.the-variants.{Empty, Current, Suspended}
+use Rattle.rules.specs.World.{endedIn, waitingOf}
+use Rattle.record.specs.Formed.{holds}
+use Rattle.record.specs.FormedLaws.{WellFormed}
+use Rattle.record.specs.Room.{fitting}
+use Rattle.record.specs.World.{worldOf}
+use Rattle.record.specs.declared.Counts.{Counts}
+use Rattle.record.specs.declared.Decoder.{Decoder}
+use Rattle.call.specs.Outcome.{isFull, isOver, worldAt}
+use Rattle.call.specs.State.{State, roomOf}
+use Rattle.plan.specs.Ending.{currentEndpoint, endingOf, endPlayed}
+use Rattle.plan.specs.Packet.{oldEndpoint, planOf, played}
+use Rattle.tally.specs.Passes.{planPasses}
+use Rattle.tally.specs.Suited.{PlanSuits, EndingSuits, Totalled}
+use Rattle.tally.specs.Tallies.{tallyPlan, tallyEnding, addCounts}
+use Rattle.tally.proofs.Counts.{played-full, ending-full}
+use Rattle.tally.proofs.Planned.{plan-suits, ending-suits}
+use Rattle.tally.proofs.Quiet.{plan-totals}
+use Rattle.tally.proofs.Totals.{played-over}
+
+pub count-few : (test : ℕ → Bool) (n i : ℕ) → count test i n ≤ n
+count-few test zero i = omega arith
+count-few test (suc n) i = by (test i) (count test (suc i) n) (count-few test n (suc i))
+  where
+    by : (b : Bool) (m : ℕ) → m ≤ n → cond b (suc m) m ≤ suc n
+    by true m h = omega arith
+    by false m h = omega arith
+
+-- the old transaction's endpoint, where there is one, is that of the transaction held
+old-there : (s : Slot) (t : Transaction) (n : ℕ) → 0 < n → (holds s ≡ true → t .endpoint < n) → oldEndpoint s t < n
+old-there Empty t n h f = h
+old-there Current t n h f = f refl
+old-there Suspended t n h f = f refl
+
+current-there : (s : Slot) (t : Transaction) (n : ℕ) → 0 < n → (holds s ≡ true → t .endpoint < n) → currentEndpoint s t < n
+current-there Empty t n h f = h
+current-there Current t n h f = f refl
+current-there Suspended t n h f = h
+
+module _ {d : Decoder} {devices : List Device} {table : List ℕ} {room : Counts} (h : WellFormed d devices table room) where
+  pub three : 2 < worldOf d devices table .count
+  three = let l = h .specials .three in omega (arith, l)
+
+  some : 0 < d .counts .endpoints
+  some = let l = three in omega (arith, l)
+
+  pub old-stands : oldEndpoint (d .slot) (d .transaction) < d .counts .endpoints
+  old-stands = old-there (d .slot) (d .transaction) (d .counts .endpoints) some (λ r. h .held r .endpoint)
+
+  pub current-stands : currentEndpoint (d .slot) (d .transaction) < d .counts .endpoints
+  current-stands = current-there (d .slot) (d .transaction) (d .counts .endpoints) some (λ r. h .held r .endpoint)
+
+  pub waiting-is : waitingOf (worldOf d devices table) ≡ d .waiting
+  waiting-is =
+      count-ext (d .counts .endpoints) (inPhase word.Ended table) (endedIn (entryAt table)) 0 (λ j u v. sym (phase-entry table j word.Ended (omega arith) (omega arith)))
+      ∙ sym (h .waiting)
+
+  pub waiting-few : d .waiting ≤ 128
+  waiting-few = let c = count-few (inPhase word.Ended table) (d .counts .endpoints) 0 in let f = h .counts .fewEndpoints in let e = h .waiting in omega (arith, c, f, e)
+
+-- answer 7 of a packet, by the record's count of those that wait
+pub packet-full-is : (packet : List ℕ) (time : ℕ) (s : State) (room : Counts) → WellFormed (s .decoder) (s .devices) (s .table) room
+    → isFull s (played (planOf packet (worldAt s)) packet time (worldAt s))
+    ≡ not (fitting (addCounts (s .decoder .counts) (tallyPlan (planOf packet (worldAt s)) (length packet) (s .decoder .counts .endpoints) (s .decoder .waiting))) (roomOf (s .logs)))
+packet-full-is packet time s room h =
+    let p = planOf packet (worldAt s) in
+    played-full p packet time s (plan-suits packet time (worldAt s) (three h) (old-stands h))
+    ∙ ap (λ (m : ℕ). not (fitting (addCounts (s .decoder .counts) (tallyPlan p (length packet) (s .decoder .counts .endpoints) m)) (roomOf (s .logs)))) (waiting-is h)
+
+-- answer 9 of a packet
+pub packet-over-is : (packet : List ℕ) (time : ℕ) (s : State) (room : Counts) → WellFormed (s .decoder) (s .devices) (s .table) room → Totalled (worldAt s)
+    → isOver (played (planOf packet (worldAt s)) packet time (worldAt s)) ≡ planPasses (planOf packet (worldAt s))
+packet-over-is packet time s room h t = played-over (planOf packet (worldAt s)) packet time (worldAt s) (plan-totals packet time (worldAt s) (three h) (old-stands h)) t
+
+-- answer 7 of finish
+pub finish-full-is : (s : State) (room : Counts) → WellFormed (s .decoder) (s .devices) (s .table) room
+    → isFull s (endPlayed (endingOf (worldAt s)) (worldAt s))
+    ≡ not (fitting (addCounts (s .decoder .counts) (tallyEnding (endingOf (worldAt s)) (s .decoder .counts .endpoints) (s .decoder .waiting))) (roomOf (s .logs)))
+finish-full-is s room h =
+    let e = endingOf (worldAt s) in
+    ending-full e s (ending-suits (worldAt s) (current-stands h))
+    ∙ ap (λ (m : ℕ). not (fitting (addCounts (s .decoder .counts) (tallyEnding e (s .decoder .counts .endpoints) m)) (roomOf (s .logs)))) (waiting-is h)

@@ -1,0 +1,17 @@
+pub mod Small
+pub mod Added
+pub mod Suited
+pub mod Steps
+pub mod EventRows
+pub mod Bounds
+pub mod Endpoints
+pub mod Counted
+pub mod Phases
+pub mod Planned
+pub mod Counts
+pub mod Totals
+pub mod Quiet
+pub mod Anew
+pub mod Events
+pub mod Unpassed
+pub mod Formed

@@ -1,0 +1,11 @@
+-- Laws (proved): a resume adds no endpoint, as `tally_plan` asks.
+use mathlib.Core.Bool.{false}
+use mathlib.Core.List.{List}
+use mathlib.Core.Path.{_≡_, refl}
+use Prim.Native.Nat.{ℕ}
+use Rattle.rules.specs.World.{World}
+use Rattle.plan.specs.Packet.{planBy, planOf}
+
+pub resume-still : (packet : List ℕ) (w : World) → planOf packet w .resume .endpoint ≡ false
+unfolding planOf planBy
+resume-still packet w = refl

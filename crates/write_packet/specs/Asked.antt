@@ -1,0 +1,95 @@
+-- Inner (cited by private contracts alone): what carrying a step out asks: numbers in their ranges, and room for its rows in the logs that are lent.
+use Prim.Native.Nat.{ℕ, _+_, _*_, _^_, _<_, _≤_}
+use mathlib.Core.Bool.{Bool, true, false}
+use mathlib.Core.List.{List}
+use mathlib.Core.Path.{_≡_}
+use lib.ListN.{length}
+use Rattle.rows.specs.Widths.{endpointWidth, linkWidth, requestWidth, transactionWidth}
+use Rattle.endpoints.specs.Table.{entryAt}
+use Rattle.transaction.specs.Payload.{startPid}
+use Rattle.update.specs.Effect.{passes}
+use Rattle.write.specs.Memory.{Room}
+use Rattle.plan.specs.declared.Begin.{Begin}
+use Rattle.plan.specs.declared.End.{End}
+use Rattle.plan.specs.declared.Plan.{Plan}
+use Rattle.write_packet.specs.Desk.{Desk, desk, memoryOf, openedDesk, begunDesk, storedDesk, closingDesk, endedDesk, desk2, desk3, desk4, performed}
+use Rattle.write_packet.specs.declared.Hand.{Hand}
+
+-- ---- room: the rows fit their logs
+
+-- in the logs of rows that a step begins with; in those of an effect; in all nine
+pub record RoomRows (k : Desk) : Type 0 where
+  pub devices : k .hand .devices ≤ length (k .devices)
+  pub endpoints : k .hand .endpoints * endpointWidth ≤ length (k .endpoints)
+  pub transactions : k .hand .transactions * transactionWidth ≤ length (k .transactions)
+
+pub record RoomEffect (k : Desk) : Type 0 where
+  pub devices : k .hand .devices ≤ length (k .devices)
+  pub links : k .hand .written .links * linkWidth ≤ length (k .links)
+  pub requests : k .hand .requests * requestWidth ≤ length (k .requests)
+
+pub record RoomAll (k : Desk) : Type 0 where
+  pub memory : Room (memoryOf k)
+  pub devices : k .hand .devices ≤ length (k .devices)
+  pub endpoints : k .hand .endpoints * endpointWidth ≤ length (k .endpoints)
+  pub transactions : k .hand .transactions * transactionWidth ≤ length (k .transactions)
+  pub requests : k .hand .requests * requestWidth ≤ length (k .requests)
+
+-- ---- a step that begins
+
+pub record BeginAsks (id : ℕ) (s : Begin) (k : Desk) : Type 0 where
+  pub few : openedDesk id s k .hand .endpoints ≤ 128
+  pub there : s .transaction .endpoint < openedDesk id s k .hand .endpoints
+  pub transactions : entryAt (openedDesk id s k .table) (s .transaction .endpoint) .transactions + 1 < 2 ^ 64
+  pub groups : entryAt (openedDesk id s k .table) (s .transaction .endpoint) .groups + 1 < 2 ^ 64
+
+-- ---- a step that ends
+
+pub record EndAsks (x id pid : ℕ) (s : End) (k : Desk) : Type 0 where
+  pub few : k .hand .endpoints ≤ 128
+  pub there : x < k .hand .endpoints
+  pub transactions : entryAt (storedDesk x (s .entry) k .table) x .transactions + 1 < 2 ^ 64
+  pub groups : entryAt (storedDesk x (s .entry) k .table) x .groups + 1 < 2 ^ 64
+  -- no byte total passes 2^64 - 1 (answer 9)
+  pub total : passes (s .effect) (entryAt (closingDesk x id pid s k .table) x .total) ≡ false
+
+-- ---- where the flag says so; a log that is not lent holds nothing here, and a step does not write on it
+
+pub record BeginReady (id : ℕ) (s : Begin) (k : Desk) : Type 0 where
+  pub asks : BeginAsks id s k
+  pub memory : Room (memoryOf (begunDesk id s k))
+  pub rows : RoomRows (begunDesk id s k)
+
+pub record EndReady (x id pid : ℕ) (s : End) (k : Desk) : Type 0 where
+  pub asks : EndAsks x id pid s k
+  pub memory : Room (memoryOf (endedDesk x id pid s k))
+  pub effect : RoomEffect (endedDesk x id pid s k)
+
+abbrev pub BeginsIf : Bool → ℕ → Begin → Desk → Type 0
+BeginsIf on id s k = on ≡ true → BeginReady id s k
+
+abbrev pub EndsIf : Bool → ℕ → ℕ → ℕ → End → Desk → Type 0
+EndsIf on x id pid s k = on ≡ true → EndReady x id pid s k
+
+-- ---- all steps of a packet, whose row is id
+
+pub record PlanAsks (p : Plan) (id : ℕ) (k : Desk) : Type 0 where
+  pub resume : p .resumes ≡ true → BeginAsks id (p .resume) k
+  pub end : p .ends ≡ true → EndAsks (p .old) (p .brought .id) (startPid (p .brought .style)) (p .end) (desk2 p id k)
+  pub begin : BeginAsks id (p .begin) (desk3 p id k)
+  pub close : p .closes ≡ true → EndAsks (p .begin .transaction .endpoint) (p .begin .transaction .id) (startPid (p .begin .transaction .style)) (p .close) (desk4 p id k)
+  pub room : RoomAll (performed p id k)
+
+-- ---- a step f over some of the logs, whatever the others hold: what stands after it is f of what stood before
+
+abbrev pub OnRows : (Desk → Desk) → Hand → List ℕ → List ℕ → List ℕ → List ℕ → Hand → List ℕ → List ℕ → List ℕ → List ℕ → Type 0
+OnRows f h t d e r h′ t′ d′ e′ r′ = (g m s i l q : List ℕ) → desk h′ t′ d′ e′ r′ g m s i l q ≡ f (desk h t d e r g m s i l q)
+
+abbrev pub OnEffect : (Desk → Desk) → Hand → List ℕ → List ℕ → List ℕ → List ℕ → Hand → List ℕ → List ℕ → List ℕ → List ℕ → Type 0
+OnEffect f h t d l q h′ t′ d′ l′ q′ = (e r g m s i : List ℕ) → desk h′ t′ d′ e r g m s i l′ q′ ≡ f (desk h t d e r g m s i l q)
+
+abbrev pub OnBegin : (Desk → Desk) → Hand → List ℕ → List ℕ → List ℕ → List ℕ → List ℕ → List ℕ → List ℕ → List ℕ → List ℕ → Hand → List ℕ → List ℕ → List ℕ → List ℕ → List ℕ → List ℕ → List ℕ → List ℕ → List ℕ → Type 0
+OnBegin f h t d e r g m s i l h′ t′ d′ e′ r′ g′ m′ s′ i′ l′ = (q : List ℕ) → desk h′ t′ d′ e′ r′ g′ m′ s′ i′ l′ q ≡ f (desk h t d e r g m s i l q)
+
+abbrev pub OnEnd : (Desk → Desk) → Hand → List ℕ → List ℕ → List ℕ → List ℕ → List ℕ → List ℕ → List ℕ → List ℕ → Hand → List ℕ → List ℕ → List ℕ → List ℕ → List ℕ → List ℕ → List ℕ → List ℕ → Type 0
+OnEnd f h t d g m s i l q h′ t′ d′ g′ m′ s′ i′ l′ q′ = (e r : List ℕ) → desk h′ t′ d′ e r g′ m′ s′ i′ l′ q′ ≡ f (desk h t d e r g m s i l q)
