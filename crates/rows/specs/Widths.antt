@@ -1,4 +1,4 @@
--- To be believed: how many words a row of each log has, and where a row stands.
+-- To be believed: how many words a row of each log has; row n of a log starts at n times that.
 -- Hold it to: 01, "Trace and listing" (the numbers that a line of each kind has).
 use Prim.Native.Nat.{ℕ}
 
