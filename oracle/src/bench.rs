@@ -2,18 +2,17 @@
 
 use std::time::Instant;
 
-use crate::calls::{Mechanism, event_type};
+use crate::calls::{EVENTS, Mechanism, PACKETS, Rows, count, event_type};
 use crate::trace::{Clock, Reader, Record, header};
 use crate::usb::{Direction, EndpointAddr, EndpointNum, EndpointType};
 
 /// Five runs; prints the median.
 pub fn bench<M: Mechanism>(trace: &[u8]) -> Result<(), String> {
-    header(trace).map_err(|r| format!("refused {} at {}", r.answer, r.at))?;
     let mut times = Vec::new();
     let mut packets = 0;
     for _ in 0..5 {
         let start = Instant::now();
-        packets = run::<M>(trace)?;
+        packets = packets_of(&count(run::<M>(trace)?.capture()));
         times.push(start.elapsed().as_nanos() as u64);
     }
     times.sort();
@@ -23,15 +22,20 @@ pub fn bench<M: Mechanism>(trace: &[u8]) -> Result<(), String> {
     Ok(())
 }
 
-fn run<M: Mechanism>(trace: &[u8]) -> Result<u64, String> {
+/// The packets that left these rows: an event has a packet row too.
+pub fn packets_of(rows: &Rows) -> u64 {
+    rows.0[PACKETS] - rows.0[EVENTS]
+}
+
+/// A whole trace and finish: the decoder's own work, and the reading of the records.
+pub fn run<M: Mechanism>(trace: &[u8]) -> Result<M, String> {
+    header(trace).map_err(|r| format!("refused {} at {}", r.answer, r.at))?;
     let mut machine = M::fresh(false);
     let mut reader = Reader::new(trace);
     let mut clock = Clock::default();
-    let mut packets = 0;
     while let Some(record) = reader.next() {
         match record.map_err(|r| format!("refused {} at {}", r.answer, r.at))? {
             Record::Packet { ticks, bytes } => {
-                packets += 1;
                 machine.packet(bytes, clock.time(ticks)).ok();
             }
             Record::Event { ticks, kind, code } => {
@@ -47,5 +51,5 @@ fn run<M: Mechanism>(trace: &[u8]) -> Result<u64, String> {
         }
     }
     machine.finish().map_err(|e| e.to_string())?;
-    Ok(packets)
+    Ok(machine)
 }

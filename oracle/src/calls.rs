@@ -107,10 +107,18 @@ pub const LOGS: [&str; 12] = [
 /// The words of a row of each log.
 pub const WIDTHS: [usize; 12] = [1, 1, 3, 2, 2, 1, 3, 1, 1, 1, 4, 3];
 
-const BYTES: usize = 0;
-const DEVICES: usize = 1;
-const ENDPOINTS: usize = 2;
-const STATE_BYTES: usize = 7;
+// The logs by number; the last is that of the requests.
+pub const BYTES: usize = 0;
+pub const DEVICES: usize = 1;
+pub const ENDPOINTS: usize = 2;
+pub const PACKETS: usize = 3;
+pub const EVENTS: usize = 4;
+pub const TRANSACTIONS: usize = 5;
+pub const GROUPS: usize = 6;
+pub const STATE_BYTES: usize = 7;
+pub const STATES: usize = 8;
+pub const ITEMS: usize = 9;
+pub const LINKS: usize = 10;
 
 impl Rows {
     /// 01, "Sizes": the most that may be lent.
@@ -144,7 +152,8 @@ impl Rows {
     }
 }
 
-fn count(capture: &CaptureWriter) -> Rows {
+/// The rows of each log.
+pub fn count(capture: &CaptureWriter) -> Rows {
     Rows([
         capture.packet_data.len(),
         capture.devices.len(),
@@ -163,6 +172,11 @@ fn count(capture: &CaptureWriter) -> Rows {
 
 /// The words of each log, in the order of `LOGS`.
 pub fn words(c: &CaptureWriter) -> [Vec<u64>; 12] {
+    std::array::from_fn(|log| log_words(c, log))
+}
+
+/// The words of one log.
+pub fn log_words(c: &CaptureWriter, log: usize) -> Vec<u64> {
     let links = |mark: &Mark| match *mark {
         Mark::T(x, transaction) => vec![0, x, transaction, 0],
         Mark::G(x, transaction) => vec![1, x, transaction, 0],
@@ -171,20 +185,26 @@ pub fn words(c: &CaptureWriter) -> [Vec<u64>; 12] {
         Mark::Packet | Mark::Group(..) | Mark::Item(_) => vec![],
     };
     let starts = c.packet_index.stream.rows.iter();
-    [
-        c.packet_data.rows.iter().map(|b| *b as u64).collect(),
-        c.devices.rows.iter().map(|d| d.address.0 as u64).collect(),
-        c.endpoints.rows.iter().flat_map(|e| [e.device_id().value, e.number().0 as u64, e.direction() as u64]).collect(),
-        starts.zip(&c.packet_times.stream.rows).flat_map(|(start, time)| [*start, *time]).collect(),
-        c.event_index.stream.rows.iter().zip(&c.event_codes.rows).flat_map(|(packet, code)| [*packet, *code as u64]).collect(),
-        c.transaction_index.stream.rows.to_vec(),
-        c.group_index.rows.iter().flat_map(|g| [g.endpoint_id().value, g.group_id().value, g.is_start() as u64]).collect(),
-        c.endpoint_states.rows.iter().map(|s| *s as u64).collect(),
-        c.endpoint_state_index.stream.rows.to_vec(),
-        c.item_index.stream.rows.to_vec(),
-        c.counters.journal.borrow().marks.iter().flat_map(links).collect(),
-        c.shared.requests.borrow().iter().flat_map(|r| [r.endpoint, u64::from_le_bytes(r.setup), r.length]).collect(),
-    ]
+    match log {
+        BYTES => c.packet_data.rows.iter().map(|b| *b as u64).collect(),
+        DEVICES => c.devices.rows.iter().map(|d| d.address.0 as u64).collect(),
+        ENDPOINTS => {
+            c.endpoints.rows.iter().flat_map(|e| [e.device_id().value, e.number().0 as u64, e.direction() as u64]).collect()
+        }
+        PACKETS => starts.zip(&c.packet_times.stream.rows).flat_map(|(start, time)| [*start, *time]).collect(),
+        EVENTS => {
+            c.event_index.stream.rows.iter().zip(&c.event_codes.rows).flat_map(|(packet, code)| [*packet, *code as u64]).collect()
+        }
+        TRANSACTIONS => c.transaction_index.stream.rows.to_vec(),
+        GROUPS => {
+            c.group_index.rows.iter().flat_map(|g| [g.endpoint_id().value, g.group_id().value, g.is_start() as u64]).collect()
+        }
+        STATE_BYTES => c.endpoint_states.rows.iter().map(|s| *s as u64).collect(),
+        STATES => c.endpoint_state_index.stream.rows.to_vec(),
+        ITEMS => c.item_index.stream.rows.to_vec(),
+        LINKS => c.counters.journal.borrow().marks.iter().flat_map(links).collect(),
+        _ => c.shared.requests.borrow().iter().flat_map(|r| [r.endpoint, u64::from_le_bytes(r.setup), r.length]).collect(),
+    }
 }
 
 /// The only error that the Rust gives (docs/src/src/decoder.rs, `endpoint_id`): answer 8.

@@ -67,7 +67,7 @@ fn left<M: Mechanism>(trace: &[u8], played: Played<M>) -> Left {
 }
 
 /// How the two outcomes differ, if they do.
-fn difference(rust: &Left, port: &Left) -> Option<String> {
+pub fn difference(rust: &Left, port: &Left) -> Option<String> {
     if (rust.answer, rust.at) != (port.answer, port.at) {
         return Some(format!("the Rust {} at {}, the port {} at {}", rust.answer, rust.at, port.answer, port.at));
     }

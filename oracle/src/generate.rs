@@ -636,27 +636,29 @@ impl Bench {
     }
 }
 
-/// The trace of change request 11: an enumeration and a bulk download of 512-byte packets, repeated to a size. The downloads are
-/// long, since each enumeration takes a device and two endpoints of 01's 64 and 128.
-pub fn download(size: usize) -> Vec<u8> {
+/// The trace of change request 11: an enumeration and a bulk download of 512-byte packets, repeated so many times up to a size in bytes. Each
+/// enumeration but one whose SET_ADDRESS breaks off takes a device and three endpoints of 01's 64 and 128; four endpoints stand besides.
+pub fn download(size: usize, times: usize) -> Vec<u8> {
     let mut bench = Bench::new(11);
-    while bench.trace.bytes.len() < size {
+    for time in 1..=times {
         let address = bench.random.below(3) as u8 + 1;
         bench.control(0, 0, setup(0x80, 6, 0x0100, 0, 18));
         bench.control(0, 0, setup(0x00, 5, address as u16, 0, 0));
         bench.control(address, 0, setup(0x80, 6, 0x0200, 0, 32));
         bench.control(address, 0, setup(0x00, 9, 1, 0, 0));
         bench.known_detail(address, 1, 0, 2, 512);
-        for i in 0..4000 {
+        for i in 0.. {
             if i % 16 == 0 {
                 let frame = bench.next_frame();
                 bench.packet(&frame);
             }
-            let payload = bench.payload(512);
+            let last = bench.trace.bytes.len() >= size / times * time;
+            let payload = bench.payload(if last { 100 } else { 512 });
             bench.data_transaction(OUT, address, 1, &payload, ACK);
+            if last {
+                break;
+            }
         }
-        let payload = bench.payload(100);
-        bench.data_transaction(OUT, address, 1, &payload, ACK);
     }
     bench.trace.bytes
 }

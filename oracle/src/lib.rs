@@ -6,6 +6,7 @@ extern crate self as crc;
 pub use crates::{CRC_16_USB, Context, Crc, Error};
 
 pub mod bench;
+pub mod blocks;
 pub mod calls;
 pub mod compare;
 pub mod coverage;
@@ -13,8 +14,11 @@ pub mod crates;
 pub mod damage;
 pub mod generate;
 pub mod lemmas;
+#[cfg(feature = "port")]
+pub mod library;
 pub mod limits;
 pub mod listing;
+pub mod mixed;
 pub mod packets;
 pub mod program;
 pub mod report;

@@ -7,13 +7,15 @@ use oracle::calls::{LOGS, Rows};
 use oracle::compare::Rust;
 use oracle::decoder::machine::Machine;
 use oracle::generate::{EXTRA, KINDS, download, generate};
+use oracle::mixed::mixed;
 use oracle::{bench, compare, lemmas, listing, report, selfcheck, trace, traces};
 
 const USAGE: &str = "usage: oracle COMMAND
   listing [OPTION..]     a UTL trace on standard input; prints the listing of document 01
   answers [OPTION..]     the same input; prints the answer to each record, then to finish, one a line
   gen SEED N KIND        writes a trace of N records to standard output; the kinds are listed by 'gen kinds'
-  gen64                  writes the 64 MiB trace of change request 11
+  download MIB TIMES     writes the trace of change request 11: an enumeration and a bulk download, so many times in so many MiB
+  mixed BYTES            writes the mixed sequence of the benchmarks, 200,000 packets with payloads of at most so many bytes
   bench FILE             the time of the raw Rust decoder on a trace, median of five runs
   selfcheck N            N random calls, 01's well-formed list and demand 3 after each; then the mutants
   coverage N SEED        plays the traces of `compare traces N SEED` by the Rust alone: which cases of decoder.rs they meet
@@ -99,7 +101,8 @@ fn run(words: &[String]) -> Result<bool, String> {
             let bytes = generate(number(seed)?, number(n)?, kind).ok_or(format!("no kind {kind}"))?;
             output(&bytes)?;
         }
-        ("gen64", []) => output(&download(64 << 20))?,
+        ("download", [mib, times]) => output(&download((number(mib)? as usize) << 20, number(times)?.max(1) as usize))?,
+        ("mixed", [longest]) => output(&mixed(number(longest)? as usize))?,
         ("bench", [path]) => {
             let bytes = std::fs::read(path).map_err(|e| format!("{path}: {e}"))?;
             bench::bench::<Machine>(&bytes)?;

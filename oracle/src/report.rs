@@ -1,5 +1,6 @@
 //! What a comparison says: what was compared, and how often each case of the source was met.
 
+use crate::blocks;
 use crate::calls::{LOGS, Style};
 use crate::compare::Tally;
 use crate::coverage::{CASES, Case, NEXT, count};
@@ -54,6 +55,25 @@ pub fn inputs(t: &Tally) -> bool {
     listings(t);
     let outputs = OUTPUTS.map(|first| t.listings.get(first).copied().unwrap_or(0));
     let good = all_met("output", OUTPUTS, &outputs);
+    println!("{} differences", t.differences);
+    good && t.differences == 0
+}
+
+/// What came of blocks; false where something differs, or where something that can be met was not. 2 and 9 are as in `answers`, 10 and 11 a
+/// header's; 1 wants a log that is too long, which is tried on whole traces.
+pub fn blocks(t: &blocks::Tally) -> bool {
+    let numbers: Vec<String> = (0..14).map(|i| i.to_string()).collect();
+    let names = || numbers.iter().map(String::as_str);
+    println!("runs {}, blocks {}, records taken {}, 8s among them {}", t.runs, t.blocks, t.records, t.eights);
+    println!("blocks that were empty {}, records that a cut divided and the next block took {}", t.empty, t.divided);
+    println!("one row short and so refused with 7: {}", t.short);
+    println!("answers of blocks: {}", named(names(), &t.ends));
+    let mut met = t.ends;
+    for never in [1, 2, 8, 9, 10, 11] {
+        met[never] = 1;
+    }
+    let cases = ["an 8", "an empty block", "a divided record", "one row short"];
+    let good = all_met("answer", names(), &met) & all_met("of blocks:", cases, &[t.eights, t.empty, t.divided, t.short]);
     println!("{} differences", t.differences);
     good && t.differences == 0
 }

@@ -17,7 +17,7 @@ pub struct Refused {
     pub at: usize,
 }
 
-const HEADER: usize = 5;
+pub const HEADER: usize = 5;
 
 /// 10 for the mark, 11 for the version.
 pub fn header(trace: &[u8]) -> Result<(), Refused> {
@@ -40,6 +40,11 @@ impl<'a> Reader<'a> {
     /// Behind the header.
     pub fn new(trace: &'a [u8]) -> Self {
         Reader { trace, at: HEADER }
+    }
+
+    /// Records without header.
+    pub fn records(records: &'a [u8]) -> Self {
+        Reader { trace: records, at: 0 }
     }
 
     /// The next record, none at the end; 12 for a tag that is unknown, tested before 13 for a record cut short.
@@ -71,12 +76,22 @@ impl<'a> Reader<'a> {
 }
 
 /// The time of each record that has ticks: the first is its ticks, each later one adds the difference modulo 2^32, modulo 2^64.
-#[derive(Default)]
+#[derive(Copy, Clone, PartialEq, Default, Debug)]
 pub struct Clock {
     last: Option<(u32, u64)>,
 }
 
 impl Clock {
+    /// A clock that has started: the last counter and its time.
+    pub fn at(last: u32, time: u64) -> Clock {
+        Clock { last: Some((last, time)) }
+    }
+
+    /// The last counter and its time, 0 and 0 before the first.
+    pub fn state(&self) -> (u32, u64) {
+        self.last.unwrap_or_default()
+    }
+
     pub fn time(&mut self, ticks: u32) -> u64 {
         let time = match self.last {
             None => ticks as u64,

@@ -11,21 +11,8 @@ use oracle::packets::{data, handshake, sof, split, token};
 use oracle::program::Program;
 use oracle::usb::PID::{self, *};
 use oracle::usb::validate_packet;
-use oracle::{compare, report};
+use oracle::{compare, library, report};
 use port::Library;
-
-#[link(name = "pivotspark", kind = "static")]
-unsafe extern "C" {
-    /// The PID byte of a valid packet, 0 for a malformed one (crates/pivotspark). It reads the bytes and nothing else.
-    fn pivotspark_check(packet: *const u8, length: usize) -> u8;
-    /// `group_status` in words: reads 23, writes 10.
-    fn pivotspark_group_status(state: *const u64, out: *mut u64);
-}
-
-fn port_check(packet: &[u8]) -> u8 {
-    // The contract of pivotspark_check demands nothing of the slice.
-    unsafe { pivotspark_check(packet.as_ptr(), packet.len()) }
-}
 
 fn rust_check(packet: &[u8]) -> u8 {
     validate_packet(packet).map_or(0, |pid| pid as u8)
@@ -67,7 +54,7 @@ struct Tally {
 
 impl Tally {
     fn compare(&mut self, packet: &[u8]) {
-        let (rust, port) = (rust_check(packet), port_check(packet));
+        let (rust, port) = (rust_check(packet), library::check(packet));
         self.compared += 1;
         self.valid += (rust != 0) as u64;
         if rust != port {
@@ -104,13 +91,6 @@ fn packets(count: u64) -> bool {
 }
 
 // ---- group_status
-
-fn port_groups(state: &State) -> [u64; 10] {
-    let mut out = [0; 10];
-    // The contract demands nothing but the two lengths, which the types have.
-    unsafe { pivotspark_group_status(state.as_ptr(), out.as_mut_ptr()) };
-    out
-}
 
 /// A state that the Rust can hold: a transaction with its token, lengths that a packet can have. Values that matter come often.
 fn state(random: &mut Random) -> State {
@@ -171,7 +151,7 @@ fn groups(count: u64) -> bool {
     let (mut differences, mut met) = (0, [[0u64; 5]; 6]);
     for _ in 0..count {
         let state = state(&mut random);
-        let (rust, port) = (comparable(group_status_words(&state)), comparable(port_groups(&state)));
+        let (rust, port) = (comparable(group_status_words(&state)), comparable(library::group_status(&state)));
         met[rust[0] as usize][rust[1] as usize] += 1;
         if rust != port {
             differences += 1;
@@ -199,6 +179,7 @@ const USAGE: &str = "usage: compare COMMAND
   traces N SEED [PROGRAM] N traces through the library with several rooms and through the program: all rows and bytes, every listing
   table N SEED [PROGRAM]  the same, with a table of how often each case of decoder.rs was met
   inputs N SEED [PROGRAM] N inputs to the program, most of them damaged
+  blocks N SEED           N traces in blocks through the library: what each block answers, all rows and bytes (feature `blocks`)
 PROGRAM is the program `listing` (target/bin/listing)";
 
 fn run(words: &[&str]) -> Result<bool, String> {
@@ -214,6 +195,8 @@ fn run(words: &[&str]) -> Result<bool, String> {
             let mut program = Program::new(rest.first().unwrap_or(&LISTING))?;
             Ok(report::inputs(&compare::inputs(&mut program, number(n)?, number(seed)?)))
         }
+        #[cfg(feature = "blocks")]
+        ["blocks", n, seed] => Ok(report::blocks(&oracle::blocks::blocks(&mut Library::default(), number(n)?, number(seed)?))),
         _ => Err(USAGE.to_string()),
     }
 }

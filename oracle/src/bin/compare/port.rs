@@ -1,45 +1,11 @@
-//! The proved port, linked as a static library: whole traces through `pivotspark_trace` (crates/pivotspark) on lent logs.
+//! The proved port on lent logs that are filled before and looked at behind: whole traces.
 
-use oracle::calls::{LOGS, Rows, WIDTHS};
+#[cfg(feature = "blocks")]
+use oracle::blocks::{Blocks, Input, Taken};
+use oracle::calls::{BYTES, LOGS, Rows, STATE_BYTES, WIDTHS};
 use oracle::compare::{Left, Port};
+use oracle::library::{self, Lent, Slice, TABLE};
 
-#[link(name = "pivotspark", kind = "static")]
-unsafe extern "C" {
-    /// Each slice is a pointer and a number of elements; the table has 2,176 words. The answer is in the top byte, the offset below it.
-    fn pivotspark_trace(
-        trace: *const u8,
-        trace_len: usize,
-        table: *mut u64,
-        bytes: *mut u8,
-        bytes_len: usize,
-        device_rows: *mut u64,
-        device_rows_len: usize,
-        endpoint_rows: *mut u64,
-        endpoint_rows_len: usize,
-        packets: *mut u64,
-        packets_len: usize,
-        events: *mut u64,
-        events_len: usize,
-        transactions: *mut u64,
-        transactions_len: usize,
-        groups: *mut u64,
-        groups_len: usize,
-        marks: *mut u8,
-        marks_len: usize,
-        states: *mut u64,
-        states_len: usize,
-        items: *mut u64,
-        items_len: usize,
-        links: *mut u64,
-        links_len: usize,
-        requests: *mut u64,
-        requests_len: usize,
-        counts: *mut u64,
-        counts_len: usize,
-    ) -> u64;
-}
-
-const TABLE: usize = 2176;
 /// Cells on either side of a lent log that nobody may write.
 const GUARD: usize = 8;
 /// A log past this length is zeros before, and is looked at only near its ends.
@@ -63,21 +29,21 @@ impl Cell for u64 {
 }
 
 /// A log that is lent, filled before with what no row has.
-struct Lent<T> {
+struct Log<T> {
     cells: Vec<T>,
     length: usize,
     turn: u64,
 }
 
-impl<T: Cell> Lent<T> {
+impl<T: Cell> Log<T> {
     fn new(length: usize, turn: u64) -> Self {
-        let mut lent = Lent { cells: vec![T::default(); length + 2 * GUARD], length, turn };
+        let mut log = Log { cells: vec![T::default(); length + 2 * GUARD], length, turn };
         if length <= LONG {
-            for i in 0..lent.cells.len() {
-                lent.cells[i] = lent.before(i);
+            for i in 0..log.cells.len() {
+                log.cells[i] = log.before(i);
             }
         }
-        lent
+        log
     }
 
     /// What stood in a cell before the call.
@@ -88,7 +54,7 @@ impl<T: Cell> Lent<T> {
         }
     }
 
-    fn lend(&mut self) -> (*mut T, usize) {
+    fn lend(&mut self) -> Slice<T> {
         (self.cells[GUARD..].as_mut_ptr(), self.length)
     }
 
@@ -109,64 +75,33 @@ impl<T: Cell> Lent<T> {
 
 /// The twelve logs: the two of bytes, and the others in their order.
 struct Logs {
-    bytes: Lent<u8>,
-    marks: Lent<u8>,
-    words: Vec<Lent<u64>>,
+    bytes: Log<u8>,
+    statebytes: Log<u8>,
+    words: Vec<Log<u64>>,
 }
-
-const BYTES: usize = 0;
-const MARKS: usize = 7;
 
 impl Logs {
     /// Room for so many rows, and some words behind them that make no row.
     fn new(room: &Rows, turn: u64) -> Logs {
         let length = |log: usize| room.0[log] as usize * WIDTHS[log] + turn as usize % WIDTHS[log];
-        let words = (0..12).filter(|i| *i != BYTES && *i != MARKS);
+        let words = (0..12).filter(|i| *i != BYTES && *i != STATE_BYTES);
         Logs {
-            bytes: Lent::new(length(BYTES), turn),
-            marks: Lent::new(length(MARKS), turn),
-            words: words.map(|i| Lent::new(length(i), turn)).collect(),
+            bytes: Log::new(length(BYTES), turn),
+            statebytes: Log::new(length(STATE_BYTES), turn),
+            words: words.map(|i| Log::new(length(i), turn)).collect(),
         }
     }
 
-    fn trace(&mut self, trace: &[u8], counts: &mut [u64]) -> u64 {
-        let mut table: Lent<u64> = Lent::new(TABLE, 1);
-        let (bytes, marks) = (self.bytes.lend(), self.marks.lend());
-        let w: Vec<(*mut u64, usize)> = self.words.iter_mut().map(Lent::lend).collect();
-        // Each log is lent once, for the call, with its true length; the contract demands nothing more.
-        unsafe {
-            pivotspark_trace(
-                trace.as_ptr(),
-                trace.len(),
-                table.lend().0,
-                bytes.0,
-                bytes.1,
-                w[0].0,
-                w[0].1,
-                w[1].0,
-                w[1].1,
-                w[2].0,
-                w[2].1,
-                w[3].0,
-                w[3].1,
-                w[4].0,
-                w[4].1,
-                w[5].0,
-                w[5].1,
-                marks.0,
-                marks.1,
-                w[6].0,
-                w[6].1,
-                w[7].0,
-                w[7].1,
-                w[8].0,
-                w[8].1,
-                w[9].0,
-                w[9].1,
-                counts.as_mut_ptr(),
-                counts.len(),
-            )
-        }
+    /// The table and the logs, lent for a call that uses each once, with their true lengths.
+    fn lend<T>(&mut self, call: impl FnOnce(&Lent) -> T) -> T {
+        let mut table: Log<u64> = Log::new(TABLE, 1);
+        let words: Vec<Slice<u64>> = self.words.iter_mut().map(Log::lend).collect();
+        call(&Lent {
+            table: table.lend().0,
+            bytes: self.bytes.lend(),
+            statebytes: self.statebytes.lend(),
+            words: words.try_into().expect("ten logs of words"),
+        })
     }
 
     /// The words of each log's rows.
@@ -177,7 +112,7 @@ impl Logs {
             let count = rows[log] as usize * WIDTHS[log];
             let found = match log {
                 BYTES => self.bytes.words(count),
-                MARKS => self.marks.words(count),
+                STATE_BYTES => self.statebytes.words(count),
                 _ => others.next().expect("a log of words").words(count),
             };
             *words = found.map_err(|e| format!("{}: {e}", LOGS[log]))?;
@@ -193,11 +128,12 @@ pub struct Library {
 }
 
 impl Library {
-    fn once(&mut self, trace: &[u8], room: &Rows, words: usize) -> (Logs, u64, Vec<u64>) {
+    fn once(&mut self, trace: &[u8], room: &Rows, words: usize) -> (Logs, (u8, u64), Vec<u64>) {
         self.turn += 1;
         let mut logs = Logs::new(room, self.turn);
         let mut counts = vec![u64::MAX; words];
-        let told = logs.trace(trace, &mut counts);
+        // `lend` has what the entry asks for.
+        let told = logs.lend(|lent| unsafe { library::trace(trace, lent, &mut counts) });
         (logs, told, counts)
     }
 }
@@ -206,7 +142,7 @@ impl Port for Library {
     fn play(&mut self, trace: &[u8], room: &Rows) -> Result<Left, String> {
         let (logs, told, counts) = self.once(trace, room, 12);
         let rows: [u64; 12] = counts.try_into().expect("twelve counts");
-        let left = Left { answer: (told >> 56) as u8, at: told & ((1 << 56) - 1), rows, words: logs.rows(&rows)? };
+        let left = Left { answer: told.0, at: told.1, rows, words: logs.rows(&rows)? };
         // With too few words for the counts they stay as they were, and all else is the same.
         if self.turn % 32 == 0 {
             let (logs, again, counts) = self.once(trace, room, 11);
@@ -215,5 +151,41 @@ impl Port for Library {
             }
         }
         Ok(left)
+    }
+}
+
+#[cfg(feature = "blocks")]
+impl Library {
+    /// The logs, what the entry told, and what it wrote of the blocks into so many words.
+    fn blocks(&mut self, input: &Input, room: &Rows, words: usize) -> (Logs, (u8, u64), Vec<u64>, [u64; 12]) {
+        self.turn += 1;
+        let mut logs = Logs::new(room, self.turn);
+        let (mut out, mut counts) = (vec![u64::MAX; words], [u64::MAX; 12]);
+        // `lend` has what the entry asks for.
+        let told = logs.lend(|lent| unsafe { library::blocks(input, lent, &mut out, &mut counts) });
+        (logs, told, out, counts)
+    }
+}
+
+#[cfg(feature = "blocks")]
+impl Blocks for Library {
+    fn take(&mut self, input: &Input, room: &Rows) -> Result<Taken, String> {
+        let words = 6 * (input.cuts.len() + 1);
+        // Some words behind those that are asked for; they stay as they were, as do those of blocks that were not called.
+        let (logs, told, out, rows) = self.blocks(input, room, words + self.turn as usize % 3);
+        let called = 6 * told.1 as usize;
+        if called > words || out[called..].iter().any(|word| *word != u64::MAX) {
+            return Err(format!("{} blocks, and words behind them: {out:?}", told.1));
+        }
+        let blocks = out[..called].chunks(6).map(|block| block.try_into().expect("six words")).collect();
+        let left = Left { answer: told.0, at: told.1, rows, words: logs.rows(&rows)? };
+        // With too few words for the blocks they stay as they were, and all else is the same.
+        if self.turn % 32 == 0 {
+            let (logs, again, out, counts) = self.blocks(input, room, words - 1);
+            if again != told || counts != rows || out.iter().any(|word| *word != u64::MAX) || logs.rows(&rows)? != left.words {
+                return Err("with too few words for the blocks it does something else".to_string());
+            }
+        }
+        Ok(Taken { blocks, left })
     }
 }

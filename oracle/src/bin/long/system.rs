@@ -1,0 +1,97 @@
+//! What the benchmark asks of the system: the processor time, and the twelve logs and the table in fresh memory, on which the port runs a trace.
+
+use std::ffi::c_void;
+
+use oracle::calls::{BYTES, Rows, STATE_BYTES, WIDTHS};
+use oracle::library::{self, Lent, TABLE};
+
+unsafe extern "C" {
+    fn mmap(place: *mut c_void, length: usize, access: i32, flags: i32, file: i32, offset: i64) -> *mut c_void;
+    fn munmap(place: *mut c_void, length: usize) -> i32;
+    fn clock_gettime(clock: i32, time: *mut [i64; 2]) -> i32;
+}
+
+/// The processor time that this thread has had, in nanoseconds.
+pub fn processor_time() -> u64 {
+    const THREAD: i32 = 3;
+    let mut time = [0; 2];
+    // Seconds and nanoseconds are written, 64 bits each.
+    assert!(unsafe { clock_gettime(THREAD, &mut time) } == 0, "the system has no clock of the thread");
+    time[0] as u64 * 1_000_000_000 + time[1] as u64
+}
+
+/// Zeros from the system, in pages that come in when they are first touched.
+struct Pages {
+    place: *mut c_void,
+    length: usize,
+}
+
+impl Pages {
+    fn new(length: usize) -> Pages {
+        let (read_write, private_anonymous) = (3, 0x22);
+        let length = length.max(1);
+        // A new mapping of no file: nobody else has it.
+        let place = unsafe { mmap(std::ptr::null_mut(), length, read_write, private_anonymous, -1, 0) };
+        assert!(place as isize != -1, "the system has no {length} bytes");
+        Pages { place, length }
+    }
+}
+
+impl Drop for Pages {
+    fn drop(&mut self) {
+        // The mapping of `new`, whole.
+        unsafe { munmap(self.place, self.length) };
+    }
+}
+
+pub struct Logs {
+    table: Pages,
+    logs: [Pages; 12],
+    /// Of each log, in its own elements.
+    lengths: [usize; 12],
+}
+
+fn is_bytes(log: usize) -> bool {
+    log == BYTES || log == STATE_BYTES
+}
+
+impl Logs {
+    pub fn new(room: &Rows) -> Logs {
+        let lengths: [usize; 12] = std::array::from_fn(|log| room.0[log] as usize * WIDTHS[log]);
+        let logs = std::array::from_fn(|log| Pages::new(lengths[log] * if is_bytes(log) { 1 } else { 8 }));
+        Logs { table: Pages::new(TABLE * 8), logs, lengths }
+    }
+
+    /// A whole trace, which must end with 0; the rows that it leaves in each log.
+    pub fn run(&mut self, trace: &[u8]) -> Result<Rows, String> {
+        let bytes = |log: usize| (self.logs[log].place.cast(), self.lengths[log]);
+        let words: Vec<_> =
+            (0..12).filter(|log| !is_bytes(*log)).map(|log| (self.logs[log].place.cast(), self.lengths[log])).collect();
+        let lent = Lent {
+            table: self.table.place.cast(),
+            bytes: bytes(BYTES),
+            statebytes: bytes(STATE_BYTES),
+            words: words.try_into().expect("ten logs of words"),
+        };
+        let mut rows = Rows([0; 12]);
+        // The pages are this struct's own, zeros at first, and have the lengths that are told.
+        match unsafe { library::trace(trace, &lent, &mut rows.0) } {
+            (0, _) => Ok(rows),
+            (answer, at) => Err(format!("the port answers {answer} at {at}")),
+        }
+    }
+
+    /// The first elements of a log of bytes.
+    pub fn bytes(&self, log: usize, length: usize) -> &[u8] {
+        assert!(is_bytes(log) && length <= self.lengths[log]);
+        // Within the pages, which are initialised.
+        unsafe { std::slice::from_raw_parts(self.logs[log].place.cast(), length) }
+    }
+
+    /// The first elements of a log of words.
+    pub fn words(&self, log: usize, length: usize) -> &[u64] {
+        assert!(!is_bytes(log) && length <= self.lengths[log]);
+        // Likewise; pages are aligned for words.
+        unsafe { std::slice::from_raw_parts(self.logs[log].place.cast(), length) }
+    }
+}
