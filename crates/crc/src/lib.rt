@@ -6,7 +6,7 @@ ghost use lib.Bits.{bitXor};
 ghost use Rattle.crc.specs.Fast.{staysOf, passesOf, four};
 ghost use Rattle.crc.specs.Crc.{generator16, ones16, bits, bytes, crc5Of, crc16Of};
 
-// The CRC5 of the n low bits of x, a bit a turn (8.3.5.1).
+// The CRC5 of the n low bits of x, a bit a turn (8.3.5.1): for any n.
 pub fn crc5(x: u32, n: u32) -> u8
     ensures { λ r. ⌜ r ≡ crc5Of x n ⌝ }
 {
@@ -21,6 +21,29 @@ pub fn crc5(x: u32, n: u32) -> u8
         left -= 1;
     }
     state ^ 0x1f
+}
+
+// The two below have no loop: the data is xored into the register first, and divided by 1+z^3+z^5, z a shift to the left. The carry is the register.
+
+// The CRC5 of the 11 low bits of x, those of a token.
+pub fn crc5_token(x: u32) -> u8
+    ensures { λ r. ⌜ r ≡ crc5Of x 11 ⌝ }
+{
+    let v = x % 2048 ^ 0x1f;
+    let b = v ^ v << 3 ^ v << 5;
+    let q = (b ^ b << 6 ^ b << 10) % 2048;
+    (q >> 6 ^ q >> 8) as u8 ^ 0x1f
+}
+
+// The CRC5 of the 19 low bits of x, those of a split.
+pub fn crc5_split(x: u32) -> u8
+    ensures { λ r. ⌜ r ≡ crc5Of x 19 ⌝ }
+{
+    let v = x % 524288 ^ 0x1f;
+    let b = v ^ v << 3 ^ v << 5;
+    let c = b ^ b << 6 ^ b << 10;
+    let q = (c ^ c << 12) % 524288;
+    (q >> 14 ^ q >> 16) as u8 ^ 0x1f
 }
 
 // The CRC16, below, has no tables. "n bits on" is after n steps without data; a word stands for the register that it is 64 bits on.

@@ -107,6 +107,13 @@ pub fn setup_of(packet: &[u8]) -> u64
 
 // ---- the fields of a request (9.3, table 9-2), out of its eight bytes as one number, first byte lowest
 
+// bmRequestType.
+pub fn kind(setup: u64) -> u8
+    ensures { λ r. ⌜ r ≡ setupOf setup .kind ⌝ }
+{
+    (setup % 256) as u8
+}
+
 // bmRequestType's direction: 1 is device to host.
 pub fn direction(setup: u64) -> u8
     ensures { λ r. ⌜ r ≡ directionOf (setupOf setup .kind) ⌝ }
@@ -133,6 +140,13 @@ pub fn value(setup: u64) -> u16
     ensures { λ r. ⌜ r ≡ setupOf setup .value ⌝ }
 {
     (setup / 65536 % 65536) as u16
+}
+
+// wIndex.
+pub fn index(setup: u64) -> u16
+    ensures { λ r. ⌜ r ≡ setupOf setup .index ⌝ }
+{
+    (setup / 4294967296 % 65536) as u16
 }
 
 // wLength.

@@ -1,0 +1,16 @@
+pub mod Whole
+pub mod Kind
+pub mod Entries
+pub mod Store
+pub mod Steps
+pub mod Chosen
+pub mod Laid
+pub mod WholeLaws
+pub mod EntriesLaws
+pub mod StepLaws
+pub mod Configuration
+pub mod ReadBack
+pub mod ForgetLaws
+pub mod HeldLaws
+pub mod ChosenLaws
+pub mod SetLaws
