@@ -8,7 +8,7 @@ use mathlib.Core.Path.{_≡_}
 use lib.Dec.{eqb, ltb}
 use lib.ListN.{length, getD}
 use lib.Seq.{sets}
-use Rattle.rows.specs.Widths.{endpointWidth, eventWidth, groupWidth, linkWidth, packetWidth, requestWidth, transactionWidth}
+use Rattle.rows.specs.Widths.{eventWidth, linkWidth, requestWidth, place}
 use Rattle.details.specs.Search.{blank}
 use Rattle.endpoints.specs.Table.{entryAt}
 use Rattle.endpoints.specs.Word as word
@@ -21,7 +21,7 @@ use Rattle.record.specs.Room.{fitting, long}
 use Rattle.record.specs.World.{worldOf}
 use Rattle.record.specs.declared.Counts.{Counts}
 use Rattle.record.specs.declared.Decoder.{Decoder}
-use Rattle.call.specs.State.{Logs, State, roomOf}
+use Rattle.call.specs.State.{Logs, State, logAt, countAt, roomOf}
 
 -- ---- the tests of 01's table that are the same for each call
 
@@ -62,19 +62,8 @@ isOver w = anyOver (w .count) w
 -- ---- what the rules leave: the world w, from the state s
 
 -- each log has the rows of the call behind those that stood there, and its other words as they were
-pub record Appends (w : World) (n : Counts) (l l′ : Logs) : Type 0 where
-  pub bytes : l′ .bytes ≡ sets (l .bytes) (n .bytes) (log 0 (w .journal))
-  pub devices : l′ .devices ≡ sets (l .devices) (n .devices) (log 1 (w .journal))
-  pub endpoints : l′ .endpoints ≡ sets (l .endpoints) (n .endpoints * endpointWidth) (log 2 (w .journal))
-  pub packets : l′ .packets ≡ sets (l .packets) (n .packets * packetWidth) (log 3 (w .journal))
-  pub events : l′ .events ≡ sets (l .events) (n .events * eventWidth) (log 4 (w .journal))
-  pub transactions : l′ .transactions ≡ sets (l .transactions) (n .transactions * transactionWidth) (log 5 (w .journal))
-  pub groups : l′ .groups ≡ sets (l .groups) (n .groups * groupWidth) (log 6 (w .journal))
-  pub statebytes : l′ .statebytes ≡ sets (l .statebytes) (n .statebytes) (log 7 (w .journal))
-  pub states : l′ .states ≡ sets (l .states) (n .states) (log 8 (w .journal))
-  pub items : l′ .items ≡ sets (l .items) (n .items) (log 9 (w .journal))
-  pub links : l′ .links ≡ sets (l .links) (n .links * linkWidth) (log 10 (w .journal))
-  pub requests : l′ .requests ≡ sets (l .requests) (n .requests * requestWidth) (log 11 (w .journal))
+abbrev pub Appends : World → Counts → Logs → Logs → Type 0
+Appends w n l l′ = (k : ℕ) → k < 12 → logAt k l′ ≡ sets (logAt k l) (place k (countAt k n)) (log k (w .journal))
 
 -- the record is the world's; `finished` is for finish to set
 unfoldable pub decoderOf : Counts → Bool → World → Decoder

@@ -8,16 +8,17 @@ use mathlib.Core.Bool.{Bool, true, false, not, _||_, false≢true, true≢false}
 use mathlib.Core.List.{List}
 use borrow.Author.Tests.{ltb-true, ltb-false}
 use lib.Dec.{ltb}
-use lib.ListN.{getD}
-use lib.Seq.{ext-getD}
+use lib.ListN.{length, getD}
+use lib.Seq.{ext-getD, length-sets}
+use Rattle.rows.specs.Widths.{place}
 use Rattle.endpoints.specs.Phases.{inPhase, count, waiting}
 use Rattle.endpoints.specs.PhasesLaws.{count-ext, phase-entry}
 use Rattle.details.specs.Search.{blank}
 use Rattle.endpoints.specs.Table.{entryAt}
 use Rattle.endpoints.specs.Word as word
 use Rattle.details.specs.declared.Device.{Device}
-use Rattle.rules.specs.World.{World}
-use Rattle.rules.specs.World.{endedIn}
+use Rattle.rules.specs.Rows.{log}
+use Rattle.rules.specs.World.{World, endedIn}
 use Rattle.record.specs.Answers.{Tests, firstOf}
 use Rattle.record.specs.Bools.{neither}
 use Rattle.record.specs.Formed.{wellFormed}
@@ -27,7 +28,8 @@ use Rattle.record.specs.Room.{long}
 use Rattle.record.specs.StoredLaws.{determined}
 use Rattle.record.specs.declared.Counts.{Counts}
 use Rattle.record.specs.declared.Decoder.{Decoder}
-use Rattle.call.specs.State.{Logs, State, roomOf}
+use Rattle.call.specs.State.{Logs, State, logAt, countAt, roomOf}
+use Rattle.call.specs.StateLaws.{same-each, sizes-room}
 use Rattle.call.specs.Outcome.{isIll, Appends, DevicesOf, TableOf, Left, Answers, accepts}
 
 -- ---- what the rules leave is one thing
@@ -40,9 +42,9 @@ same-devices {w} {v} {a} {b} p q = ext-getD blank a b (p .size ∙ sym (q .size)
     at i true e = let h = ltb-true i (w .deviceCount) e in p .there i h ∙ sym (q .there i h)
     at i false e = let h = ltb-false i (w .deviceCount) e in p .beyond i h ∙ sym (q .beyond i h)
 
--- the row and the word of a place
-place : (i : ℕ) → i / word.width * word.width + i % word.width ≡ i
-place i = div-add-mod' i word.width
+-- a word's place by its row and its place there
+row-and-word : (i : ℕ) → i / word.width * word.width + i % word.width ≡ i
+row-and-word i = div-add-mod' i word.width
 
 -- tables that hold the entries of one world in stored words, and else what was there, are the same
 same-table : {w : World} {t a b : List ℕ} → TableOf w t a → TableOf w t b → a ≡ b
@@ -52,34 +54,20 @@ same-table {w} {t} {a} {b} p q = ext-getD 0 a b (p .size ∙ sym (q .size)) (λ 
     row i h = determined a b (i / word.width) (p .words _ h) (q .words _ h) (p .entries _ h ∙ sym (q .entries _ h)) (i % word.width) (omega arith)
 
     at : (i : ℕ) (c : Bool) → ltb i (w .count * word.width) ≡ c → getD a i 0 ≡ getD b i 0
-    at i true e = let h = ltb-true i (w .count * word.width) e in rw (place i) at (row i (omega arith))
+    at i true e = let h = ltb-true i (w .count * word.width) e in rw (row-and-word i) at (row i (omega arith))
     at i false e = let h = ltb-false i (w .count * word.width) e in p .beyond i h ∙ sym (q .beyond i h)
 
 -- logs with the same rows behind the same words are the same
-same-logs : {w : World} {n : Counts} {l a b : Logs} → Appends w n l a → Appends w n l b → a ≡ b
-same-logs p q =
-    λ i. record {
-      bytes = (p .bytes ∙ sym (q .bytes)) i;
-      devices = (p .devices ∙ sym (q .devices)) i;
-      endpoints = (p .endpoints ∙ sym (q .endpoints)) i;
-      packets = (p .packets ∙ sym (q .packets)) i;
-      events = (p .events ∙ sym (q .events)) i;
-      transactions = (p .transactions ∙ sym (q .transactions)) i;
-      groups = (p .groups ∙ sym (q .groups)) i;
-      statebytes = (p .statebytes ∙ sym (q .statebytes)) i;
-      states = (p .states ∙ sym (q .states)) i;
-      items = (p .items ∙ sym (q .items)) i;
-      links = (p .links ∙ sym (q .links)) i;
-      requests = (p .requests ∙ sym (q .requests)) i;
-    }
+same-logs : (w : World) (n : Counts) (l a b : Logs) → Appends w n l a → Appends w n l b → a ≡ b
+same-logs w n l a b p q = same-each a b (λ k h. p k h ∙ sym (q k h))
 
 pub same-left : {w : World} {f : Bool} {s a b : State} → Left w f s a → Left w f s b → a ≡ b
-same-left p q =
+same-left {w} {f} {s} {a} {b} p q =
     λ i. record {
       decoder = (p .decoder ∙ sym (q .decoder)) i;
       devices = same-devices (p .devices) (q .devices) i;
       table = same-table (p .table) (q .table) i;
-      logs = same-logs (p .logs) (q .logs) i;
+      logs = same-logs w (s .decoder .counts) (s .logs) (a .logs) (b .logs) (p .logs) (q .logs) i;
     }
 
 -- 01: "any two permitted outcomes coincide"
@@ -89,6 +77,10 @@ unique {q} {w} {f} {s} {a} {b} {s′} {s″} x y = (x .answer ∙ sym (y .answer
     pick : (c : Bool) → accepts (firstOf q) ≡ c → s′ ≡ s″
     pick true e = same-left (x .left e) (y .left e)
     pick false e = x .kept e ∙ sym (y .kept e)
+
+-- and leave every log as long as it was
+pub same-room : (w : World) (n : Counts) (l l′ : Logs) → Appends w n l l′ → roomOf l′ ≡ roomOf l
+same-room w n l l′ a = sizes-room l l′ (λ k h. ap length (a k h) ∙ length-sets (logAt k l) (place k (countAt k n)) (log k (w .journal)))
 
 -- ---- how a call shows its outcome
 

@@ -6,8 +6,10 @@ use mathlib.Core.List.{List}
 use lib.Dec.{ltb}
 use mathlib.Core.Path.{_≡_}
 use lib.ListN.{length, getD}
+use Rattle.endpoints.specs.Word as word
 use Rattle.details.specs.declared.Device.{Device}
 use Rattle.transaction.specs.declared.Transaction.{Transaction}
+use Rattle.rules.specs.declared.Stamp.{Stamp}
 use Rattle.write.specs.declared.Written.{Written}
 use Rattle.record.specs.Formed.{wellFormed}
 use Rattle.record.specs.Room.{long}
@@ -18,10 +20,10 @@ use Rattle.record.specs.declared.Decoder.{Decoder}
 abbrev pub firstTests : Decoder → List Device → List ℕ → Counts → ℕ → ℕ → ℕ → ℕ
 firstTests d v t room n most a = cond (long room || not (wellFormed d v t room)) 1 (cond (d .finished) 2 (cond (ltb most n) a 0))
 
--- where a call begins to write
-abbrev pub writtenOf : Decoder → Written
-writtenOf d =
-    record { groups = d .counts .groups; statebytes = d .counts .statebytes; states = d .counts .states; items = d .counts .items; links = d .counts .links; last = d .last; linked = d .transaction .linked; link = d .transaction .link }
+-- where a call begins to write, and what it brings
+abbrev pub writtenOf : Stamp → Decoder → Written
+writtenOf stamp d =
+    record { stamp = stamp; groups = d .counts .groups; statebytes = d .counts .statebytes; states = d .counts .states; items = d .counts .items; links = d .counts .links; last = d .last; linked = d .transaction .linked; link = d .transaction .link }
 
 -- a transaction with the T row that it has by now
 abbrev pub tied : Transaction → Written → Transaction
@@ -37,5 +39,5 @@ Bytes l = (i : ℕ) → getD l i 0 < 256
 
 -- a lent table has all its words
 pub record Known (t : List ℕ) : Type 0 where
-  pub size : length t ≡ 2176
+  pub size : length t ≡ word.table
   pub words : Words t

@@ -1,8 +1,8 @@
 -- To be believed: all that a call works on: the record, the devices, the endpoint table, and the twelve logs.
 -- Hold it to: the parameters of the public functions, in their order; 01, "Sizes"
 use Prim.Native.Nat.{ℕ, _/_}
-use mathlib.Core.List.{List}
-use lib.ListN.{length}
+use mathlib.Core.List.{List, [], _∷_}
+use lib.ListN.{length, getD}
 use Rattle.rows.specs.Widths.{endpointWidth, eventWidth, groupWidth, linkWidth, packetWidth, requestWidth, transactionWidth}
 use Rattle.details.specs.declared.Device.{Device}
 use Rattle.record.specs.declared.Counts.{Counts}
@@ -39,6 +39,21 @@ logs a b c d e f g h i j k l =
       links = k;
       requests = l;
     }
+
+-- log k of them
+abbrev pub logAt : ℕ → Logs → List ℕ
+logAt k l =
+    getD (l .bytes ∷ l .devices ∷ l .endpoints ∷ l .packets ∷ l .events ∷ l .transactions ∷ l .groups ∷ l .statebytes
+    ∷ l .states ∷ l .items ∷ l .links ∷ l .requests ∷ []) k []
+
+-- counts in the same order, and that of log k
+abbrev pub countWords : Counts → List ℕ
+countWords n =
+    n .bytes ∷ n .devices ∷ n .endpoints ∷ n .packets ∷ n .events ∷ n .transactions ∷ n .groups ∷ n .statebytes
+    ∷ n .states ∷ n .items ∷ n .links ∷ n .requests ∷ []
+
+abbrev pub countAt : ℕ → Counts → ℕ
+countAt k n = getD (countWords n) k 0
 
 pub record State : Type 0 where
   pub decoder : Decoder

@@ -1,15 +1,18 @@
 // What every call shares: the answer's type, the room of the lent logs, the first tests, and where it begins to write. What a call may leave is in specs/.
 use details::Device;
+use endpoints::Table;
 use endpoints::entry::sized;
 use record::Counts;
 use record::Decoder;
 use record::formed::well_formed;
 use record::room::too_long;
 use rows::width;
+use rules::Stamp;
 use transaction::Transaction;
 use write::Written;
 ghost use mathlib.Core.Path.{_≡_};
 ghost use mathlib.Core.Bool.{not, _||_};
+ghost use Rattle.rules.specs.World.{stamp};
 ghost use Rattle.record.specs.Formed.{wellFormed};
 ghost use Rattle.record.specs.Room.{long};
 ghost use Rattle.call.specs.Share.{Words, Bytes, Known, firstTests, writtenOf, tied};
@@ -57,7 +60,7 @@ pub fn room_of(
 }
 
 // Answer 1: a lent log is too long, or the record is not well formed on logs with that room.
-pub fn is_ill(d: Decoder, devices: [Device; 64], table: &[u64; 2176], room: Counts) -> bool
+pub fn is_ill(d: Decoder, devices: [Device; 64], table: &Table, room: Counts) -> bool
     ensures { λ r. ⌜ r ≡ (long room || not (wellFormed d devices (now (table .entry)) room)) ⌝ }
 {
     too_long(room) | !well_formed(d, devices, table, room)
@@ -67,7 +70,7 @@ pub fn is_ill(d: Decoder, devices: [Device; 64], table: &[u64; 2176], room: Coun
 pub fn first_tests(
     d: Decoder,
     devices: [Device; 64],
-    table: &[u64; 2176],
+    table: &Table,
     room: Counts,
     n: usize,
     most: usize,
@@ -87,13 +90,31 @@ pub fn first_tests(
     0
 }
 
-// Where a call begins to write.
-pub fn written_of(d: Decoder) -> Written
-    ensures { λ r. ⌜ r ≡ writtenOf d ⌝ }
+// What a call with a packet row brings: that row is the next one.
+pub fn stamp_of(n: Counts, time: u64) -> Stamp
+    ensures { λ r. ⌜ r ≡ stamp (n .packets) time ⌝ }
+{
+    Stamp {
+        packet: n.packets as u64,
+        time,
+    }
+}
+
+// What finish brings: it has no packet row.
+pub fn no_stamp() -> Stamp
+    ensures { λ r. ⌜ r ≡ stamp 0 0 ⌝ }
+{
+    Stamp { packet: 0, time: 0 }
+}
+
+// Where a call begins to write, and what it brings.
+pub fn written_of(stamp: Stamp, d: Decoder) -> Written
+    ensures { λ r. ⌜ r ≡ writtenOf stamp d ⌝ }
 {
     let n = d.counts;
     let t = d.transaction;
     Written {
+        stamp,
         groups: n.groups,
         statebytes: n.statebytes,
         states: n.states,
@@ -134,7 +155,7 @@ pub fn bytes_known(packet: &[u8])
 }
 
 // What a proof may know of a lent table: that it has all its words, and that each is one.
-pub fn known(table: &[u64; 2176])
+pub fn known(table: &Table)
     ensures { λ r. ⌜ Known (now (table .entry)) ⌝ }
 {
     sized(table);

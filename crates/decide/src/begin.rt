@@ -7,6 +7,7 @@ use crate::slot::new_transaction;
 use details::Detail;
 use details::kind;
 use endpoints::Endpoint;
+use endpoints::Table;
 use plan::Begin;
 use plan::Middle;
 use plan::Place;
@@ -164,7 +165,7 @@ fn transaction_start(
     n: u64,
     d: Decoder,
     near: Near,
-    table: &[u64; 2176],
+    table: &Table,
 ) -> Middle
     requires { ⌜ Ready d (now table) ⌝ }
     ensures { λ r. ⌜ ForSeen near x0 (now (packet .entry)) d (now (table .entry)) (λ w. r ≡ starting status x0 e0 pid (now (packet .entry)) n w) ⌝ }
@@ -274,7 +275,7 @@ fn append_on(
     pid: u8,
     b: Transaction,
     detail: Detail,
-    table: &[u64; 2176],
+    table: &Table,
 ) -> Middle
     requires { ⌜ x0 < 128 ⌝ }
     ensures { λ r. ⌜ r ≡ goingBy status (standingOn x0 e0 x0 detail (entryAt (now (table .entry)) x0)) pid b ⌝ }
@@ -302,7 +303,7 @@ fn transaction_append(
     b: Transaction,
     d: Decoder,
     near: Near,
-    table: &[u64; 2176],
+    table: &Table,
 ) -> Middle
     requires { ⌜ Ready d (now table) ⌝ }
     requires { ⌜ x0 < d .counts .endpoints ⌝ }
@@ -333,7 +334,7 @@ pub fn middle_of(
     b: Transaction,
     d: Decoder,
     near: Near,
-    table: &[u64; 2176],
+    table: &Table,
 ) -> Middle
     requires { ⌜ Ready d (now table) ⌝ }
     requires { ⌜ x0 < d .counts .endpoints ⌝ }

@@ -31,6 +31,7 @@ use crate::status::slot_by;
 use details::Device;
 use details::endpoint_details;
 use endpoints::Endpoint;
+use endpoints::Table;
 use endpoints::entry::flag_word;
 use endpoints::entry::load;
 use plan::Begin;
@@ -85,7 +86,7 @@ fn plan_by(
     packet: &[u8],
     d: Decoder,
     near: Near,
-    table: &[u64; 2176],
+    table: &Table,
 ) -> Plan
     requires { ⌜ Ready d (now table) ⌝ }
     requires { ⌜ x0 < d .counts .endpoints ⌝ }
@@ -130,7 +131,7 @@ fn plan_by(
 }
 
 // The steps of a packet, by what was taken of the devices for it.
-pub fn plan_near(d: Decoder, near: Near, table: &[u64; 2176], packet: &[u8]) -> Plan
+pub fn plan_near(d: Decoder, near: Near, table: &Table, packet: &[u8]) -> Plan
     requires { ⌜ Ready d (now table) ⌝ }
     requires { ⌜ Taken near (oldEndpoint (d .slot) (d .transaction)) (now packet) d (now table) ⌝ }
     ensures { λ r. ⌜ ForSeen near (oldEndpoint (d .slot) (d .transaction)) (now (packet .entry)) d (now (table .entry)) (λ w. r ≡ planOf (now (packet .entry)) w) ⌝ }
@@ -147,7 +148,7 @@ pub fn plan_near(d: Decoder, near: Near, table: &[u64; 2176], packet: &[u8]) -> 
 }
 
 // The end of the current transaction, by an event or by finish.
-pub fn plan_ending(d: Decoder, devices: [Device; 64], table: &[u64; 2176]) -> Ending
+pub fn plan_ending(d: Decoder, devices: [Device; 64], table: &Table) -> Ending
     requires { ⌜ Ready d (now table) ⌝ }
     ensures { λ r. ⌜ r ≡ endingOf (worldOf d devices (now (table .entry))) ⌝ }
 {

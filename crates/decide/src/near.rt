@@ -7,6 +7,7 @@ use details::Found;
 use details::endpoint_details;
 use details::find::find_device;
 use endpoints::Endpoint;
+use endpoints::Table;
 use endpoints::entry::load;
 use record::Decoder;
 use usb::fields::token_of;
@@ -38,7 +39,7 @@ pub fn place_in(found: Found) -> usize
 }
 
 // The entry of the endpoint of the transaction that is held.
-pub fn old_entry(d: Decoder, table: &[u64; 2176]) -> Endpoint
+pub fn old_entry(d: Decoder, table: &Table) -> Endpoint
     requires { ⌜ Ready d (now table) ⌝ }
     ensures { λ r. ⌜ r ≡ entryAt (now (table .entry)) (oldEndpoint (d .slot) (d .transaction)) ⌝ }
 {
@@ -62,7 +63,7 @@ pub fn near_of(found: Found, number: u8, row: Device, old: Detail) -> Near
     }
 }
 
-pub fn look(d: Decoder, devices: [Device; 64], table: &[u64; 2176], packet: &[u8]) -> Near
+pub fn look(d: Decoder, devices: [Device; 64], table: &Table, packet: &[u8]) -> Near
     requires { ⌜ Ready d (now table) ⌝ }
     ensures { λ r. ⌜ Seen r (oldEndpoint (d .slot) (d .transaction)) (now (packet .entry)) (worldOf d devices (now (table .entry))) ⌝ }
 {

@@ -6,6 +6,7 @@ use details::endpoint_details;
 use details::fresh_device;
 use details::kind;
 use endpoints::Endpoint;
+use endpoints::Table;
 use endpoints::entry::load;
 use endpoints::entry::new_endpoint;
 use endpoints::find::find_endpoint;
@@ -55,7 +56,7 @@ fn is_token(pid: u8) -> bool
 }
 
 // endpoint_lookup of capture.rs, on the device that was found.
-fn endpoint_lookup(device: Found, address: u8, d: Decoder, table: &[u64; 2176]) -> Found
+fn endpoint_lookup(device: Found, address: u8, d: Decoder, table: &Table) -> Found
     requires { ⌜ d .counts .endpoints ≤ 128 ⌝ }
     ensures { λ r. ⌜ r ≡ endpointLookup device address (worldOf d [] (now (table .entry))) ⌝ }
 {
@@ -67,7 +68,7 @@ fn endpoint_lookup(device: Found, address: u8, d: Decoder, table: &[u64; 2176]) 
 }
 
 // packet_endpoint of capture.rs.
-fn find_place(pid: u8, packet: &[u8], d: Decoder, near: Near, table: &[u64; 2176]) -> Found
+fn find_place(pid: u8, packet: &[u8], d: Decoder, near: Near, table: &Table) -> Found
     requires { ⌜ d .counts .endpoints ≤ 128 ⌝ }
     ensures { λ r. ⌜ r ≡ foundOn (near .found) pid (now (packet .entry)) (worldOf d [] (now (table .entry))) ⌝ }
 {
@@ -92,7 +93,7 @@ fn entry_by(x0: usize, e0: Endpoint, i: usize, e: Endpoint) -> Endpoint
 }
 
 // An endpoint that is there, with its details.
-pub fn stand_at(x0: usize, e0: Endpoint, i: usize, detail: Detail, table: &[u64; 2176]) -> Place
+pub fn stand_at(x0: usize, e0: Endpoint, i: usize, detail: Detail, table: &Table) -> Place
     requires { ⌜ i < 128 ⌝ }
     ensures { λ r. ⌜ r ≡ standingOn x0 e0 i detail (entryAt (now (table .entry)) i) ⌝ }
 {
@@ -175,7 +176,7 @@ pub fn packet_endpoint(
     packet: &[u8],
     d: Decoder,
     near: Near,
-    table: &[u64; 2176],
+    table: &Table,
 ) -> Place
     requires { ⌜ Ready d (now table) ⌝ }
     ensures { λ r. ⌜ ForSeen near x0 (now (packet .entry)) d (now (table .entry)) (λ w. r ≡ placeOf x0 e0 pid (now (packet .entry)) w) ⌝ }

@@ -59,7 +59,7 @@ three : fresh .count ≡ 3
 unfolding details.fresh
 three = refl
 
-module _ {v : List Device} {t : List ℕ} {l : Logs} {s : State} (hv : length v ≡ 64) (ht : length t ≡ 2176) (m : Makes v t l 0 s) where
+module _ {v : List Device} {t : List ℕ} {l : Logs} {s : State} (hv : length v ≡ 64) (ht : length t ≡ word.table) (m : Makes v t l 0 s) where
   blank-made : Blank (s .decoder .counts .endpoints) (s .table)
   unfolding madeState
   blank-made = rw (m .accepted refl) (fresh-beyond t ht)
@@ -111,7 +111,7 @@ module _ {k : Call} {s s′ : State} (m : Moved k s s′) {js : List Row} (h : K
       }
 
   pub kept-then : Kept (after .journal ++ js) s′
-  kept-then = record { rules = sound-like like-after (sound js (worldAt s) k (h .rules)); told = told-then m (h .told); blank = blank-then }
+  kept-then = record { rules = sound-like like-after (sound js (worldAt s) k (h .rules)); told = told-then m js (h .told); blank = blank-then }
 
 -- ---- so every sequence does
 

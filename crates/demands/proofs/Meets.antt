@@ -5,6 +5,7 @@ use mathlib.Core.Path.{_≡_, refl, sym, ap, _∙_}
 use mathlib.Core.List.{List, [], _∷_, _++_}
 use borrow.Author.Tests.{eq-eqb}
 use lib.ListN.{length, getD}
+use Rattle.rows.specs.WidthsLaws.{log-number}
 use Rattle.details.specs.declared.Found.the-variants.{At}
 use Rattle.endpoints.specs.declared.Phase.{Phase}
 use Rattle.endpoints.specs.declared.Phase.the-variants.{None, Early, Active, Ended}
@@ -50,17 +51,17 @@ module _ (e i : ℕ) (before : List Row) where
 module _ {js : List Row} {s : State} (h : Kept js s) where
   -- of the history's log, and so of the log
   demand : (e : ℕ) → ¬ (e ≡ 0) → Demand3 (groupsStarted e s) (closingItems e s) (marks e js)
-  demand e d = let l : OnLinks e js = links-of (h .rules) e d in rw (h .told .links) l
+  demand e d = let l : OnLinks e js = links-of (h .rules) e d in rw (h .told 10 (log-number 10 refl)) l
 
   closed-are : (e : ℕ) → closingItems e s ≡ closings (marks e js)
-  closed-are e = ap (linksOf 3 e) (h .told .links) ∙ closing-rows e js
+  closed-are e = ap (linksOf 3 e) (h .told 10 (log-number 10 refl)) ∙ closing-rows e js
 
   extra-is : (e : ℕ) → ¬ (e ≡ 0) → Extra (phase e (worldAt s)) (groupsStarted e s) (groupsEnded e js) (length (closingItems e s))
   extra-is e d =
       let g = groups-of (h .rules) e d in
       let c = closed-are e in
       by-phase (phase e (worldAt s)) _ _ _
-      (ap (λ (l : List ℕ). length (linksOf 1 e l)) (h .told .links) ∙ (start-rows e js ∙ (g .0 ∙ rw c (g .1))))
+      (ap (λ (l : List ℕ). length (linksOf 1 e l)) (h .told 10 (log-number 10 refl)) ∙ (start-rows e js ∙ (g .0 ∙ rw c (g .1))))
       (rw c (ended-length (phase e (worldAt s)) (h .rules .keeps e .facts)))
 
   named : (e k : ℕ) → k < length (closingItems e s) → getD (closingItems e s) k 0 < s .decoder .counts .items

@@ -8,7 +8,8 @@ use mathlib.Core.Path.{_≡_}
 use mathlib.Core.Bool.{false}
 use mathlib.Core.List.{List, [], _∷_, _++_}
 use lib.ListN.{length, take, getD}
-use Rattle.rows.specs.Widths.{endpointWidth, eventWidth, groupWidth, linkWidth, packetWidth, requestWidth, transactionWidth}
+use Rattle.endpoints.specs.Word as word
+use Rattle.rows.specs.Widths.{linkWidth, place}
 use Rattle.transaction.specs.Table.{pick}
 use Rattle.details.specs.declared.Device.{Device}
 use Rattle.details.specs.declared.Found.the-variants.{At}
@@ -20,7 +21,7 @@ use Rattle.rules.specs.Marks.{marks, endings, lastEnded}
 use Rattle.rules.specs.Rows.{Row, E, log}
 use Rattle.rules.specs.World.{eventEp, phase}
 use Rattle.call.specs.Outcome.{isIll, accepts, worldAt}
-use Rattle.call.specs.State.{Logs, State}
+use Rattle.call.specs.State.{Logs, State, logAt, countAt}
 use Rattle.start.specs.Detail.{Details}
 use Rattle.start.specs.Fresh.{Makes}
 use Rattle.packet.specs.Call.{PacketCall}
@@ -42,26 +43,15 @@ adds k s a = pick (accepts a) (call k (worldAt s) .journal) []
 -- a sequence of calls has the history js, the newest row first, and leaves the state s
 pub data Sequence : List Row → State → Type 0 where
   -- a fresh decoder answered 0, on any 64 devices, any table of 2,176 words and any logs; its history is its own four rows
-  made : {v : List Device} {t : List ℕ} {l : Logs} {s : State} → length v ≡ 64 → length t ≡ 2176 → Makes v t l 0 s → Sequence (fresh .journal) s
+  made : {v : List Device} {t : List ℕ} {l : Logs} {s : State} → length v ≡ 64 → length t ≡ word.table → Makes v t l 0 s → Sequence (fresh .journal) s
   -- and any call, with any arguments and any answer, on what the one before left
   then : {js : List Row} {s : State} (k : Call) (a : ℕ) (s′ : State) → Sequence js s → Does k s a s′ → Sequence (adds k s a ++ js) s′
 
 -- ---- the logs and the history: events end groups and log no row of it, so the ends stand in the history alone (`Over`). All else is in both:
 
 -- each log, up to its count, has the history's rows for it, in order, and no others; the numbers are logs of rules, Rows
-pub record Told (js : List Row) (s : State) : Type 0 where
-  pub bytes : take (s .decoder .counts .bytes) (s .logs .bytes) ≡ log 0 js
-  pub devices : take (s .decoder .counts .devices) (s .logs .devices) ≡ log 1 js
-  pub endpoints : take (s .decoder .counts .endpoints * endpointWidth) (s .logs .endpoints) ≡ log 2 js
-  pub packets : take (s .decoder .counts .packets * packetWidth) (s .logs .packets) ≡ log 3 js
-  pub events : take (s .decoder .counts .events * eventWidth) (s .logs .events) ≡ log 4 js
-  pub transactions : take (s .decoder .counts .transactions * transactionWidth) (s .logs .transactions) ≡ log 5 js
-  pub groups : take (s .decoder .counts .groups * groupWidth) (s .logs .groups) ≡ log 6 js
-  pub statebytes : take (s .decoder .counts .statebytes) (s .logs .statebytes) ≡ log 7 js
-  pub states : take (s .decoder .counts .states) (s .logs .states) ≡ log 8 js
-  pub items : take (s .decoder .counts .items) (s .logs .items) ≡ log 9 js
-  pub links : take (s .decoder .counts .links * linkWidth) (s .logs .links) ≡ log 10 js
-  pub requests : take (s .decoder .counts .requests * requestWidth) (s .logs .requests) ≡ log 11 js
+abbrev pub Told : List Row → State → Type 0
+Told js s = (k : ℕ) → k < 12 → take (place k (countAt k (s .decoder .counts))) (logAt k (s .logs)) ≡ log k js
 
 -- ---- demand 3, of endpoint e
 

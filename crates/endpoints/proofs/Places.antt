@@ -7,6 +7,7 @@ use borrow.Author.Tests.{ltb-true}
 use lib.Dec.{ltb}
 use mir.Syntax.{w8, w64}
 use mir.Val.{Fits}
+use Rattle.endpoints.specs.Word as word
 
 module _ (i : ℕ) (h : i < 128) where
   pub row-fits : Fits w64 (i * 17)
@@ -19,7 +20,7 @@ module _ (i : ℕ) (h : i < 128) where
     pub bytes-fit : Fits w64 ((i * 17 + k) * 8)
     bytes-fit = omega (arith, h, ltb-true k 17 g)
 
-    pub place-inside : i * 17 + k < 2176
+    pub place-inside : i * 17 + k < word.table
     place-inside = omega (arith, h, ltb-true k 17 g)
 
 -- what is left of a word in a byte

@@ -46,7 +46,7 @@ row-next l l′ rest row a b c d p = let e : (row + 1) * 4 ≡ suc (suc (suc (su
 abbrev pub rowFrom : ℕ → Bool → List ℕ → ℕ → ℕ → List ℕ
 rowFrom endpoint start t i n = stateBytes (each word.state (stateWord endpoint start) t i n) i n
 
-pub row-turn : (t : List ℕ) (n i endpoint : ℕ) (start : Bool) (r : ℕ) → i < n → n ≤ 128 → length t ≡ 2176 → r ≡ stateWord endpoint start i (wordAt t i word.state)
+pub row-turn : (t : List ℕ) (n i endpoint : ℕ) (start : Bool) (r : ℕ) → i < n → n ≤ 128 → length t ≡ word.table → r ≡ stateWord endpoint start i (wordAt t i word.state)
     → rowFrom endpoint start t i (n - i) ≡ r ∷ rowFrom endpoint start (set t (i * word.width + word.state) r) (i + 1) (n - (i + 1))
 row-turn t n i endpoint start r h g l e =
     rw (left n i h, e, add-one) (ap (λ (x : ℕ). x ∷ stateBytes later (suc i) (n - suc i)) (ap byteOf same ∙ state-byte (eqb i endpoint) (eqb endpoint 0) start (byteOf (wordAt t i word.state))))

@@ -81,7 +81,7 @@ length-closing t item i (suc n) = pick (inPhase word.Ended t i) _ _ (length-clos
 -- ---- after a store
 
 -- of n endpoints, how many have phase p after the entry e is stored at m
-pub count-store : (p : ℕ) (t : List ℕ) (n m : ℕ) (e : Endpoint) → length t ≡ 2176 → n ≤ 128 → m < n
+pub count-store : (p : ℕ) (t : List ℕ) (n m : ℕ) (e : Endpoint) → length t ≡ word.table → n ≤ 128 → m < n
     → count (inPhase p (storeAt t m e)) 0 n + one (inPhase p t m) ≡ count (inPhase p t) 0 n + one (eqb (phaseWord (e .phase)) p)
 count-store p t n m e l h g =
     rw (word-same t m e word.phase l (omega arith) (omega arith)) at (count-change n (inPhase p t) (inPhase p (storeAt t m e)) 0 m (omega arith) (omega arith) (λ j ne. ap (λ (x : ℕ). eqb x p) (word-other t m j e word.phase ne (omega arith))))

@@ -19,7 +19,7 @@ use Rattle.endpoints.specs.Word as word
 
 -- ---- words
 
-pub word-same : (t : List ℕ) (i : ℕ) (e : Endpoint) (k : ℕ) → length t ≡ 2176 → i < 128 → k < word.width → wordAt (storeAt t i e) i k ≡ getD (words e) k 0
+pub word-same : (t : List ℕ) (i : ℕ) (e : Endpoint) (k : ℕ) → length t ≡ word.table → i < 128 → k < word.width → wordAt (storeAt t i e) i k ≡ getD (words e) k 0
 unfolding storeAt
 word-same t i e k l hi hk = getD-sets-in (words e) t (i * word.width) k 0 (omega arith) (omega arith)
 
@@ -67,7 +67,7 @@ entry-words e f =
     simp (phase-word (e .phase), flag-one (e .done), flag-one (e .success), flag-one (e .ready), flag-one (e .pending), mod-eq-of-lt (f .address), mod-eq-of-lt (f .state), mod-eq-of-lt (f .first), mod-eq-of-lt (f .last))
 
 -- at the place of the store it is the entry stored
-pub load-store-same : (t : List ℕ) (i : ℕ) (e : Endpoint) → length t ≡ 2176 → i < 128 → Fits e → entryAt (storeAt t i e) i ≡ e
+pub load-store-same : (t : List ℕ) (i : ℕ) (e : Endpoint) → length t ≡ word.table → i < 128 → Fits e → entryAt (storeAt t i e) i ≡ e
 unfolding entryAt
 load-store-same t i e l h f = entry-ext _ _ (λ k hk. word-same t i e k l h hk) ∙ entry-words e f
 

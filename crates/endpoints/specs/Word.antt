@@ -82,3 +82,7 @@ Ongoing = 2
 
 abbrev pub Ending : ℕ
 Ending = 3
+
+-- the whole table: 128 rows (01, "Sizes")
+abbrev pub table : ℕ
+table = 2176

@@ -1,11 +1,13 @@
 // The endpoint table: a row of words for each of 128 endpoints, lent as one array.
 use crate::Endpoint;
 use crate::Phase;
+use crate::Table;
 use crate::word;
 ghost use mathlib.Core.Path.{_≡_};
 ghost use Prim.Native.Nat.{_<_};
 ghost use lib.ListN.{length};
 ghost use Rattle.rows.specs.One.{one};
+ghost use Rattle.endpoints.specs.Word as word;
 ghost use Rattle.endpoints.specs.Table.{phaseOf, phaseWord, entryAt, storeAt, withPhase, newEndpoint};
 
 fn phase_of(word: u64) -> Phase
@@ -39,13 +41,13 @@ pub fn flag_word(flag: bool) -> u64
 fn lent(_words: &[u64]) {}
 
 // A lent table has all its words: a proof learns it where the array is lent on as a slice, and the laws of store ask for it.
-pub fn sized(table: &[u64; 2176])
-    ensures { λ r. ⌜ length (now (table .entry)) ≡ 2176 ⌝ }
+pub fn sized(table: &Table)
+    ensures { λ r. ⌜ length (now (table .entry)) ≡ word.table ⌝ }
 {
     lent(table);
 }
 
-pub fn load(table: &[u64; 2176], i: usize) -> Endpoint
+pub fn load(table: &Table, i: usize) -> Endpoint
     requires { ⌜ i < 128 ⌝ }
     ensures { λ r. ⌜ r ≡ entryAt (now (table .entry)) i ⌝ }
 {
@@ -71,7 +73,7 @@ pub fn load(table: &[u64; 2176], i: usize) -> Endpoint
     }
 }
 
-pub fn store(table: &mut [u64; 2176], i: usize, e: Endpoint)
+pub fn store(table: &mut Table, i: usize, e: Endpoint)
     requires { ⌜ i < 128 ⌝ }
     ensures { λ r. ⌜ now (table .exit) ≡ storeAt (now (table .entry)) i e ⌝ }
 {

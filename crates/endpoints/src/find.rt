@@ -1,4 +1,5 @@
 // The search for an endpoint: the first row of a device and an address.
+use crate::Table;
 use crate::word;
 use details::Found;
 ghost use mathlib.Core.Path.{_≡_};
@@ -17,7 +18,7 @@ fn is_endpoint(owner: u64, place: u64, device: u64, address: u8) -> bool
 }
 
 // From row 0 on: no token has a number above 15, so none finds a special endpoint (rows 0 to 2, numbers 0x10 to 0x12).
-pub fn find_endpoint(table: &[u64; 2176], n: usize, device: u64, address: u8) -> Found
+pub fn find_endpoint(table: &Table, n: usize, device: u64, address: u8) -> Found
     requires { ⌜ n ≤ 128 ⌝ }
     ensures { λ r. ⌜ r ≡ foundEndpoint (now (table .entry)) n device address ⌝ }
 {

@@ -6,6 +6,9 @@ pub mod phases;
 pub mod states;
 pub mod word;
 
+// The endpoint table, as it is lent.
+pub type Table = [u64; word::TABLE];
+
 // Where the last group of an endpoint stands. The groups before it are closed.
 pub enum Phase {
     // There is none, or an item has closed it.

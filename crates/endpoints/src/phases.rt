@@ -1,4 +1,5 @@
 // The loops over the endpoints' phases: who waits for an item, closing them, and ending all that is active.
+use crate::Table;
 use crate::link;
 use crate::word;
 use rows::width;
@@ -12,7 +13,7 @@ ghost use Rattle.endpoints.specs.Word as word;
 ghost use Rattle.endpoints.specs.Phases.{inPhase, count, waiting};
 
 // How many of the first n endpoints have the phase of this number.
-fn count_phase(table: &[u64; 2176], n: usize, phase: u64) -> usize
+fn count_phase(table: &Table, n: usize, phase: u64) -> usize
     requires { ⌜ n ≤ 128 ⌝ }
     ensures { λ r. ⌜ r ≡ count (inPhase phase (now (table .entry))) 0 n ⌝ }
 {
@@ -30,7 +31,7 @@ fn count_phase(table: &[u64; 2176], n: usize, phase: u64) -> usize
 }
 
 // How many of the first n endpoints wait for an item.
-pub fn count_waiting(table: &[u64; 2176], n: usize) -> usize
+pub fn count_waiting(table: &Table, n: usize) -> usize
     requires { ⌜ n ≤ 128 ⌝ }
     ensures { λ r. ⌜ r ≡ waiting (now (table .entry)) n ⌝ }
 {
@@ -38,7 +39,7 @@ pub fn count_waiting(table: &[u64; 2176], n: usize) -> usize
 }
 
 // How many of the first n endpoints have an active group.
-pub fn count_active(table: &[u64; 2176], n: usize) -> usize
+pub fn count_active(table: &Table, n: usize) -> usize
     requires { ⌜ n ≤ 128 ⌝ }
     ensures { λ r. ⌜ r ≡ active (now (table .entry)) n ⌝ }
 {
@@ -46,7 +47,7 @@ pub fn count_active(table: &[u64; 2176], n: usize) -> usize
 }
 
 // An E link for each endpoint that waits, from link `at` on.
-pub fn close_waiting(links: &mut [u64], at: usize, table: &[u64; 2176], n: usize, item: u64)
+pub fn close_waiting(links: &mut [u64], at: usize, table: &Table, n: usize, item: u64)
     requires { ⌜ n ≤ 128 ⌝ }
     requires { ⌜ at * linkWidth + length (closing (now table) item 0 n) ≤ length (now links) ⌝ }
     ensures { λ r. ⌜ now (links .exit) ≡ sets (now (links .entry)) (at * linkWidth) (closing (now (table .entry)) item 0 n) ⌝ }
@@ -71,7 +72,7 @@ fn change(word: u64, p: u64, q: u64) -> u64
     if word == p { q } else { word }
 }
 
-fn change_phases(table: &mut [u64; 2176], n: usize, p: u64, q: u64)
+fn change_phases(table: &mut Table, n: usize, p: u64, q: u64)
     requires { ⌜ n ≤ 128 ⌝ }
     ensures { λ r. ⌜ now (table .exit) ≡ each word.phase (becomes p q) (now (table .entry)) 0 n ⌝ }
 {
@@ -84,7 +85,7 @@ fn change_phases(table: &mut [u64; 2176], n: usize, p: u64, q: u64)
 }
 
 // No endpoint waits any more (add_item: ended is taken).
-pub fn clear_waiting(table: &mut [u64; 2176], n: usize)
+pub fn clear_waiting(table: &mut Table, n: usize)
     requires { ⌜ n ≤ 128 ⌝ }
     ensures { λ r. ⌜ now (table .exit) ≡ cleared (now (table .entry)) n ⌝ }
 {
@@ -92,7 +93,7 @@ pub fn clear_waiting(table: &mut [u64; 2176], n: usize)
 }
 
 // Every active group is over, early ones staying (handle_event).
-pub fn end_active(table: &mut [u64; 2176], n: usize)
+pub fn end_active(table: &mut Table, n: usize)
     requires { ⌜ n ≤ 128 ⌝ }
     ensures { λ r. ⌜ now (table .exit) ≡ ended (now (table .entry)) n ⌝ }
 {

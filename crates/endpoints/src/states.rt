@@ -1,4 +1,5 @@
 // The state row (add_endpoint_state): every endpoint's next state, and the bytes that are logged.
+use crate::Table;
 use crate::entry;
 use crate::word;
 ghost use mathlib.Core.Path.{_≡_};
@@ -36,7 +37,7 @@ fn next_state(same: bool, event: bool, start: bool, last: u8) -> u8
 pub fn add_endpoint_state(
     log: &mut [u8],
     at: usize,
-    table: &mut [u64; 2176],
+    table: &mut Table,
     n: usize,
     endpoint: usize,
     start: bool,

@@ -36,6 +36,9 @@ pub const PENDINGLINK: usize = 16;
 // How many words a row has.
 pub const WIDTH: usize = 17;
 
+// The whole table: 128 rows.
+pub const TABLE: usize = 2176;
+
 // The phase word: any other number is read as NONE.
 pub const NONE: u64 = 0;
 

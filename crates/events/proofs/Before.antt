@@ -6,6 +6,7 @@ use mathlib.Core.Path.{_≡_, refl, sym, subst}
 use Rattle.transaction.specs.Payload.{startPid}
 use Rattle.rules.specs.Decoder.{suspend, endAllActive}
 use Rattle.rules.specs.World.{World, withSlot, withKeepalive}
+use Rattle.rules.specs.declared.Stamp.{Stamp}
 use Rattle.update.specs.Update.{when}
 use Rattle.write.specs.Memory.{Memory, Room}
 use Rattle.event.specs.Event.{isCurrent}
@@ -19,15 +20,15 @@ use Rattle.tally.proofs.Formed.{three}
 use Rattle.events.specs.After.{slotAfter, keepaliveThen}
 use Rattle.events.specs.Ended.{endedMemory, settledMemory, SettlesIf}
 use Rattle.events.proofs.Ends.{reached-slot, reached-keepalive, reached-all}
-use Rattle.events.proofs.Reached.{memoryAt, Reached, reached-start}
+use Rattle.events.proofs.Reached.{memoryAt, worldWith, Reached, reached-start}
 use Rattle.events.proofs.Sane.{formed, is-ready, few-ended, reached-end, endable}
 
-abbrev pub beforeOf : Bool → State → World
-beforeOf true s = withKeepalive false (endAllActive (endPlayed (endingOf (worldAt s)) (worldAt s)))
-beforeOf false s = suspend (worldAt s)
+abbrev pub beforeOf : Bool → Stamp → State → World
+beforeOf true c s = withKeepalive false (endAllActive (endPlayed (endingOf (worldAt s)) (worldWith c s)))
+beforeOf false c s = suspend (worldWith c s)
 
-abbrev pub memoryThen : Bool → State → Memory
-memoryThen r s = settledMemory r (endingOf (worldAt s)) (s .decoder .counts .endpoints) (s .decoder .transaction .id) (startPid (s .decoder .transaction .style)) (memoryAt s)
+abbrev pub memoryThen : Bool → Stamp → State → Memory
+memoryThen r c s = settledMemory r (endingOf (worldAt s)) (s .decoder .counts .endpoints) (s .decoder .transaction .id) (startPid (s .decoder .transaction .style)) (memoryAt c s)
 
 none-then : (k : Bool) → false ≡ keepaliveThen true k
 none-then true = refl
@@ -37,15 +38,15 @@ same-then : (k : Bool) → k ≡ keepaliveThen false k
 same-then true = refl
 same-then false = refl
 
-pub rests : (r : Bool) (s : State) → isCurrent (beforeOf r s .slot) ≡ false
+pub rests : (r : Bool) (c : Stamp) (s : State) → isCurrent (beforeOf r c s .slot) ≡ false
 unfolding endPlayed
-rests true s = settled (s .decoder .slot)
-rests false s = suspended (s .decoder .slot)
+rests true c s = settled (s .decoder .slot)
+rests false c s = suspended (s .decoder .slot)
 
-pub slot-is : (r : Bool) (s : State) → beforeOf r s .slot ≡ slotAfter r (s .decoder .slot)
+pub slot-is : (r : Bool) (c : Stamp) (s : State) → beforeOf r c s .slot ≡ slotAfter r (s .decoder .slot)
 unfolding endPlayed
-slot-is true s = refl
-slot-is false s = refl
+slot-is true c s = refl
+slot-is false c s = refl
 
 -- the event endpoint's counts can grow
 pub record Grows (w : World) : Type 0 where
@@ -59,37 +60,37 @@ module _ (s : State) (sane : isIll s ≡ false) where
   pub some : 0 < s .decoder .counts .endpoints
   some = let l = three (formed s sane) in omega (arith, l)
 
-  module _ (known : Known (s .table)) (byte : startPid (s .decoder .transaction .style) < 256) where
-    reached-reset : Reached s false (beforeOf true s) (memoryThen true s)
+  module _ (c : Stamp) (known : Known (s .table)) (byte : startPid (s .decoder .transaction .style) < 256) where
+    reached-reset : Reached c s false (beforeOf true c s) (memoryThen true c s)
     unfolding settledMemory endPlayed
     reached-reset =
         let e = endingOf (worldAt s) in
         let k = s .decoder .keepalive in
-        let v = when (e .ends) (ended (e .old) (e .end)) (worldAt s) in
-        let m = endedMemory e (s .decoder .counts .endpoints) (s .decoder .transaction .id) (startPid (s .decoder .transaction .style)) (memoryAt s) in
-        let a = reached-slot s k v m (reached-end s sane known byte) (slotEnded (s .decoder .slot)) in
-        reached-keepalive s k _ _ (reached-all s k (withSlot (slotEnded (s .decoder .slot)) v) m a few) false
+        let v = when (e .ends) (ended (e .old) (e .end)) (worldWith c s) in
+        let m = endedMemory e (s .decoder .counts .endpoints) (s .decoder .transaction .id) (startPid (s .decoder .transaction .style)) (memoryAt c s) in
+        let a = reached-slot c s k v m (reached-end s sane c known byte) (slotEnded (s .decoder .slot)) in
+        reached-keepalive c s k _ _ (reached-all c s k (withSlot (slotEnded (s .decoder .slot)) v) m a few) false
 
-    reached-suspended : Reached s (s .decoder .keepalive) (beforeOf false s) (memoryThen false s)
+    reached-suspended : Reached c s (s .decoder .keepalive) (beforeOf false c s) (memoryThen false c s)
     unfolding settledMemory
-    reached-suspended = reached-slot s (s .decoder .keepalive) (worldAt s) (memoryAt s) (reached-start s (roomOf (s .logs)) (formed s sane) known) _
+    reached-suspended = reached-slot c s (s .decoder .keepalive) (worldWith c s) (memoryAt c s) (reached-start c s (roomOf (s .logs)) (formed s sane) known) _
 
-    pub reached-before : (r : Bool) → Reached s (keepaliveThen r (s .decoder .keepalive)) (beforeOf r s) (memoryThen r s)
-    reached-before true = subst (λ (b : Bool). Reached s b (beforeOf true s) (memoryThen true s)) (none-then (s .decoder .keepalive)) reached-reset
-    reached-before false = subst (λ (b : Bool). Reached s b (beforeOf false s) (memoryThen false s)) (same-then (s .decoder .keepalive)) reached-suspended
+    pub reached-before : (r : Bool) → Reached c s (keepaliveThen r (s .decoder .keepalive)) (beforeOf r c s) (memoryThen r c s)
+    reached-before true = subst (λ (b : Bool). Reached c s b (beforeOf true c s) (memoryThen true c s)) (none-then (s .decoder .keepalive)) reached-reset
+    reached-before false = subst (λ (b : Bool). Reached c s b (beforeOf false c s) (memoryThen false c s)) (same-then (s .decoder .keepalive)) reached-suspended
 
-    pub grows : (r : Bool) → Grows (beforeOf r s)
+    pub grows : (r : Bool) → Grows (beforeOf r c s)
     unfolding endPlayed
     grows true =
         let e = endingOf (worldAt s) in
-        let v = when (e .ends) (ended (e .old) (e .end)) (worldAt s) in
-        let f = few-ended s sane 0 (subst (λ (n : ℕ). 0 < n) (sym (reached-end s sane known byte .holds .count)) some) in
+        let v = when (e .ends) (ended (e .old) (e .end)) (worldWith c s) in
+        let f = few-ended s sane c 0 (subst (λ (n : ℕ). 0 < n) (sym (reached-end s sane c known byte .holds .count)) some) in
         record { transactions = omega (arith, f .transactions); groups = omega (arith, f .groups) }
     grows false = let f = is-ready s sane .entries 0 some in record { transactions = omega (arith, f .transactions); groups = omega (arith, f .groups) }
 
     -- what settle asks, from the room after it
-    pub settles-if : (r : Bool) → Room (memoryThen r s)
-        → SettlesIf r (endingOf (worldAt s)) (s .decoder .counts .endpoints) (s .decoder .transaction .id) (startPid (s .decoder .transaction .style)) (memoryAt s)
+    pub settles-if : (r : Bool) → Room (memoryThen r c s)
+        → SettlesIf r (endingOf (worldAt s)) (s .decoder .counts .endpoints) (s .decoder .transaction .id) (startPid (s .decoder .transaction .style)) (memoryAt c s)
     unfolding settledMemory
-    settles-if true m on = endable s sane known byte (record { groups = m .groups; states = m .states; statebytes = m .statebytes; items = m .items; links = m .links })
+    settles-if true m on = endable s sane c known byte (record { groups = m .groups; states = m .states; statebytes = m .statebytes; items = m .items; links = m .links })
     settles-if false m on = absurd (false≢true on)

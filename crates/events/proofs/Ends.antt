@@ -11,6 +11,7 @@ use Rattle.rules.specs.Rows.{log}
 use Rattle.rules.specs.Decoder.{endAllActive}
 use Rattle.rules.specs.World.{World, change, withSlot, withKeepalive}
 use Rattle.rules.specs.declared.Slot.{Slot}
+use Rattle.rules.specs.declared.Stamp.{Stamp}
 use Rattle.update.specs.Update.{when, act}
 use Rattle.write.specs.HoldsLaws.{holds-altered}
 use Rattle.write.specs.Memory.{Memory}
@@ -37,13 +38,13 @@ quiet : (x : ℕ) (e : End) (w : World) → e .effect ≡ NoEffect → ended x e
 unfolding ended
 quiet x e w q = ap (λ (f : Effect). effectStep f x (act (e .update) x (change x (becomes (e .entry)) w))) q
 
-module _ (s : State) (b : Bool) (w : World) (m : Memory) (h : Reached s b w m) where
+module _ (c : Stamp) (s : State) (b : Bool) (w : World) (m : Memory) (h : Reached c s b w m) where
   pub reached-ended : (x : ℕ) (e : End) → EndFits x e w → e .effect ≡ NoEffect
-      → Reached s b (ended x e w) (closedOn x e (s .decoder .counts .endpoints) (s .decoder .transaction .id) (startPid (s .decoder .transaction .style)) m)
+      → Reached c s b (ended x e w) (closedOn x e (s .decoder .counts .endpoints) (s .decoder .transaction .id) (startPid (s .decoder .transaction .style)) m)
   reached-ended x e f q =
       record {
         holds =
-            subst (λ (v : World). HoldsAt s v after) (sym (quiet x e w q))
+            subst (λ (v : World). HoldsAt c s v after) (sym (quiet x e w q))
             (holds-carried few byte x there (e .update) (holds-altered (h .holds) x (becomes (e .entry)) there few (λ a b. f .bytes)));
         table = carried-tabled few byte x there (e .update) (s .decoder .transaction .id) _ (tabled-store (h .table) few x (e .entry) there (f .bytes));
         devices = λ j. ended-devices x e w j ∙ ap (λ (g : Effect). placed (addsDevice g) (w .deviceCount) (fresh (addressOf g)) j (w .devices j)) q ∙ h .devices j;
@@ -70,17 +71,17 @@ module _ (s : State) (b : Bool) (w : World) (m : Memory) (h : Reached s b w m) w
       byte = subst (λ (p : ℕ). p < 256) (h .holds .began) (f .token)
 
   -- another slot
-  pub reached-slot : (z : Slot) → Reached s b (withSlot z w) m
+  pub reached-slot : (z : Slot) → Reached c s b (withSlot z w) m
   reached-slot z =
       record { holds = holds-alike (slot-alike w z) (h .holds); table = h .table; devices = h .devices; transaction = h .transaction; event = h .event; keepalive = h .keepalive; transactions = h .transactions; logs = h .logs }
 
   -- another keepalive group
-  pub reached-keepalive : (c : Bool) → Reached s c (withKeepalive c w) m
-  reached-keepalive c =
-      record { holds = holds-alike (keepalive-alike w c) (h .holds); table = h .table; devices = h .devices; transaction = h .transaction; event = h .event; keepalive = refl; transactions = h .transactions; logs = h .logs }
+  pub reached-keepalive : (k : Bool) → Reached c s k (withKeepalive k w) m
+  reached-keepalive k =
+      record { holds = holds-alike (keepalive-alike w k) (h .holds); table = h .table; devices = h .devices; transaction = h .transaction; event = h .event; keepalive = refl; transactions = h .transactions; logs = h .logs }
 
   -- every active group ends
-  pub reached-all : s .decoder .counts .endpoints ≤ 128 → Reached s b (endAllActive w) (allEnded (s .decoder .counts .endpoints) m)
+  pub reached-all : s .decoder .counts .endpoints ≤ 128 → Reached c s b (endAllActive w) (allEnded (s .decoder .counts .endpoints) m)
   reached-all few =
       record {
         holds = all-holds (h .holds) few;
@@ -94,6 +95,6 @@ module _ (s : State) (b : Bool) (w : World) (m : Memory) (h : Reached s b w m) w
       }
 
 -- a step that may be absent
-pub reached-when : (s : State) (b c : Bool) (f : World → World) (g : Memory → Memory) (w : World) (m : Memory) → (c ≡ true → Reached s b (f w) (g m)) → Reached s b w m → Reached s b (when c f w) (when c g m)
-reached-when s b true f g w m step h = step refl
-reached-when s b false f g w m step h = h
+pub reached-when : (c : Stamp) (s : State) (b on : Bool) (f : World → World) (g : Memory → Memory) (w : World) (m : Memory) → (on ≡ true → Reached c s b (f w) (g m)) → Reached c s b w m → Reached c s b (when on f w) (when on g m)
+reached-when c s b true f g w m step h = step refl
+reached-when c s b false f g w m step h = h

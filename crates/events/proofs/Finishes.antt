@@ -9,7 +9,7 @@ use lib.Seq.{sets}
 use Rattle.transaction.specs.Payload.{startPid}
 use Rattle.rules.specs.Decoder.{finish}
 use Rattle.rules.specs.Rows.{log}
-use Rattle.rules.specs.World.{World, withSlot}
+use Rattle.rules.specs.World.{World, withSlot, stamp}
 use Rattle.update.specs.Update.{when}
 use Rattle.write.specs.HoldsLaws.{holds-room}
 use Rattle.write.specs.Memory.{Memory}
@@ -48,7 +48,7 @@ module _ (s : State) where
   sumAt = sumOf (s .decoder .counts) (tallyEnding endAt (s .decoder .counts .endpoints) (s .decoder .waiting)) (roomOf (s .logs))
 
   abbrev pub endedAt : Memory
-  endedAt = endedMemory endAt (s .decoder .counts .endpoints) (s .decoder .transaction .id) (startPid (s .decoder .transaction .style)) (memoryAt s)
+  endedAt = endedMemory endAt (s .decoder .counts .endpoints) (s .decoder .transaction .id) (startPid (s .decoder .transaction .style)) (memoryAt (stamp 0 0) s)
 
 module _ (s : State) (sane : isIll s ≡ false) (known : Known (s .table)) where
   full-is : isFull s (finish (worldAt s)) ≡ not (sumAt s .fits)
@@ -70,11 +70,11 @@ module _ (s : State) (sane : isIll s ≡ false) (known : Known (s .table)) where
   finish-full going e = refused 7 (answer-is going false e) refl
 
   module _ (byte : startPid (s .decoder .transaction .style) < 256) (going : s .decoder .finished ≡ false) (fits : sumAt s .fits ≡ true) where
-    pub finish-endable : Endable (endAt s) (s .decoder .counts .endpoints) (s .decoder .transaction .id) (startPid (s .decoder .transaction .style)) (memoryAt s)
+    pub finish-endable : Endable (endAt s) (s .decoder .counts .endpoints) (s .decoder .transaction .id) (startPid (s .decoder .transaction .style)) (memoryAt (stamp 0 0) s)
     unfolding sumOf endPlayed
     finish-endable =
-        endable s sane known byte
-        (holds-room (reached-end s sane known byte .holds) (space s (tallyEnding (endAt s) (s .decoder .counts .endpoints) (s .decoder .waiting)) (endPlayed (endAt s) (worldAt s)) (end-adds s sane) (within _ _ fits)))
+        endable s sane (stamp 0 0) known byte
+        (holds-room (reached-end s sane (stamp 0 0) known byte .holds) (space (stamp 0 0) s (tallyEnding (endAt s) (s .decoder .counts .endpoints) (s .decoder .waiting)) (endPlayed (endAt s) (worldAt s)) (end-adds s sane (stamp 0 0)) (within _ _ fits)))
 
     -- the state that it leaves
     abbrev pub finishedState : State
@@ -86,10 +86,10 @@ module _ (s : State) (sane : isIll s ≡ false) (known : Known (s .table)) where
     unfolding sumOf endPlayed
     played-left =
         let v = when (endAt s .ends) (ended (endAt s .old) (endAt s .end)) (worldAt s) in
-        let r = reached-slot s (s .decoder .keepalive) v (endedAt s) (reached-end s sane known byte) (slotEnded (s .decoder .slot)) in
-        let a = end-adds s sane in
+        let r = reached-slot (stamp 0 0) s (s .decoder .keepalive) v (endedAt s) (reached-end s sane (stamp 0 0) known byte) (slotEnded (s .decoder .slot)) in
+        let a = end-adds s sane (stamp 0 0) in
         let none : (k : ℕ) → k < 6 → log k (v .journal) ≡ [] = λ k u. r .logs k (λ j g h. ne-eqb j k (λ e. omega arith)) in
-        left-of s (withSlot (slotEnded (s .decoder .slot)) v) (endedAt s) (r .holds) (r .table) (known .size) (r .devices) (r .transaction) true _ _ _ _ _
+        left-of (stamp 0 0) s (withSlot (slotEnded (s .decoder .slot)) v) (endedAt s) (r .holds) (r .table) (known .size) (r .devices) (r .transaction) true _ _ _ _ _
         (counts-after (world-has (s .decoder) (s .devices) (s .table)) a) refl (r .event) (r .keepalive) (a .waiting) (s .logs .packets) (s .logs .events) (s .logs .transactions)
         (record {
           bytes = none 0 (omega arith);
@@ -112,15 +112,15 @@ sum-at s e room r p q h =
     h ∙ ap (λ (x : Ending). sumOf (s .decoder .counts) (tallyEnding x (s .decoder .counts .endpoints) (s .decoder .waiting)) room) p
     ∙ ap (sumOf (s .decoder .counts) (tallyEnding (endAt s) (s .decoder .counts .endpoints) (s .decoder .waiting))) q
 
-pub end-asks : (s : State) (e : Ending) (pid : ℕ) (h : Written) → e ≡ endAt s → pid ≡ startPid (s .decoder .transaction .style) → h ≡ writtenOf (s .decoder)
-    → Endable (endAt s) (s .decoder .counts .endpoints) (s .decoder .transaction .id) (startPid (s .decoder .transaction .style)) (memoryAt s)
+pub end-asks : (s : State) (e : Ending) (pid : ℕ) (h : Written) → e ≡ endAt s → pid ≡ startPid (s .decoder .transaction .style) → h ≡ writtenOf (stamp 0 0) (s .decoder)
+    → Endable (endAt s) (s .decoder .counts .endpoints) (s .decoder .transaction .id) (startPid (s .decoder .transaction .style)) (memoryAt (stamp 0 0) s)
     → Endable e (s .decoder .counts .endpoints) (s .decoder .transaction .id) pid (firstMemory s h)
 end-asks s e pid h p q r a =
     subst (λ (x : Ending). Endable x (s .decoder .counts .endpoints) (s .decoder .transaction .id) pid (firstMemory s h)) (sym p)
     (subst (λ (x : ℕ). Endable (endAt s) (s .decoder .counts .endpoints) (s .decoder .transaction .id) x (firstMemory s h)) (sym q)
     (subst (λ (x : Written). Endable (endAt s) (s .decoder .counts .endpoints) (s .decoder .transaction .id) (startPid (s .decoder .transaction .style)) (firstMemory s x)) (sym r) a))
 
-pub ended-at : (s : State) (e : Ending) (pid : ℕ) (h : Written) (m : Memory) → e ≡ endAt s → pid ≡ startPid (s .decoder .transaction .style) → h ≡ writtenOf (s .decoder)
+pub ended-at : (s : State) (e : Ending) (pid : ℕ) (h : Written) (m : Memory) → e ≡ endAt s → pid ≡ startPid (s .decoder .transaction .style) → h ≡ writtenOf (stamp 0 0) (s .decoder)
     → m ≡ endedMemory e (s .decoder .counts .endpoints) (s .decoder .transaction .id) pid (firstMemory s h) → m ≡ endedAt s
 ended-at s e pid h m p q r a =
     a ∙ ap (λ (x : Ending). endedMemory x (s .decoder .counts .endpoints) (s .decoder .transaction .id) pid (firstMemory s h)) p

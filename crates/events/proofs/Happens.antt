@@ -16,7 +16,8 @@ use Rattle.endpoints.specs.Each.{active}
 use Rattle.rules.specs.Decoder.{suspend, endAllActive, endAll, handleEvent}
 use Rattle.rules.specs.Events as rules
 use Rattle.rules.specs.Rows.{log}
-use Rattle.rules.specs.World.{World, withKeepalive, waitingOf}
+use Rattle.rules.specs.World.{World, withKeepalive, waitingOf, stamp}
+use Rattle.rules.specs.declared.Stamp.{Stamp}
 use Rattle.tally.specs.Tally.{inLog, Adds}
 use Rattle.tally.specs.declared.add.Tally.{Tally}
 use Rattle.write.specs.Memory.{Memory}
@@ -28,10 +29,13 @@ use Rattle.call.specs.Outcome.{Left, isIll, isFull, isOver, worldAt}
 use Rattle.call.specs.OutcomeLaws.{refused, accepted}
 use Rattle.call.specs.State.{State, state, logs, roomBy, roomOf}
 use Rattle.call.specs.Share.{Known}
-use Rattle.plan.specs.Ending.{endingOf}
+use Rattle.plan.specs.Ending.{endingOf, endPlayed}
+use Rattle.plan.specs.declared.Ending.{Ending}
 use Rattle.plan.proofs.Ends.{ending-is}
 use Rattle.tally.specs.Event.{eventPlayed}
 use Rattle.tally.specs.Tallies.{tallyKeepalive, tallyEvent, addCounts}
+use Rattle.tally.specs.Suited.{EndingTotals}
+use Rattle.tally.proofs.Counted.{adds-from}
 use Rattle.tally.proofs.Anew.{ending-acts, actives-table}
 use Rattle.tally.proofs.Counts.{counts-after, state-full, world-has}
 use Rattle.tally.proofs.Events.{keepalive-adds, event-played-adds}
@@ -43,22 +47,27 @@ use Rattle.events.specs.Call.{eventTestsOf, EventCall}
 use Rattle.events.specs.Ended.{SettlesIf}
 use Rattle.events.specs.declared.sum.Sum.{Sum}
 use Rattle.events.proofs.Before.{beforeOf, memoryThen, rests, slot-is, few, some, reached-before, grows, settles-if}
-use Rattle.events.proofs.Reached.{memoryAt, Reached, space, left-of}
-use Rattle.events.proofs.Sane.{totalled, formed, suits}
+use Rattle.events.proofs.Reached.{memoryAt, worldWith, Reached, space, left-of}
+use Rattle.events.proofs.Sane.{totalled, formed, suits, ending-with}
 use Rattle.events.proofs.Tail.{rowsMemory, AbleAt, Tailed, rowed, room-before, tailed}
 
 -- ---- the world after it
 
+-- what it brings
+abbrev pub brings : ℕ → State → Stamp
+brings time s = stamp (s .decoder .counts .packets) time
+
 abbrev pub playedOf : Bool → ℕ → ℕ → ℕ → State → World
-playedOf r kind code time s = rules.eventUpdate (s .decoder .counts .packets) kind (rowed s code time (beforeOf r s))
+playedOf r kind code time s = rules.eventUpdate (s .decoder .counts .packets) kind (rowed s code time (beforeOf r (brings time s) s))
 
 handle-is : (kind code time : ℕ) (s : State) → handleEvent kind code time (worldAt s) ≡ playedOf (resetsBy kind) kind code time s
 unfolding handleEvent
 handle-is kind code time s = by (eqb kind 0)
   where
-    by : (b : Bool) → rules.eventUpdate (s .decoder .counts .packets) kind (rowed s code time (pick b (suspend (worldAt s)) (endAll (worldAt s)))) ≡ playedOf (not b) kind code time s
+    by : (b : Bool) → rules.eventUpdate (s .decoder .counts .packets) kind (rowed s code time (pick b (suspend (worldWith (brings time s) s)) (endAll (worldWith (brings time s) s)))) ≡ playedOf (not b) kind code time s
     by true = refl
-    by false = ap (λ (v : World). rules.eventUpdate (s .decoder .counts .packets) kind (rowed s code time (withKeepalive false (endAllActive v)))) (ending-is (worldAt s))
+    by false = ap (λ (v : World). rules.eventUpdate (s .decoder .counts .packets) kind (rowed s code time (withKeepalive false (endAllActive v))))
+        (ending-is (worldWith (brings time s) s) ∙ ap (λ (e : Ending). endPlayed e (worldWith (brings time s) s)) (ending-with (brings time s) s))
 
 -- the tally of its rows
 abbrev pub tallyAt : Bool → ℕ → State → Tally
@@ -81,7 +90,7 @@ module _ (s : State) (sane : isIll s ≡ false) (code time : ℕ) where
       let a = rules.turnOf (s .decoder .event) kind .act in
       subst (λ (n : ℕ). Adds (tallyEvent e a (s .decoder .counts .endpoints) n (active (s .table) (s .decoder .counts .endpoints))) (worldAt s) (playedOf true kind code time s)) (waiting-is (formed s sane))
       (subst (λ (n : ℕ). Adds (tallyEvent e a (s .decoder .counts .endpoints) (waitingOf (worldAt s)) n) (worldAt s) (playedOf true kind code time s)) (actives-table (s .decoder) (s .devices) (s .table))
-      (event-played-adds e kind code time (worldAt s) (some s sane) (suits s sane) (ending-acts (worldAt s))))
+      (adds-from (brings time s) (event-played-adds e kind code time (worldWith (brings time s) s) (some s sane) (suits s sane (brings time s)) (ending-acts (worldAt s)))))
 
   pub event-adds : (kind : ℕ) → Adds (tallyAt (resetsBy kind) kind s) (worldAt s) (playedOf (resetsBy kind) kind code time s)
   event-adds kind = by (eqb kind 0) refl
@@ -96,7 +105,7 @@ module _ (s : State) (sane : isIll s ≡ false) (code time : ℕ) where
     where
       by : (b : Bool) → eqb kind 0 ≡ b → isOver (playedOf (not b) kind code time s) ≡ false
       by true e = subst (λ (x : ℕ). isOver (playedOf false x code time s) ≡ false) (sym (eqb-true kind 0 e)) (keepalive-over code time (worldAt s) (totalled s known))
-      by false e = event-over (endingOf (worldAt s)) kind code time (worldAt s) (ending-totals (worldAt s)) (totalled s known)
+      by false e = event-over (endingOf (worldAt s)) kind code time (worldWith (brings time s) s) (subst (λ (a : Ending). EndingTotals a (worldWith (brings time s) s)) (ending-with (brings time s) s) (ending-totals (worldWith (brings time s) s))) (totalled s known)
 
 -- ---- its answer
 
@@ -128,17 +137,17 @@ module _ (s : State) (sane : isIll s ≡ false) (known : Known (s .table)) (goin
     alive = keepaliveThen (resetsBy kind) (s .decoder .keepalive)
 
     abbrev settled : Memory
-    settled = memoryThen (resetsBy kind) s
+    settled = memoryThen (resetsBy kind) (brings time s) s
 
     abbrev final : World
     final = playedOf (resetsBy kind) kind code time s
 
-    reached : Reached s alive (beforeOf (resetsBy kind) s) settled
-    reached = reached-before s sane known byte (resetsBy kind)
+    reached : Reached (brings time s) s alive (beforeOf (resetsBy kind) (brings time s) s) settled
+    reached = reached-before s sane (brings time s) known byte (resetsBy kind)
 
-    tail : Tailed s code time (beforeOf (resetsBy kind) s .slot) turn alive settled final
+    tail : Tailed (brings time s) s code time (beforeOf (resetsBy kind) (brings time s) s .slot) turn alive settled final
     tail =
-        tailed s alive (beforeOf (resetsBy kind) s) settled reached (few s sane) (some s sane) (rests (resetsBy kind) s) (grows s sane known byte (resetsBy kind)) kind code time
+        tailed (brings time s) s alive (beforeOf (resetsBy kind) (brings time s) s) settled reached (few s sane) (some s sane) (rests (resetsBy kind) (brings time s) s) (grows s sane (brings time s) known byte (resetsBy kind)) kind code time
 
     inside : Within (addCounts (s .decoder .counts) (tallyAt (resetsBy kind) kind s)) (roomOf (s .logs))
     unfolding sumOf
@@ -146,10 +155,10 @@ module _ (s : State) (sane : isIll s ≡ false) (known : Known (s .table)) (goin
 
     -- what event_rows, settle and put_event ask
     pub event-ables : AbleAt s turn alive settled
-    event-ables = tail .able (space s (tallyAt (resetsBy kind) kind s) final (event-adds s sane code time kind) inside)
+    event-ables = tail .able (space (brings time s) s (tallyAt (resetsBy kind) kind s) final (event-adds s sane code time kind) inside)
 
-    pub event-settles : SettlesIf (resetsBy kind) (endingOf (worldAt s)) (s .decoder .counts .endpoints) (s .decoder .transaction .id) (startPid (s .decoder .transaction .style)) (memoryAt s)
-    event-settles = settles-if s sane known byte (resetsBy kind) (room-before _ _ _ _ _ settled event-ables)
+    pub event-settles : SettlesIf (resetsBy kind) (endingOf (worldAt s)) (s .decoder .counts .endpoints) (s .decoder .transaction .id) (startPid (s .decoder .transaction .style)) (memoryAt (brings time s) s)
+    event-settles = settles-if s sane (brings time s) known byte (resetsBy kind) (room-before _ _ _ _ _ settled event-ables)
 
     pub event-puts : ((s .decoder .counts .packets + 1) * packetWidth ≤ length (s .logs .packets)) × (((s .decoder .counts .events + 1) * eventWidth ≤ length (s .logs .events)) × (s .decoder .counts .transactions * transactionWidth + length (opt (addsRow (turn .act)) (s .decoder .counts .packets ∷ [])) ≤ length (s .logs .transactions)))
     unfolding addCounts roomBy inLog
@@ -183,8 +192,8 @@ module _ (s : State) (sane : isIll s ≡ false) (known : Known (s .table)) (goin
     unfolding sumOf
     final-left =
         let a = event-adds s sane code time kind in
-        left-of s final eventMemory (tail .holds) (event-rows-tabled (few s sane) (some s sane) _ _ _ _ settled (reached .table)) (known .size) (tail .devices) (tail .transaction) (s .decoder .finished) _ _ _ _ _
-        (counts-after (world-has (s .decoder) (s .devices) (s .table)) a) (tail .slot ∙ slot-is (resetsBy kind) s) (tail .event) (tail .keepalive) (a .waiting) _ _ _
+        left-of (brings time s) s final eventMemory (tail .holds) (event-rows-tabled (few s sane) (some s sane) _ _ _ _ settled (reached .table)) (known .size) (tail .devices) (tail .transaction) (s .decoder .finished) _ _ _ _ _
+        (counts-after (world-has (s .decoder) (s .devices) (s .table)) a) (tail .slot ∙ slot-is (resetsBy kind) (brings time s) s) (tail .event) (tail .keepalive) (a .waiting) _ _ _
         (record {
           bytes = tail .first 0 (omega arith);
           devices = tail .first 1 (omega arith);

@@ -22,11 +22,12 @@ use Rattle.plan.specs.declared.Ending.{Ending}
 use Rattle.events.specs.After.{resetsBy, keepaliveThen, sumOf, Decides, eventDecoder}
 use Rattle.events.specs.Call.{EventCall}
 use Rattle.events.specs.Ended.{settledMemory, SettlesIf}
+use Rattle.rules.specs.declared.Stamp.{Stamp}
 use Rattle.call.specs.Share.{writtenOf}
 use Rattle.events.specs.declared.decided.Decided.{Decided}
 use Rattle.events.specs.declared.sum.Sum.{Sum}
 use Rattle.events.proofs.Before.{memoryThen}
-use Rattle.events.proofs.Happens.{tallyAt, eventSum}
+use Rattle.events.proofs.Happens.{brings, tallyAt, eventSum}
 use Rattle.events.proofs.Reached.{firstMemory, memoryAt}
 use Rattle.events.proofs.Tail.{rowsMemory, AbleAt}
 
@@ -59,8 +60,8 @@ module _ (s : State) (kind : ℕ) (room : Counts) (r : Decided) (q : Decides (s 
         start = g ∙ ap startsGroup act-at;
       }
 
-  module _ (pid : ℕ) (h : Written) (e : pid ≡ startPid (s .decoder .transaction .style)) (f : h ≡ writtenOf (s .decoder)) where
-    pub settles-at : SettlesIf (resetsBy kind) (endingOf (worldAt s)) (s .decoder .counts .endpoints) (s .decoder .transaction .id) (startPid (s .decoder .transaction .style)) (memoryAt s)
+  module _ (c : Stamp) (pid : ℕ) (h : Written) (e : pid ≡ startPid (s .decoder .transaction .style)) (f : h ≡ writtenOf c (s .decoder)) where
+    pub settles-at : SettlesIf (resetsBy kind) (endingOf (worldAt s)) (s .decoder .counts .endpoints) (s .decoder .transaction .id) (startPid (s .decoder .transaction .style)) (memoryAt c s)
         → SettlesIf (r .resets) (r .end) (s .decoder .counts .endpoints) (s .decoder .transaction .id) pid (firstMemory s h)
     settles-at a =
         subst (λ (b : Bool). SettlesIf b (r .end) (s .decoder .counts .endpoints) (s .decoder .transaction .id) pid (firstMemory s h)) (sym (q .resets))
@@ -68,7 +69,7 @@ module _ (s : State) (kind : ℕ) (room : Counts) (r : Decided) (q : Decides (s 
         (subst (λ (p : ℕ). SettlesIf (resetsBy kind) (endingOf (worldAt s)) (s .decoder .counts .endpoints) (s .decoder .transaction .id) p (firstMemory s h)) (sym e)
         (subst (λ (t : Written). SettlesIf (resetsBy kind) (endingOf (worldAt s)) (s .decoder .counts .endpoints) (s .decoder .transaction .id) (startPid (s .decoder .transaction .style)) (firstMemory s t)) (sym f) a)))
 
-    pub settled-at : (m : Memory) → m ≡ settledMemory (r .resets) (r .end) (s .decoder .counts .endpoints) (s .decoder .transaction .id) pid (firstMemory s h) → m ≡ memoryThen (resetsBy kind) s
+    pub settled-at : (m : Memory) → m ≡ settledMemory (r .resets) (r .end) (s .decoder .counts .endpoints) (s .decoder .transaction .id) pid (firstMemory s h) → m ≡ memoryThen (resetsBy kind) c s
     settled-at m a =
         a ∙ ap (λ (b : Bool). settledMemory b (r .end) (s .decoder .counts .endpoints) (s .decoder .transaction .id) pid (firstMemory s h)) (q .resets)
         ∙ ap (λ (x : Ending). settledMemory (resetsBy kind) x (s .decoder .counts .endpoints) (s .decoder .transaction .id) pid (firstMemory s h)) (q .end)
@@ -83,20 +84,27 @@ module _ (s : State) (kind : ℕ) (room : Counts) (r : Decided) (q : Decides (s 
       ∙ ap (λ (x : Sum). eventDecoder (s .decoder) (resetsBy kind) (turnAt s kind) x h) (sum-at e)
 
 module _ (s : State) (kind : ℕ) {row group start : Bool} (f : Flags s kind row group start) where
-  pub puts-at : ((s .decoder .counts .packets + 1) * packetWidth ≤ length (s .logs .packets)) × (((s .decoder .counts .events + 1) * eventWidth ≤ length (s .logs .events)) × (s .decoder .counts .transactions * transactionWidth + length (opt (addsRow (turnAt s kind .act)) (s .decoder .counts .packets ∷ [])) ≤ length (s .logs .transactions)))
-      → ((s .decoder .counts .packets + 1) * packetWidth ≤ length (s .logs .packets)) × (((s .decoder .counts .events + 1) * eventWidth ≤ length (s .logs .events)) × (s .decoder .counts .transactions * transactionWidth + length (opt row (s .decoder .counts .packets ∷ [])) ≤ length (s .logs .transactions)))
-  puts-at a =
-      subst (λ (b : Bool). ((s .decoder .counts .packets + 1) * packetWidth ≤ length (s .logs .packets)) × (((s .decoder .counts .events + 1) * eventWidth ≤ length (s .logs .events)) × (s .decoder .counts .transactions * transactionWidth + length (opt b (s .decoder .counts .packets ∷ [])) ≤ length (s .logs .transactions)))) (sym (f .row)) a
+  pub puts-at : (c : Stamp) → c .packet ≡ s .decoder .counts .packets
+      → ((s .decoder .counts .packets + 1) * packetWidth ≤ length (s .logs .packets)) × (((s .decoder .counts .events + 1) * eventWidth ≤ length (s .logs .events)) × (s .decoder .counts .transactions * transactionWidth + length (opt (addsRow (turnAt s kind .act)) (s .decoder .counts .packets ∷ [])) ≤ length (s .logs .transactions)))
+      → ((s .decoder .counts .packets + 1) * packetWidth ≤ length (s .logs .packets)) × (((s .decoder .counts .events + 1) * eventWidth ≤ length (s .logs .events)) × (s .decoder .counts .transactions * transactionWidth + length (opt row (c .packet ∷ [])) ≤ length (s .logs .transactions)))
+  puts-at c e a = (
+    a .0,
+    (
+      a .1 .0,
+      subst (λ (i : ℕ). s .decoder .counts .transactions * transactionWidth + length (opt row (i ∷ [])) ≤ length (s .logs .transactions)) (sym e)
+          (subst (λ (b : Bool). s .decoder .counts .transactions * transactionWidth + length (opt b (s .decoder .counts .packets ∷ [])) ≤ length (s .logs .transactions)) (sym (f .row)) (a .1 .1)),
+    ),
+  )
 
-  module _ (m : Memory) (e : m ≡ memoryThen (resetsBy kind) s) where
-    pub able-at : AbleAt s (turnAt s kind) (aliveAt s kind) (memoryThen (resetsBy kind) s) → Able row group start (s .decoder .counts .endpoints) (s .decoder .counts .transactions) m
+  module _ (c : Stamp) (m : Memory) (e : m ≡ memoryThen (resetsBy kind) c s) where
+    pub able-at : AbleAt s (turnAt s kind) (aliveAt s kind) (memoryThen (resetsBy kind) c s) → Able row group start (s .decoder .counts .endpoints) (s .decoder .counts .transactions) m
     able-at a =
         subst (λ (b : Bool). Able b group start (s .decoder .counts .endpoints) (s .decoder .counts .transactions) m) (sym (f .row))
         (subst (λ (b : Bool). Able (addsRow (turnAt s kind .act)) b start (s .decoder .counts .endpoints) (s .decoder .counts .transactions) m) (sym (f .group))
         (subst (λ (b : Bool). Able (addsRow (turnAt s kind .act)) (addsGroup (turnAt s kind .act) (aliveAt s kind)) b (s .decoder .counts .endpoints) (s .decoder .counts .transactions) m) (sym (f .start))
         (subst (AbleAt s (turnAt s kind) (aliveAt s kind)) (sym e) a)))
 
-    pub rows-at : (v : Memory) → v ≡ eventRows row group start (s .decoder .counts .endpoints) (s .decoder .counts .transactions) m → v ≡ rowsMemory s (turnAt s kind) (aliveAt s kind) (memoryThen (resetsBy kind) s)
+    pub rows-at : (v : Memory) → v ≡ eventRows row group start (s .decoder .counts .endpoints) (s .decoder .counts .transactions) m → v ≡ rowsMemory s (turnAt s kind) (aliveAt s kind) (memoryThen (resetsBy kind) c s)
     rows-at v a =
         a ∙ ap (λ (b : Bool). eventRows b group start (s .decoder .counts .endpoints) (s .decoder .counts .transactions) m) (f .row)
         ∙ ap (λ (b : Bool). eventRows (addsRow (turnAt s kind .act)) b start (s .decoder .counts .endpoints) (s .decoder .counts .transactions) m) (f .group)
@@ -109,18 +117,18 @@ abbrev pub leaves : State → Decoder → List ℕ → List ℕ → List ℕ →
 leaves s d p e t m = state d (s .devices) (m .table) (logs (s .logs .bytes) (s .logs .devices) (s .logs .endpoints) p e t (m .groups) (m .statebytes) (m .states) (m .items) (m .links) (s .logs .requests))
 
 -- its packet, event and transaction rows
-abbrev pub packetsAt : State → ℕ → List ℕ
-packetsAt s time = sets (s .logs .packets) (s .decoder .counts .packets * packetWidth) (s .decoder .counts .bytes ∷ time ∷ [])
+abbrev pub packetsAt : State → Stamp → List ℕ
+packetsAt s c = sets (s .logs .packets) (s .decoder .counts .packets * packetWidth) (s .decoder .counts .bytes ∷ c .time ∷ [])
 
-abbrev pub eventsAt : State → ℕ → List ℕ
-eventsAt s code = sets (s .logs .events) (s .decoder .counts .events * eventWidth) (s .decoder .counts .packets ∷ code ∷ [])
+abbrev pub eventsAt : State → Stamp → ℕ → List ℕ
+eventsAt s c code = sets (s .logs .events) (s .decoder .counts .events * eventWidth) (c .packet ∷ code ∷ [])
 
-abbrev pub transactionsAt : State → Bool → List ℕ
-transactionsAt s row = sets (s .logs .transactions) (s .decoder .counts .transactions * transactionWidth) (opt row (s .decoder .counts .packets ∷ []))
+abbrev pub transactionsAt : State → Stamp → Bool → List ℕ
+transactionsAt s c row = sets (s .logs .transactions) (s .decoder .counts .transactions * transactionWidth) (opt row (c .packet ∷ []))
 
 module _ (s : State) (kind code time : ℕ) where
   abbrev rowsAfter : Memory
-  rowsAfter = rowsMemory s (turnAt s kind) (aliveAt s kind) (memoryThen (resetsBy kind) s)
+  rowsAfter = rowsMemory s (turnAt s kind) (aliveAt s kind) (memoryThen (resetsBy kind) (brings time s) s)
 
   abbrev decoderAt : Memory → Decoder
   decoderAt m = eventDecoder (s .decoder) (resetsBy kind) (turnAt s kind) (eventSum kind s) (m .written)
@@ -128,15 +136,15 @@ module _ (s : State) (kind code time : ℕ) where
   abbrev Happens : State → Type 0
   Happens s′ = EventCall kind code time s 0 s′
 
-  pub event-returns : (m : Memory) (d : Decoder) (row : Bool) (p e t : List ℕ)
-      → Happens (leaves s (decoderAt rowsAfter) (packetsAt s time) (eventsAt s code) (transactionsAt s (addsRow (turnAt s kind .act))) rowsAfter)
-      → m ≡ rowsAfter → d ≡ decoderAt m → row ≡ addsRow (turnAt s kind .act) → p ≡ packetsAt s time → e ≡ eventsAt s code → t ≡ transactionsAt s row → Happens (leaves s d p e t m)
-  event-returns m d row p e t a hm hd hr hp he ht =
-      let q = packetsAt s time in
-      let f = eventsAt s code in
-      let u = transactionsAt s (addsRow (turnAt s kind .act)) in
-      subst (λ (x : List ℕ). Happens (leaves s d x e t m)) (sym hp)
-      (subst (λ (x : List ℕ). Happens (leaves s d q x t m)) (sym he)
-      (subst (λ (x : List ℕ). Happens (leaves s d q f x m)) (sym (ht ∙ ap (transactionsAt s) hr))
+  pub event-returns : (c : Stamp) → c ≡ brings time s → (m : Memory) (d : Decoder) (row : Bool) (p e t : List ℕ)
+      → Happens (leaves s (decoderAt rowsAfter) (packetsAt s (brings time s)) (eventsAt s (brings time s) code) (transactionsAt s (brings time s) (addsRow (turnAt s kind .act))) rowsAfter)
+      → m ≡ rowsAfter → d ≡ decoderAt m → row ≡ addsRow (turnAt s kind .act) → p ≡ packetsAt s c → e ≡ eventsAt s c code → t ≡ transactionsAt s c row → Happens (leaves s d p e t m)
+  event-returns c hc m d row p e t a hm hd hr hp he ht =
+      let q = packetsAt s (brings time s) in
+      let f = eventsAt s (brings time s) code in
+      let u = transactionsAt s (brings time s) (addsRow (turnAt s kind .act)) in
+      subst (λ (x : List ℕ). Happens (leaves s d x e t m)) (sym (hp ∙ ap (packetsAt s) hc))
+      (subst (λ (x : List ℕ). Happens (leaves s d q x t m)) (sym (he ∙ ap (λ (x : Stamp). eventsAt s x code) hc))
+      (subst (λ (x : List ℕ). Happens (leaves s d q f x m)) (sym (ht ∙ λ i. transactionsAt s (hc i) (hr i)))
       (subst (λ (x : Decoder). Happens (leaves s x q f u m)) (sym hd)
       (subst (λ (v : Memory). Happens (leaves s (decoderAt v) q f u v)) (sym hm) a))))

@@ -7,11 +7,13 @@ use mathlib.Core.Path.{_≡_, refl, sym, ap, _∙_, subst}
 use lib.Dec.{eqb}
 use lib.ListN.{length, getD}
 use lib.Seq.{sets}
+use Rattle.endpoints.specs.Word as word
 use Rattle.rows.specs.Widths.{eventWidth, packetWidth, transactionWidth}
+use Rattle.rows.specs.WidthsLaws.{each-log}
 use Rattle.transaction.specs.Payload.{startPid}
 use Rattle.details.specs.Search.{blank}
 use Rattle.rules.specs.Rows.{Row, log}
-use Rattle.rules.specs.World.{World, waitingOf}
+use Rattle.rules.specs.World.{World, withContext, waitingOf}
 use Rattle.rules.specs.declared.EventState.{EventState}
 use Rattle.rules.specs.declared.Slot.{Slot}
 use Rattle.tally.specs.Tally.{inLog, Adds}
@@ -25,7 +27,9 @@ use Rattle.record.specs.RoomLaws.{Within}
 use Rattle.record.specs.TabledLaws.{Tabled, tabled-start}
 use Rattle.record.specs.declared.Counts.{Counts}
 use Rattle.call.specs.Outcome.{Appends, Left, countsAfter, decoderOf, worldAt}
+use Rattle.call.specs.StateLaws.{word-each}
 use Rattle.call.specs.State.{Logs, State, state, logs, roomBy, roomOf}
+use Rattle.rules.specs.declared.Stamp.{Stamp}
 use Rattle.call.specs.Share.{Known, writtenOf, tied}
 use Rattle.plan.proofs.Played.{tiedTo, Tied}
 use Rattle.tally.specs.Tallies.{addCounts}
@@ -34,19 +38,23 @@ use Rattle.tally.specs.Tallies.{addCounts}
 abbrev pub firstMemory : State → Written → Memory
 firstMemory s h = memory h (s .table) (s .logs .groups) (s .logs .statebytes) (s .logs .states) (s .logs .items) (s .logs .links)
 
-abbrev pub memoryAt : State → Memory
-memoryAt s = firstMemory s (writtenOf (s .decoder))
+abbrev pub memoryAt : Stamp → State → Memory
+memoryAt c s = firstMemory s (writtenOf c (s .decoder))
 
-abbrev pub HoldsAt : State → World → Memory → Type 0
-HoldsAt s w m = Holds (s .decoder .counts .endpoints) (s .decoder .transaction .id) (startPid (s .decoder .transaction .style)) (memoryAt s) w m
+-- the world that a call which brings c begins with
+abbrev pub worldWith : Stamp → State → World
+worldWith c s = withContext c (worldAt s)
+
+abbrev pub HoldsAt : Stamp → State → World → Memory → Type 0
+HoldsAt c s w m = Holds (s .decoder .counts .endpoints) (s .decoder .transaction .id) (startPid (s .decoder .transaction .style)) (memoryAt c s) w m
 
 -- a log that no group goes to
 abbrev pub Aside : ℕ → Type 0
 Aside k = (j : ℕ) → 6 ≤ j → j ≤ 10 → eqb j k ≡ false
 
--- the call on s has come to the world w, in which there is a keepalive group as b says, and to the memory m
-pub record Reached (s : State) (b : Bool) (w : World) (m : Memory) : Type 0 where
-  pub holds : HoldsAt s w m
+-- the call on s that brings c has come to the world w, in which there is a keepalive group as b says, and to the memory m
+pub record Reached (c : Stamp) (s : State) (b : Bool) (w : World) (m : Memory) : Type 0 where
+  pub holds : HoldsAt c s w m
   pub table : Tabled (s .decoder .counts .endpoints) (s .table) (m .table)
   pub devices : (j : ℕ) → w .devices j ≡ getD (s .devices) j blank
   pub transaction : Tied (s .decoder .transaction) (w .transaction)
@@ -56,11 +64,11 @@ pub record Reached (s : State) (b : Bool) (w : World) (m : Memory) : Type 0 wher
   pub logs : (k : ℕ) → Aside k → log k (w .journal) ≡ []
 
 -- where it begins
-pub reached-start : (s : State) (room : Counts) → WellFormed (s .decoder) (s .devices) (s .table) room → Known (s .table) → Reached s (s .decoder .keepalive) (worldAt s) (memoryAt s)
-reached-start s room h k =
+pub reached-start : (c : Stamp) (s : State) (room : Counts) → WellFormed (s .decoder) (s .devices) (s .table) room → Known (s .table) → Reached c s (s .decoder .keepalive) (worldWith c s) (memoryAt c s)
+reached-start c s room h k =
     let d = s .decoder in
     record {
-      holds = holds-start (d .counts .endpoints) (d .transaction .id) (startPid (d .transaction .style)) (worldAt s) (memoryAt s) refl (k .size) refl (λ j u. refl) refl refl refl refl refl refl refl refl;
+      holds = holds-start (d .counts .endpoints) (d .transaction .id) (startPid (d .transaction .style)) (worldWith c s) (memoryAt c s) refl (k .size) refl refl (λ j u. refl) refl refl refl refl refl refl refl refl;
       table = tabled-start (d .counts .endpoints) (s .table) (k .size) (λ i u. h .endpoints i u .words);
       devices = λ j. refl;
       transaction = refl;
@@ -73,9 +81,9 @@ reached-start s room h k =
 -- ---- room
 
 -- the rows of a tally whose counts fit the lent logs fit memory's
-pub space : (s : State) (t : Tally) (v : World) → Adds t (worldAt s) v → Within (addCounts (s .decoder .counts) t) (roomOf (s .logs)) → Space (memoryAt s) (v .journal)
+pub space : (c : Stamp) (s : State) (t : Tally) (v : World) → Adds t (worldAt s) v → Within (addCounts (s .decoder .counts) t) (roomOf (s .logs)) → Space (memoryAt c s) (v .journal)
 unfolding addCounts roomBy inLog
-space s t v a w =
+space c s t v a w =
     record {
       groups = let e = a .words 6 in let g = w .groups in omega (arith, e, g);
       statebytes = let e = a .words 7 in let g = w .statebytes in omega (arith, e, g);
@@ -99,24 +107,23 @@ pub record Besides (w : World) (n : Counts) (l : Logs) (packets events transacti
 none-written : (l : List ℕ) (at k : ℕ) (js : List Row) → log k js ≡ [] → l ≡ sets l at (log k js)
 none-written l at k js e = ap (sets l at) (sym e)
 
-module _ (s : State) (w : World) (m : Memory) (holds : HoldsAt s w m) (table : Tabled (s .decoder .counts .endpoints) (s .table) (m .table)) where
+module _ (c : Stamp) (s : State) (w : World) (m : Memory) (holds : HoldsAt c s w m) (table : Tabled (s .decoder .counts .endpoints) (s .table) (m .table)) where
   appends : (p e t : List ℕ) → Besides w (s .decoder .counts) (s .logs) p e t
       → Appends w (s .decoder .counts) (s .logs) (logs (s .logs .bytes) (s .logs .devices) (s .logs .endpoints) p e t (m .groups) (m .statebytes) (m .states) (m .items) (m .links) (s .logs .requests))
   appends p e t b =
-      record {
-        bytes = none-written (s .logs .bytes) _ 0 (w .journal) (b .bytes);
-        devices = none-written (s .logs .devices) _ 1 (w .journal) (b .devices);
-        endpoints = none-written (s .logs .endpoints) _ 2 (w .journal) (b .endpoints);
-        packets = b .packetRows;
-        events = b .eventRows;
-        transactions = b .transactionRows;
-        groups = holds .groups .written;
-        statebytes = holds .statebytes .written;
-        states = holds .states .written;
-        items = holds .items .written;
-        links = holds .links .written;
-        requests = none-written (s .logs .requests) _ 11 (w .journal) (b .requests);
-      }
+      each-log _
+      (none-written (s .logs .bytes) _ 0 (w .journal) (b .bytes))
+      (none-written (s .logs .devices) _ 1 (w .journal) (b .devices))
+      (none-written (s .logs .endpoints) _ 2 (w .journal) (b .endpoints))
+      (b .packetRows)
+      (b .eventRows)
+      (b .transactionRows)
+      (holds .groups .written)
+      (holds .statebytes .written ∙ word-each (s .logs .statebytes) (log 7 (w .journal)) (s .decoder .counts .statebytes))
+      (holds .states .written ∙ word-each (s .logs .states) (log 8 (w .journal)) (s .decoder .counts .states))
+      (holds .items .written ∙ word-each (s .logs .items) (log 9 (w .journal)) (s .decoder .counts .items))
+      (holds .links .written)
+      (none-written (s .logs .requests) _ 11 (w .journal) (b .requests))
 
   tied-is : Tied (s .decoder .transaction) (w .transaction) → tied (s .decoder .transaction) (m .written) ≡ w .transaction
   tied-is h =
@@ -124,7 +131,7 @@ module _ (s : State) (w : World) (m : Memory) (holds : HoldsAt s w m) (table : T
       ap (λ (b : Bool). tiedTo t b (m .written .link)) (holds .linked) ∙ ap (tiedTo t (w .transaction .linked)) (holds .link) ∙ sym h
 
   -- what it leaves is what the rules leave
-  pub left-of : (size : length (s .table) ≡ 2176) → ((j : ℕ) → w .devices j ≡ getD (s .devices) j blank) → Tied (s .decoder .transaction) (w .transaction)
+  pub left-of : (size : length (s .table) ≡ word.table) → ((j : ℕ) → w .devices j ≡ getD (s .devices) j blank) → Tied (s .decoder .transaction) (w .transaction)
       → (f : Bool) (c : Counts) (slot : Slot) (event : EventState) (keepalive : Bool) (waiting : ℕ)
       → countsAfter (s .decoder .counts) w ≡ c → w .slot ≡ slot → w .eventState ≡ event → w .keepalive ≡ keepalive → waitingOf w ≡ waiting
       → (p e t : List ℕ) → Besides w (s .decoder .counts) (s .logs) p e t

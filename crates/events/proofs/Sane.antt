@@ -2,7 +2,7 @@
 use Prim.Native.Nat.{ℕ, _+_, _*_, _^_, _<_, _≤_}
 use native.Mathlib.Omega.{arith}
 use mathlib.Core.Bool.{Bool, true, false}
-use mathlib.Core.Path.{_≡_, subst}
+use mathlib.Core.Path.{_≡_, refl, subst}
 use Rattle.transaction.specs.Payload.{startPid}
 use Rattle.endpoints.specs.Table.{entryAt}
 use Rattle.endpoints.specs.TableLaws.{fits-entry}
@@ -15,6 +15,8 @@ use Rattle.call.specs.OutcomeLaws.{sound}
 use Rattle.call.specs.State.{State, roomOf}
 use Rattle.call.specs.Share.{Known}
 use Rattle.decide.specs.Ready.{Ready, ready}
+use Rattle.rules.specs.declared.Stamp.{Stamp}
+use Rattle.plan.specs.declared.Ending.{Ending}
 use Rattle.plan.specs.Ending.{currentEndpoint, endingOf, endPlayed}
 use Rattle.plan.specs.Sound.{EndFits}
 use Rattle.plan.specs.Step.{ended, endOf}
@@ -23,18 +25,23 @@ use Rattle.plan.proofs.Sound.{fits-ending}
 use Rattle.tally.specs.Suited.{EndingSuits, Totalled}
 use Rattle.tally.specs.Tallies.{Under, tallyEnding}
 use Rattle.tally.proofs.Bounds.{under}
-use Rattle.tally.proofs.Counted.{ending-adds}
+use Rattle.tally.proofs.Counted.{adds-from, ending-adds}
 use Rattle.tally.proofs.Formed.{current-stands, waiting-is, waiting-few}
 use Rattle.tally.proofs.Planned.{ending-suits}
 use Rattle.tally.proofs.Quiet.{ending-totals}
 use Rattle.events.specs.Ended.{closedOn, endedMemory, Endable}
 use Rattle.events.proofs.Ends.{reached-ended, reached-when}
-use Rattle.events.proofs.Reached.{memoryAt, Reached, reached-start}
+use Rattle.events.proofs.Reached.{memoryAt, worldWith, Reached, reached-start}
 
 -- no byte total passes 2^64 - 1 yet: it is a word
 pub totalled : (s : State) → Known (s .table) → Totalled (worldAt s)
 unfolding entryAt
 totalled s k i h = let w = k .words (i * 17 + 6) in omega (arith, w)
+
+-- what a call brings is not what its end is decided from
+pub ending-with : (c : Stamp) (s : State) → endingOf (worldWith c s) ≡ endingOf (worldAt s)
+unfolding endingOf
+ending-with c s = refl
 
 module _ (s : State) (sane : isIll s ≡ false) where
   pub formed : WellFormed (s .decoder) (s .devices) (s .table) (roomOf (s .logs))
@@ -56,43 +63,44 @@ module _ (s : State) (sane : isIll s ≡ false) where
       let x = currentEndpoint (s .decoder .slot) (s .decoder .transaction) in
       group-small (entryAt (s .table) x) (s .decoder .transaction) _ false false (record { few = few-start x (current-stands formed); fits = fits-entry (s .table) x }) .few
 
-  pub few-ended : FewAll 1 (when (endingOf (worldAt s) .ends) (ended (endingOf (worldAt s) .old) (endingOf (worldAt s) .end)) (worldAt s))
-  few-ended = by (endingOf (worldAt s) .ends)
+  pub few-ended : (c : Stamp) → FewAll 1 (when (endingOf (worldAt s) .ends) (ended (endingOf (worldAt s) .old) (endingOf (worldAt s) .end)) (worldWith c s))
+  few-ended c = by (endingOf (worldAt s) .ends)
     where
-      by : (b : Bool) → FewAll 1 (when b (ended (endingOf (worldAt s) .old) (endingOf (worldAt s) .end)) (worldAt s))
-      by true = ended-few (endingOf (worldAt s) .old) (endingOf (worldAt s) .end) (worldAt s) few-entry few-start
+      by : (b : Bool) → FewAll 1 (when b (ended (endingOf (worldAt s) .old) (endingOf (worldAt s) .end)) (worldWith c s))
+      by true = ended-few (endingOf (worldAt s) .old) (endingOf (worldAt s) .end) (worldWith c s) few-entry few-start
       by false = λ j h. few-more (few-start j h)
 
   -- what sum_finish asks
   pub sum-asks : (s .decoder .waiting ≤ 128) × ((s .decoder .counts .endpoints ≤ 128) × Under (2 ^ 40) (s .decoder .counts))
   sum-asks = (waiting-few formed, (formed .counts .fewEndpoints, few-counts))
 
-  pub suits : EndingSuits (endingOf (worldAt s)) (worldAt s)
-  suits = ending-suits (worldAt s) (current-stands formed)
+  pub suits : (c : Stamp) → EndingSuits (endingOf (worldAt s)) (worldWith c s)
+  suits c = subst (λ (e : Ending). EndingSuits e (worldWith c s)) (ending-with c s) (ending-suits (worldWith c s) (current-stands formed))
 
-  pub end-adds : Adds (tallyEnding (endingOf (worldAt s)) (s .decoder .counts .endpoints) (s .decoder .waiting)) (worldAt s) (endPlayed (endingOf (worldAt s)) (worldAt s))
-  end-adds =
-      subst (λ (n : ℕ). Adds (tallyEnding (endingOf (worldAt s)) (s .decoder .counts .endpoints) n) (worldAt s) (endPlayed (endingOf (worldAt s)) (worldAt s))) (waiting-is formed)
-      (ending-adds (endingOf (worldAt s)) (worldAt s) suits)
+  pub end-adds : (c : Stamp) → Adds (tallyEnding (endingOf (worldAt s)) (s .decoder .counts .endpoints) (s .decoder .waiting)) (worldAt s) (endPlayed (endingOf (worldAt s)) (worldWith c s))
+  end-adds c =
+      subst (λ (n : ℕ). Adds (tallyEnding (endingOf (worldAt s)) (s .decoder .counts .endpoints) n) (worldAt s) (endPlayed (endingOf (worldAt s)) (worldWith c s))) (waiting-is formed)
+      (adds-from c (ending-adds (endingOf (worldAt s)) (worldWith c s) (suits c)))
 
-  module _ (known : Known (s .table)) (byte : startPid (s .decoder .transaction .style) < 256) where
-    end-fits : EndFits (endingOf (worldAt s) .old) (endingOf (worldAt s) .end) (worldAt s)
+  module _ (c : Stamp) (known : Known (s .table)) (byte : startPid (s .decoder .transaction .style) < 256) where
+    end-fits : EndFits (endingOf (worldAt s) .old) (endingOf (worldAt s) .end) (worldWith c s)
     end-fits =
         let x = currentEndpoint (s .decoder .slot) (s .decoder .transaction) in
         let e = is-ready .entries x (current-stands formed) in
-        fits-ending (worldAt s) (record { few = formed .counts .fewEndpoints; there = current-stands formed; transactions = e .transactions; groups = e .groups; fits = fits-entry (s .table) x; token = byte })
+        subst (λ (e : Ending). EndFits (e .old) (e .end) (worldWith c s)) (ending-with c s)
+        (fits-ending (worldWith c s) (record { few = formed .counts .fewEndpoints; there = current-stands formed; transactions = e .transactions; groups = e .groups; fits = fits-entry (s .table) x; token = byte }))
 
     -- the transaction's end, before the slot is emptied
-    pub reached-end : Reached s (s .decoder .keepalive) (when (endingOf (worldAt s) .ends) (ended (endingOf (worldAt s) .old) (endingOf (worldAt s) .end)) (worldAt s))
-        (endedMemory (endingOf (worldAt s)) (s .decoder .counts .endpoints) (s .decoder .transaction .id) (startPid (s .decoder .transaction .style)) (memoryAt s))
+    pub reached-end : Reached c s (s .decoder .keepalive) (when (endingOf (worldAt s) .ends) (ended (endingOf (worldAt s) .old) (endingOf (worldAt s) .end)) (worldWith c s))
+        (endedMemory (endingOf (worldAt s)) (s .decoder .counts .endpoints) (s .decoder .transaction .id) (startPid (s .decoder .transaction .style)) (memoryAt c s))
     unfolding endedMemory
     reached-end =
         let e = endingOf (worldAt s) in
-        let start = reached-start s (roomOf (s .logs)) formed known in
-        reached-when s (s .decoder .keepalive) (e .ends) (ended (e .old) (e .end)) (closedOn (e .old) (e .end) (s .decoder .counts .endpoints) (s .decoder .transaction .id) (startPid (s .decoder .transaction .style))) (worldAt s) (memoryAt s)
-        (λ on. reached-ended s (s .decoder .keepalive) (worldAt s) (memoryAt s) start (e .old) (e .end) end-fits (ending-totals (worldAt s) .quiet on)) start
+        let start = reached-start c s (roomOf (s .logs)) formed known in
+        reached-when c s (s .decoder .keepalive) (e .ends) (ended (e .old) (e .end)) (closedOn (e .old) (e .end) (s .decoder .counts .endpoints) (s .decoder .transaction .id) (startPid (s .decoder .transaction .style))) (worldWith c s) (memoryAt c s)
+        (λ on. reached-ended c s (s .decoder .keepalive) (worldWith c s) (memoryAt c s) start (e .old) (e .end) end-fits (ending-totals (worldAt s) .quiet on)) start
 
     -- what end_here asks
-    pub endable : Room (endedMemory (endingOf (worldAt s)) (s .decoder .counts .endpoints) (s .decoder .transaction .id) (startPid (s .decoder .transaction .style)) (memoryAt s))
-        → Endable (endingOf (worldAt s)) (s .decoder .counts .endpoints) (s .decoder .transaction .id) (startPid (s .decoder .transaction .style)) (memoryAt s)
+    pub endable : Room (endedMemory (endingOf (worldAt s)) (s .decoder .counts .endpoints) (s .decoder .transaction .id) (startPid (s .decoder .transaction .style)) (memoryAt c s))
+        → Endable (endingOf (worldAt s)) (s .decoder .counts .endpoints) (s .decoder .transaction .id) (startPid (s .decoder .transaction .style)) (memoryAt c s)
     endable r = record { sized = known .size; few = formed .counts .fewEndpoints; there = end-fits .there; transactions = end-fits .transactions; groups = end-fits .groups; bytes = end-fits .bytes; room = r }

@@ -16,6 +16,7 @@ use Rattle.rules.specs.Rows.{Row, PacketRow, EventRow, log}
 use Rattle.rules.specs.World.{World, _▷_, push}
 use Rattle.rules.specs.declared.EventState.{EventState}
 use Rattle.rules.specs.declared.Slot.{Slot}
+use Rattle.rules.specs.declared.Stamp.{Stamp}
 use Rattle.update.specs.Update.{when}
 use Rattle.write.specs.Holds.{Space}
 use Rattle.write.specs.Memory.{Memory, Room, linkWritten}
@@ -54,9 +55,9 @@ abbrev pub AbleAt : State → rules.Turn → Bool → Memory → Type 0
 AbleAt s t k m = Able (addsRow (t .act)) (addsGroup (t .act) k) (startsGroup (t .act)) (s .decoder .counts .endpoints) (s .decoder .counts .transactions) m
 
 -- the call on s, which came to the memory m and this slot, has come to the world v by the rows of a turn
-pub record Tailed (s : State) (code time : ℕ) (z : Slot) (t : rules.Turn) (k : Bool) (m : Memory) (v : World) : Type 0 where
-  pub holds : HoldsAt s v (rowsMemory s t k m)
-  pub able : Space (memoryAt s) (v .journal) → AbleAt s t k m
+pub record Tailed (c : Stamp) (s : State) (code time : ℕ) (z : Slot) (t : rules.Turn) (k : Bool) (m : Memory) (v : World) : Type 0 where
+  pub holds : HoldsAt c s v (rowsMemory s t k m)
+  pub able : Space (memoryAt c s) (v .journal) → AbleAt s t k m
   pub devices : (j : ℕ) → v .devices j ≡ getD (s .devices) j blank
   pub transaction : Tied (s .decoder .transaction) (v .transaction)
   pub slot : v .slot ≡ z
@@ -82,15 +83,15 @@ requests-aside j u v = ne-eqb j 11 (λ e. omega arith)
 else-log : (k b t p c : ℕ) (js : List Row) → k < 3 → log k js ≡ [] → log k (EventRow p c ∷ PacketRow b t ∷ js) ≡ []
 else-log k b t p c js h e = rw (ne-eqb 3 k (λ q. omega arith), ne-eqb 4 k (λ q. omega arith), e) refl
 
-module _ (s : State) (k : Bool) (u : World) (m : Memory) (h : Reached s k u m) (few : s .decoder .counts .endpoints ≤ 128) (some : 0 < s .decoder .counts .endpoints)
+module _ (c : Stamp) (s : State) (k : Bool) (u : World) (m : Memory) (h : Reached c s k u m) (few : s .decoder .counts .endpoints ≤ 128) (some : 0 < s .decoder .counts .endpoints)
     (rests : isCurrent (u .slot) ≡ false) (g : Grows u) (kind code time : ℕ) where
-  held : HoldsAt s (rowed s code time u) m
+  held : HoldsAt c s (rowed s code time u) m
   held =
       holds-alike (event-row-alike (pushPacket (s .decoder .counts .bytes) time u) (s .decoder .counts .packets) code)
       (holds-alike (packet-alike u (s .decoder .counts .bytes) time) (h .holds))
 
   -- by the state and the keepalive group of that world
-  tailed-own : Tailed s code time (u .slot) (rules.turnOf (u .eventState) kind) (u .keepalive) m (rules.eventUpdate (s .decoder .counts .packets) kind (rowed s code time u))
+  tailed-own : Tailed c s code time (u .slot) (rules.turnOf (u .eventState) kind) (u .keepalive) m (rules.eventUpdate (s .decoder .counts .packets) kind (rowed s code time u))
   unfolding rules.eventUpdate
   tailed-own =
       let w = rowed s code time u in
@@ -114,7 +115,7 @@ module _ (s : State) (k : Bool) (u : World) (m : Memory) (h : Reached s k u m) (
       }
 
   -- by those that the call began with
-  pub tailed : Tailed s code time (u .slot) (rules.turnOf (s .decoder .event) kind) k m (rules.eventUpdate (s .decoder .counts .packets) kind (rowed s code time u))
+  pub tailed : Tailed c s code time (u .slot) (rules.turnOf (s .decoder .event) kind) k m (rules.eventUpdate (s .decoder .counts .packets) kind (rowed s code time u))
   tailed =
-      subst (λ (e : EventState). Tailed s code time (u .slot) (rules.turnOf e kind) k m (rules.eventUpdate (s .decoder .counts .packets) kind (rowed s code time u))) (h .event)
-      (subst (λ (b : Bool). Tailed s code time (u .slot) (rules.turnOf (u .eventState) kind) b m (rules.eventUpdate (s .decoder .counts .packets) kind (rowed s code time u))) (h .keepalive) tailed-own)
+      subst (λ (e : EventState). Tailed c s code time (u .slot) (rules.turnOf e kind) k m (rules.eventUpdate (s .decoder .counts .packets) kind (rowed s code time u))) (h .event)
+      (subst (λ (b : Bool). Tailed c s code time (u .slot) (rules.turnOf (u .eventState) kind) b m (rules.eventUpdate (s .decoder .counts .packets) kind (rowed s code time u))) (h .keepalive) tailed-own)

@@ -3,6 +3,7 @@ use Prim.Native.Nat.{ℕ, _+_, _^_, _<_, _≤_}
 use mathlib.Core.Bool.{Bool, true}
 use mathlib.Core.Path.{_≡_}
 use lib.ListN.{length}
+use Rattle.endpoints.specs.Word as word
 use Rattle.endpoints.specs.TableLaws.{Fits}
 use Rattle.rules.specs.Groups.{becomes}
 use Rattle.update.specs.Update.{when}
@@ -20,7 +21,7 @@ unfoldable pub endedMemory : Ending → ℕ → ℕ → ℕ → Memory → Memor
 endedMemory e n id pid m = when (e .ends) (closedOn (e .old) (e .end) n id pid) m
 
 pub record Endable (e : Ending) (n id pid : ℕ) (m : Memory) : Type 0 where
-  pub sized : length (m .table) ≡ 2176
+  pub sized : length (m .table) ≡ word.table
   pub few : n ≤ 128
   pub there : e .old < n
   pub transactions : e .end .entry .transactions + 1 < 2 ^ 64

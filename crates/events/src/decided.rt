@@ -4,6 +4,7 @@ use crate::sum::Sum;
 use crate::sum::sum_event;
 use decide::plan_ending;
 use details::Device;
+use endpoints::Table;
 use endpoints::phases::count_active;
 use event::Act;
 use event::LS_KEEPALIVE;
@@ -80,13 +81,7 @@ pub fn keepalive_after(act: Act, keepalive: bool) -> bool
 }
 
 // An event of this kind.
-pub fn decide(
-    d: Decoder,
-    devices: [Device; 64],
-    kind: u8,
-    table: &[u64; 2176],
-    room: Counts,
-) -> Decided
+pub fn decide(d: Decoder, devices: [Device; 64], kind: u8, table: &Table, room: Counts) -> Decided
     requires { ⌜ Ready d (now table) ⌝ }
     requires { ⌜ d .waiting ≤ 128 ⌝ }
     requires { ⌜ Under (2 ^ 40) (d .counts) ⌝ }

@@ -1,4 +1,5 @@
 // The current transaction's end by an event or by finish, on memory. It has no effect (plan, Quiet), so its entry and its update are all of it.
+use endpoints::Table;
 use endpoints::entry;
 use endpoints::phases::end_active;
 use plan::Ending;
@@ -27,7 +28,7 @@ pub fn end_here(
     pid: u8,
     d: Written,
     n: usize,
-    table: &mut [u64; 2176],
+    table: &mut Table,
     groups: &mut [u64],
     statebytes: &mut [u8],
     states: &mut [u64],
@@ -68,7 +69,7 @@ pub fn settle(
     pid: u8,
     d: Written,
     n: usize,
-    table: &mut [u64; 2176],
+    table: &mut Table,
     groups: &mut [u64],
     statebytes: &mut [u8],
     states: &mut [u64],

@@ -9,17 +9,21 @@ use crate::ending::slot_ended;
 use crate::sum::Sum;
 use crate::sum::sum_finish;
 use call::known;
+use call::no_stamp;
 use call::room_of;
+use call::stamp_of;
 use call::tie;
 use call::written_of;
 use decide::plan_ending;
 use details::Device;
+use endpoints::Table;
 use event::Turn;
 use event::adds_group;
 use event::adds_row;
 use record::Counts;
 use record::Decoder;
 use rows::width;
+use rules::Stamp;
 use transaction::payload::start_pid;
 use write::Written;
 use write::leaf::put_transaction;
@@ -71,7 +75,7 @@ fn finished_decoder(d: Decoder, sum: Sum, written: Written) -> Decoder
 pub fn finish_in(
     d: Decoder,
     devices: [Device; 64],
-    table: &mut [u64; 2176],
+    table: &mut Table,
     bytes: &[u8],
     device_rows: &[u64],
     endpoint_rows: &[u64],
@@ -119,7 +123,7 @@ pub fn finish_in(
         e,
         held.id,
         start_pid(style),
-        written_of(d),
+        written_of(no_stamp(), d),
         n.endpoints,
         table,
         groups,
@@ -137,25 +141,25 @@ pub fn finish_in(
 // The event's packet row and event row, and where `row` a transaction row.
 fn put_event(
     n: Counts,
+    stamp: Stamp,
     row: bool,
     code: u8,
-    time: u64,
     packets: &mut [u64],
     events: &mut [u64],
     transactions: &mut [u64],
 )
     requires { ⌜ (n .packets + 1) * packetWidth ≤ length (now packets) ⌝ }
     requires { ⌜ (n .events + 1) * eventWidth ≤ length (now events) ⌝ }
-    requires { ⌜ n .transactions * transactionWidth + length (opt row (transactionWords (naming (n .packets)))) ≤ length (now transactions) ⌝ }
-    ensures { λ r. ⌜ now (packets .exit) ≡ sets (now (packets .entry)) (n .packets * packetWidth) (n .bytes ∷ time ∷ []) ⌝ }
-    ensures { λ r. ⌜ now (events .exit) ≡ sets (now (events .entry)) (n .events * eventWidth) (n .packets ∷ code ∷ []) ⌝ }
-    ensures { λ r. ⌜ now (transactions .exit) ≡ sets (now (transactions .entry)) (n .transactions * transactionWidth) (opt row (transactionWords (naming (n .packets)))) ⌝ }
+    requires { ⌜ n .transactions * transactionWidth + length (opt row (transactionWords (naming (stamp .packet)))) ≤ length (now transactions) ⌝ }
+    ensures { λ r. ⌜ now (packets .exit) ≡ sets (now (packets .entry)) (n .packets * packetWidth) (n .bytes ∷ stamp .time ∷ []) ⌝ }
+    ensures { λ r. ⌜ now (events .exit) ≡ sets (now (events .entry)) (n .events * eventWidth) (stamp .packet ∷ code ∷ []) ⌝ }
+    ensures { λ r. ⌜ now (transactions .exit) ≡ sets (now (transactions .entry)) (n .transactions * transactionWidth) (opt row (transactionWords (naming (stamp .packet)))) ⌝ }
 {
     let p = n.packets;
     let e = n.events;
-    rows::put2(packets, p * width::PACKET, n.bytes as u64, time);
-    rows::put2(events, e * width::EVENT, p as u64, code as u64);
-    put_transaction(row, transactions, n.transactions, p as u64);
+    rows::put2(packets, p * width::PACKET, n.bytes as u64, stamp.time);
+    rows::put2(events, e * width::EVENT, stamp.packet, code as u64);
+    put_transaction(row, transactions, n.transactions, stamp);
 }
 
 // The record after an event.
@@ -185,7 +189,7 @@ pub fn event_in(
     kind: u8,
     code: u8,
     time: u64,
-    table: &mut [u64; 2176],
+    table: &mut Table,
     bytes: &[u8],
     device_rows: &[u64],
     endpoint_rows: &[u64],
@@ -222,6 +226,7 @@ pub fn event_in(
     let n = d.counts;
     let held = d.transaction;
     let style = held.style;
+    let stamp = stamp_of(n, time);
     let c = decide(d, devices, kind, table, room);
     let sum = c.sum;
     if !sum.fits {
@@ -241,7 +246,7 @@ pub fn event_in(
         end,
         held.id,
         start_pid(style),
-        written_of(d),
+        written_of(stamp, d),
         n.endpoints,
         table,
         groups,
@@ -250,7 +255,7 @@ pub fn event_in(
         items,
         links,
     );
-    put_event(n, row, code, time, packets, events, transactions);
+    put_event(n, stamp, row, code, packets, events, transactions);
     let written = event_rows(
         row,
         group,

@@ -10,6 +10,7 @@ use call::Called;
 use call::first_tests;
 use call::room_of;
 use details::Device;
+use endpoints::Table;
 use record::Decoder;
 ghost use mathlib.Core.Path.{_≡_};
 ghost use Rattle.call.specs.State.{state, logs};
@@ -27,7 +28,7 @@ pub fn event(
     kind: u8,
     code: u8,
     time: u64,
-    table: &mut [u64; 2176],
+    table: &mut Table,
     bytes: &[u8],
     device_rows: &[u64],
     endpoint_rows: &[u64],
@@ -97,7 +98,7 @@ pub fn event(
 pub fn finish(
     d: Decoder,
     devices: [Device; 64],
-    table: &mut [u64; 2176],
+    table: &mut Table,
     bytes: &[u8],
     device_rows: &[u64],
     endpoint_rows: &[u64],

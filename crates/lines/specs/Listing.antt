@@ -2,16 +2,16 @@
 -- text/specs/Lines.antt.
 -- Assumes nothing.
 -- Hold it to: 01, "Trace and listing": "Order of kinds"
-use Prim.Native.Nat.{ℕ, zero, suc, _+_, _*_, _-_, min, _≤_}
+use Prim.Native.Nat.{ℕ, zero, suc, _+_, _*_, _-_, min, _<_, _≤_}
 use mathlib.Core.Bool.{cond}
 use mathlib.Core.List.{List, [], _++_}
 use lib.Dec.{ltb}
 use lib.ListN.{getD, take, drop, length}
-use Rattle.rows.specs.Widths.{deviceWidth, endpointWidth, eventWidth, groupWidth, itemWidth, linkWidth, packetWidth, requestWidth, transactionWidth}
+use Rattle.rows.specs.Widths.{deviceWidth, endpointWidth, eventWidth, groupWidth, itemWidth, linkWidth, packetWidth, requestWidth, transactionWidth, place}
 use Rattle.text.specs.Words.{title}
 use Rattle.text.specs.Lines.{deviceLine, endpointLine, packetLine, eventLine, transactionLine, groupLine, stateLine, itemLine, linkLine, requestLine}
 use Rattle.record.specs.declared.Counts.{Counts}
-use Rattle.call.specs.State.{Logs}
+use Rattle.call.specs.State.{Logs, logAt, countAt}
 use Rattle.lines.specs.declared.Kind.{Kind}
 use Rattle.lines.specs.declared.Kind.the-variants.{Device, Endpoint, Packet, Event, Transaction, Group, Item, Link, Request}
 
@@ -87,19 +87,9 @@ listing n l =
     ++ (linesOf Link (n .links) (l .links)
     ++ linesOf Request (n .requests) (l .requests))))))))))
 
--- every log has the rows that are counted
-pub record Counted (n : Counts) (l : Logs) : Type 0 where
-  pub devices : n .devices ≤ length (l .devices)
-  pub endpoints : n .endpoints * endpointWidth ≤ length (l .endpoints)
-  pub packets : n .packets * packetWidth ≤ length (l .packets)
-  pub events : n .events * eventWidth ≤ length (l .events)
-  pub transactions : n .transactions * transactionWidth ≤ length (l .transactions)
-  pub groups : n .groups * groupWidth ≤ length (l .groups)
-  pub statebytes : n .statebytes ≤ length (l .statebytes)
-  pub states : n .states ≤ length (l .states)
-  pub items : n .items ≤ length (l .items)
-  pub links : n .links * linkWidth ≤ length (l .links)
-  pub requests : n .requests * requestWidth ≤ length (l .requests)
+-- every log has the rows that are counted; packet bytes (log 0) have no line
+abbrev pub Counted : Counts → Logs → Type 0
+Counted n l = (k : ℕ) → 0 < k → k < 12 → place k (countAt k n) ≤ length (logAt k l)
 
 -- how many lines that is, without the title
 abbrev pub rowsOf : Counts → ℕ

@@ -9,7 +9,8 @@ use Rattle.text.specs.Lines.{stateLine, longest}
 use Rattle.text.specs.Lengths.{device-fits, endpoint-fits, packet-fits, event-fits, transaction-fits, group-fits, state-fits, item-fits, link-fits, request-fits}
 use Rattle.record.specs.RoomLaws.{Within}
 use Rattle.record.specs.declared.Counts.{Counts}
-use Rattle.call.specs.State.{Logs, logs, roomBy, roomOf}
+use Rattle.call.specs.State.{Logs, logs, roomOf}
+use Rattle.call.specs.StateLaws.{within-logs}
 use Rattle.lines.specs.Listing.{widthOf, lineOf, each, row, linesOf, startOf, endOf, sizeOf, stateBytes, stateLines, listing, Counted, rowsOf}
 use Rattle.lines.specs.declared.Kind.{Kind}
 use Rattle.lines.specs.declared.Kind.the-variants.{Device, Endpoint, Packet, Event, Transaction, Group, Item, Link, Request}
@@ -73,18 +74,5 @@ listing-listed n l = refl
 
 -- counts that are within the logs' room (record, RoomLaws)
 pub counted : (n : Counts) (l : Logs) → Within n (roomOf l) → Counted n (listed l)
-unfolding roomBy
-counted n l w =
-    record {
-      devices = w .devices;
-      endpoints = omega (arith, w .endpoints);
-      packets = omega (arith, w .packets);
-      events = omega (arith, w .events);
-      transactions = omega (arith, w .transactions);
-      groups = omega (arith, w .groups);
-      statebytes = w .statebytes;
-      states = w .states;
-      items = w .items;
-      links = omega (arith, w .links);
-      requests = omega (arith, w .requests);
-    }
+counted n l w zero a b = absurd (omega arith)
+counted n l w (suc k) a b = within-logs n l w (suc k) b

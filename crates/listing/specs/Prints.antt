@@ -4,6 +4,7 @@
 use Prim.Native.Nat.{ℕ, zero, suc, _+_, _*_, _≤_, _<_}
 use mathlib.Core.List.{List}
 use lib.ListN.{length, replicate}
+use Rattle.endpoints.specs.Word as word
 use Rattle.text.specs.Append.{Appended}
 use Rattle.text.specs.Lines.{longest, refusedLine}
 use Rattle.text.specs.Words.{tooLong}
@@ -18,7 +19,7 @@ mostInput = 16384
 
 -- the endpoint table and the logs that the program lends: the rows of docs/SIZES.md by their words, all 0
 abbrev pub noTable : List ℕ
-noTable = replicate 2176 0
+noTable = replicate word.table 0
 
 abbrev pub noRows : Logs
 noRows =

@@ -6,9 +6,7 @@ use mathlib.Core.Bool.{Bool, true, false, not, true≢false}
 use mathlib.Core.List.{List}
 use mathlib.Core.Path.{_≡_, refl, sym, ap, _∙_}
 use lib.ListN.{length}
-use lib.Seq.{length-sets}
 use borrow.Author.Tests.{not-false}
-use Rattle.rows.specs.Widths.{endpointWidth, eventWidth, groupWidth, linkWidth, packetWidth, requestWidth, transactionWidth}
 use Rattle.text.specs.Lines.{longest, refusedLine}
 use Rattle.text.specs.Lengths.{refused-fits}
 use Rattle.record.specs.AnswersLaws.{accepted}
@@ -16,10 +14,9 @@ use Rattle.record.specs.RoomLaws.{Within, within}
 use Rattle.record.specs.declared.Counts.{Counts}
 use Rattle.trace.specs.declared.clock.Clock.{Clock}
 use Rattle.rules.specs.Decoder.{finish}
-use Rattle.rules.specs.Rows.{log}
-use Rattle.rules.specs.World.{World}
-use Rattle.call.specs.Outcome.{Appends, accepts, countsAfter, decoderOf, isFull, worldAt}
-use Rattle.call.specs.State.{Logs, State, roomBy, roomOf}
+use Rattle.call.specs.Outcome.{accepts, countsAfter, decoderOf, isFull, worldAt}
+use Rattle.call.specs.OutcomeLaws.{same-room}
+use Rattle.call.specs.State.{Logs, State, roomOf}
 use Rattle.events.specs.Call.{FinishCall, finishTestsOf}
 use Rattle.lines.specs.Listing.{listing, Counted, rowsOf}
 use Rattle.lines.specs.ListingLaws.{counted, listing-fits}
@@ -36,23 +33,6 @@ prints-unique (Prints.runs h q) (Prints.runs k r) = let e = run-unique q r in λ
 
 -- ---- a run that finished
 
--- rows behind a log's rows leave its length
-same-room : {w : World} {n : Counts} {l l′ : Logs} → Appends w n l l′ → roomOf l′ ≡ roomOf l
-same-room {w} {n} {l} {l′} a =
-    λ i. roomBy
-    ((ap length (a .bytes) ∙ length-sets (l .bytes) (n .bytes) (log 0 (w .journal))) i)
-    ((ap length (a .devices) ∙ length-sets (l .devices) (n .devices) (log 1 (w .journal))) i)
-    ((ap length (a .endpoints) ∙ length-sets (l .endpoints) (n .endpoints * endpointWidth) (log 2 (w .journal))) i)
-    ((ap length (a .packets) ∙ length-sets (l .packets) (n .packets * packetWidth) (log 3 (w .journal))) i)
-    ((ap length (a .events) ∙ length-sets (l .events) (n .events * eventWidth) (log 4 (w .journal))) i)
-    ((ap length (a .transactions) ∙ length-sets (l .transactions) (n .transactions * transactionWidth) (log 5 (w .journal))) i)
-    ((ap length (a .groups) ∙ length-sets (l .groups) (n .groups * groupWidth) (log 6 (w .journal))) i)
-    ((ap length (a .statebytes) ∙ length-sets (l .statebytes) (n .statebytes) (log 7 (w .journal))) i)
-    ((ap length (a .states) ∙ length-sets (l .states) (n .states) (log 8 (w .journal))) i)
-    ((ap length (a .items) ∙ length-sets (l .items) (n .items) (log 9 (w .journal))) i)
-    ((ap length (a .links) ∙ length-sets (l .links) (n .links * linkWidth) (log 10 (w .journal))) i)
-    ((ap length (a .requests) ∙ length-sets (l .requests) (n .requests * requestWidth) (log 11 (w .journal))) i)
-
 -- finish answers 0 only where its rows have room
 finish-within : {a : ℕ} {s s′ : State} → FinishCall s a s′ → a ≡ 0 → Within (s′ .decoder .counts) (roomOf (s′ .logs))
 unfolding isFull decoderOf
@@ -61,7 +41,7 @@ finish-within {a} {s} {s′} f e =
     let q = accepted (finishTestsOf w s) (sym (f .answer) ∙ e) .0 in
     let left = f .left (ap accepts (sym (f .answer) ∙ e)) in
     let h = within (countsAfter (s .decoder .counts) w) (roomOf (s .logs)) (not-false _ (q .full)) in
-    rw (left .decoder, same-room (left .logs)) h
+    rw (left .decoder, same-room w (s .decoder .counts) (s .logs) (s′ .logs) (left .logs)) h
 
 runs-within : {trace : List ℕ} {at a p : ℕ} {c : Clock} {s s′ : State} → Runs trace at c s a p s′ → a ≡ 0 → Within (s′ .decoder .counts) (roomOf (s′ .logs))
 runs-within (Runs.ends k f) e = finish-within f e

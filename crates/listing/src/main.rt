@@ -1,4 +1,6 @@
 // The program `listing` (01, "Trace and listing"): reads a trace from standard input, and writes its rows, or the line that refuses it, to standard output.
+use endpoints::Table;
+use endpoints::word;
 use libc::STDERR_FILENO;
 use libc::STDIN_FILENO;
 use libc::STDOUT_FILENO;
@@ -63,7 +65,7 @@ fn report(
 // The text of a trace that is run on the lent table and logs; gives its length.
 fn show(
     trace: &[u8],
-    table: &mut [u64; 2176],
+    table: &mut Table,
     bytes: &mut [u8],
     device_rows: &mut [u64],
     endpoint_rows: &mut [u64],
@@ -126,7 +128,7 @@ fn print(trace: &[u8], out: &mut [u8]) -> usize
     if INPUT < trace.len() {
         return text::too_long_line(out, 0);
     }
-    let mut table = [0u64; 2176];
+    let mut table = [0u64; word::TABLE];
     let mut bytes = [0u8; 8192];
     let mut device_rows = [0u64; 64];
     let mut endpoint_rows = [0u64; 384];

@@ -9,13 +9,14 @@ use lib.Dec.{eqb, ltb}
 use lib.ListN.{length, getD, set}
 use lib.Seq.{sets}
 use Rattle.rows.specs.Widths.{packetWidth}
+use Rattle.rows.specs.WidthsLaws.{each-log}
 use Rattle.transaction.specs.Payload.{startPid}
 use Rattle.details.specs.Search.{blank}
 use Rattle.endpoints.specs.Table.{wordAt, entryAt}
 use Rattle.endpoints.specs.Word as word
 use Rattle.details.specs.declared.Device.{Device}
 use Rattle.rules.specs.Rows.{log}
-use Rattle.rules.specs.World.{World, withSlot, waitingOf}
+use Rattle.rules.specs.World.{World, stamp, withSlot, waitingOf}
 use Rattle.rules.specs.Transactions.{isDropped}
 use Rattle.rules.specs.Decoder.{handleRawPacket}
 use Rattle.rules.specs.declared.EventState.the-variants.{Idle}
@@ -31,9 +32,11 @@ use Rattle.record.specs.declared.Counts.{Counts}
 use Rattle.record.specs.declared.Decoder.{Decoder}
 use Rattle.plan.specs.Packet.{planOf, played}
 use Rattle.plan.specs.declared.Plan.{Plan}
-use Rattle.plan.proofs.Packet.{packet-is, dropped-is, withPacket}
-use Rattle.call.specs.Outcome.{Answers, Left, DevicesOf, TableOf, Appends, countsAfter, decoderOf, isIll, isFull, isOver, accepts, worldAt}
+use Rattle.plan.proofs.Packet.{packet-is, dropped-is}
+use Rattle.plan.specs.Packet.{withPacket}
+use Rattle.call.specs.Outcome.{Answers, Left, DevicesOf, TableOf, countsAfter, decoderOf, isIll, isFull, isOver, accepts, worldAt}
 use Rattle.call.specs.OutcomeLaws.{sound, refused, accepted}
+use Rattle.call.specs.StateLaws.{word-each}
 use Rattle.call.specs.State.{Logs, State, logs, state, roomBy, roomOf}
 use Rattle.call.specs.Share.{Known}
 use Rattle.tally.specs.Passes.{planPasses}
@@ -111,7 +114,7 @@ module _ (packet : List ℕ) (time : ℕ) (s : State) (h : Passes packet s) (kno
       → PacketCall packet time s a (state (s .decoder) (changed keeping (s .devices)) (s .table) (s .logs))
   refused-call a e r = subst (λ (v : List Device). PacketCall packet time s a (state (s .decoder) v (s .table) (s .logs))) (sym (changed-none keeping (s .devices) refl)) (refused a (e ∙ sum-answer) r)
 
-  pub accepted-call : (b : Begins packet s) (k : Desk) → k ≡ performed p (worldAt s .packets) (entryDesk s) → (y z : List ℕ) → y ≡ sets (s .logs .bytes) (s .decoder .counts .bytes) packet → z ≡ sets (s .logs .packets) (s .decoder .counts .packets * packetWidth) (s .decoder .counts .bytes ∷ time ∷ [])
+  pub accepted-call : (b : Begins packet s) (k : Desk) → k ≡ performed p (entryDesk time s) → (y z : List ℕ) → y ≡ sets (s .logs .bytes) (s .decoder .counts .bytes) packet → z ≡ sets (s .logs .packets) (s .decoder .counts .packets * packetWidth) (s .decoder .counts .bytes ∷ time ∷ [])
       → PacketCall packet time s 0 (state (decoderBy (s .decoder) p (sumPlan (s .decoder) p (length packet) (roomOf (s .logs))) (k .hand)) (changed (changeBy p (s .decoder .counts .devices)) (s .devices)) (k .table) (logs y (k .devices) (k .endpoints) z (s .logs .events) (k .transactions) (k .groups) (k .statebytes) (k .states) (k .items) (k .links) (k .requests)))
   accepted-call b k e y z f g = accepted 0 (sym (b .sum) ∙ sum-answer) refl (left packet time s b k e y z f g)
 
@@ -168,20 +171,20 @@ module _ (packet : List ℕ) (time : ℕ) (s : State) {plan : Plan} {room : Coun
     pub few-devices : s .decoder .counts .devices ≤ 64
     few-devices = well packet time s (q .passes) .counts .fewDevices
 
-    pub asks-by : {h : Hand} → h ≡ handOf (s .decoder) → PlanAsks plan (s .decoder .counts .packets) (deskBy h s)
+    pub asks-by : {h : Hand} → h ≡ handOf time (s .decoder) → PlanAsks plan (deskBy h s)
     asks-by {h} e =
-        subst (λ (x : Plan). PlanAsks x (s .decoder .counts .packets) (deskBy h s)) (sym (q .plan))
-        (subst (λ (x : Hand). PlanAsks (planOf packet (worldAt s)) (s .decoder .counts .packets) (deskBy x s)) (sym e) (asks packet time s begins))
+        subst (λ (x : Plan). PlanAsks x (deskBy h s)) (sym (q .plan))
+        (subst (λ (x : Hand). PlanAsks (planOf packet (worldAt s)) (deskBy x s)) (sym e) (asks packet time s begins))
 
     pub placed-by : {c : Change} → c ≡ changeBy plan (s .decoder .counts .devices) → Placed c
     placed-by e = subst Placed (sym (e ∙ λ i. changeBy (q .plan i) (s .decoder .counts .devices))) (change-placed packet time s begins)
 
-    pub accepted-by : {h : Hand} {k : Desk} {x : Decoder} {c : Change} {y z : List ℕ} → h ≡ handOf (s .decoder) → k ≡ performed plan (s .decoder .counts .packets) (deskBy h s)
+    pub accepted-by : {h : Hand} {k : Desk} {x : Decoder} {c : Change} {y z : List ℕ} → h ≡ handOf time (s .decoder) → k ≡ performed plan (deskBy h s)
         → y ≡ sets (s .logs .bytes) (s .decoder .counts .bytes) packet → z ≡ sets (s .logs .packets) (s .decoder .counts .packets * packetWidth) (s .decoder .counts .bytes ∷ time ∷ [])
         → x ≡ decoderBy (s .decoder) plan sum (k .hand) → c ≡ changeBy plan (s .decoder .counts .devices)
         → PacketCall packet time s 0 (state x (changed c (s .devices)) (k .table) (logs y (k .devices) (k .endpoints) z (s .logs .events) (k .transactions) (k .groups) (k .statebytes) (k .states) (k .items) (k .links) (k .requests)))
     accepted-by {h} {k} {x} {c} {y} {z} e1 e2 f g e3 e4 =
-        let k1 : k ≡ performed (planOf packet (worldAt s)) (s .decoder .counts .packets) (entryDesk s) = e2 ∙ λ i. performed (q .plan i) (s .decoder .counts .packets) (deskBy (e1 i) s) in
+        let k1 : k ≡ performed (planOf packet (worldAt s)) (entryDesk time s) = e2 ∙ λ i. performed (q .plan i) (deskBy (e1 i) s) in
         let x1 : x ≡ decoderBy (s .decoder) (planOf packet (worldAt s)) (sumPlan (s .decoder) (planOf packet (worldAt s)) (length packet) (roomOf (s .logs))) (k .hand) = e3 ∙ λ i. decoderBy (s .decoder) (q .plan i) (sum-at i) (k .hand) in
         let c1 : c ≡ changeBy (planOf packet (worldAt s)) (s .decoder .counts .devices) = e4 ∙ λ i. changeBy (q .plan i) (s .decoder .counts .devices) in
         subst (λ (a : Decoder). PacketCall packet time s 0 (state a (changed c (s .devices)) (k .table) (logs y (k .devices) (k .endpoints) z (s .logs .events) (k .transactions) (k .groups) (k .statebytes) (k .states) (k .items) (k .links) (k .requests)))) (sym x1)
@@ -206,7 +209,7 @@ module _ (packet : List ℕ) (time : ℕ) (s : State) (h : Passes packet s) (kno
   adds : Adds t (worldAt s) world
   adds =
       subst (λ (m : ℕ). Adds (after.tallyOfDropped m (length packet)) (worldAt s) world) (waiting-is (well packet time s h))
-      (same-adds Empty (d .transaction) Idle (d .keepalive) (worldAt s .devices) (packet-adds (same-adds (d .slot) (d .transaction) Idle (d .keepalive) (worldAt s .devices) (adds-none (worldAt s))) packet time))
+      (same-adds Empty (d .transaction) Idle (d .keepalive) _ (worldAt s .devices) (packet-adds (same-adds (d .slot) (d .transaction) Idle (d .keepalive) (stamp (d .counts .packets) time) (worldAt s .devices) (adds-none (worldAt s))) packet time))
 
   over-none : isOver world ≡ false
   over-none = totalled-over world (totalled s known)
@@ -234,20 +237,10 @@ module _ (packet : List ℕ) (time : ℕ) (s : State) (h : Passes packet s) (kno
         decoder = λ i. record { counts = n i; slot = Empty; transaction = d .transaction; last = d .last; event = Idle; keepalive = d .keepalive; waiting = m i; finished = d .finished };
         devices = record { size = refl; there = λ i u. refl; beyond = λ i u. refl };
         table = record { size = refl; entries = λ i u. refl; words = λ i u. well packet time s h .endpoints i u .words; beyond = λ i u. refl };
-        logs = record {
-          bytes = f ∙ ap (sets (s .logs .bytes) (d .counts .bytes)) (sym (append-nil packet));
-          devices = refl;
-          endpoints = refl;
-          packets = g;
-          events = refl;
-          transactions = refl;
-          groups = refl;
-          statebytes = refl;
-          states = refl;
-          items = refl;
-          links = refl;
-          requests = refl;
-        };
+        logs =
+            each-log _
+            (f ∙ ap (sets (s .logs .bytes) (d .counts .bytes)) (sym (append-nil packet)) ∙ word-each (s .logs .bytes) (log 0 (world .journal)) (d .counts .bytes))
+            refl refl g refl refl refl refl refl refl refl refl;
       }
 
   sum-is : (b : Bool) → fitting (addCounts (d .counts) t) (roomOf (s .logs)) ≡ b → sumDropped d (length packet) (roomOf (s .logs)) ≡ sumBy b false d t

@@ -8,6 +8,7 @@ use lib.Dec.{eqb, ltb}
 use lib.ListN.{length, getD, set, length-set}
 use lib.Seq.{sets, getD-set-other}
 use Rattle.rows.specs.Widths.{eventWidth, packetWidth}
+use Rattle.rows.specs.WidthsLaws.{each-log}
 use Rattle.rows.specs.One.{one}
 use Rattle.transaction.specs.Payload.{startPid, extractPayload}
 use Rattle.transaction.specs.Status.{transactionStatus}
@@ -20,7 +21,7 @@ use Rattle.endpoints.specs.TableLaws.{Fits, fits-entry}
 use Rattle.details.specs.declared.Device.{Device}
 use Rattle.endpoints.specs.declared.Endpoint.{Endpoint}
 use Rattle.rules.specs.Rows.{Row, log}
-use Rattle.rules.specs.World.{World, _▷_, withId, withLink, waitingOf}
+use Rattle.rules.specs.World.{World, stamped, _▷_, withId, withLink, waitingOf}
 use Rattle.rules.specs.Transactions.{isDropped, stateAt}
 use Rattle.rules.specs.Decoder.{handleRawPacket}
 use Rattle.rules.specs.declared.Slot.{Slot}
@@ -44,6 +45,7 @@ use Rattle.plan.proofs.Devices.{played-devices, played-device-count, plan-behin
 use Rattle.plan.proofs.Sound.{Sane, fits-packet, played-count}
 use Rattle.call.specs.Outcome.{countsAfter, decoderOf, DevicesOf, TableOf, Appends, Left, isIll, worldAt}
 use Rattle.call.specs.OutcomeLaws.{sound}
+use Rattle.call.specs.StateLaws.{word-each}
 use Rattle.call.specs.State.{Logs, State, logs, state, roomBy, roomOf}
 use Rattle.call.specs.Share.{Known, tied}
 use Rattle.tally.specs.Passes.{planPasses}
@@ -65,9 +67,9 @@ use Rattle.packet.proofs.Changes.{changed-length, changed-beyond, chang
 use Rattle.packet.proofs.Places.{plan-place}
 
 -- the desk at the call's entry
-abbrev pub entryDesk : State → Desk
-entryDesk s =
-    desk (handOf (s .decoder)) (s .table) (s .logs .devices) (s .logs .endpoints) (s .logs .transactions) (s .logs .groups) (s .logs .statebytes) (s .logs .states) (s .logs .items) (s .logs .links) (s .logs .requests)
+abbrev pub entryDesk : ℕ → State → Desk
+entryDesk time s =
+    desk (handOf time (s .decoder)) (s .table) (s .logs .devices) (s .logs .endpoints) (s .logs .transactions) (s .logs .groups) (s .logs .statebytes) (s .logs .states) (s .logs .items) (s .logs .links) (s .logs .requests)
 
 -- what the code knows when it is to write: the tests that were passed, and what is known of the arguments
 pub record Begins (packet : List ℕ) (s : State) : Type 0 where
@@ -136,7 +138,7 @@ module _ (packet : List ℕ) (time : ℕ) (s : State) (b : Begins packet s) wher
   words : (k : ℕ) → length (log k (after .journal)) ≡ wordsFor k t
   words k = adds .words k ∙ omega arith
 
-  space : SpaceAll (entryDesk s) (after .journal)
+  space : SpaceAll (entryDesk time s) (after .journal)
   unfolding inLog addCounts roomBy
   space =
       record {
@@ -217,7 +219,7 @@ module _ (packet : List ℕ) (time : ℕ) (s : State) (b : Begins packet s) wher
         link = k .link ∙ ap (λ (a : Transaction). a .link) (sym then-is);
       }
 
-  matches : Matches w (entryDesk s)
+  matches : Matches (stamped time w) (entryDesk time s)
   matches =
       record {
         sized = b .known .size;
@@ -234,11 +236,11 @@ module _ (packet : List ℕ) (time : ℕ) (s : State) (b : Begins packet s) wher
         endpoints = refl;
       }
 
-  held : HoldsAll (entryDesk s) after (performed p (w .packets) (entryDesk s))
-  held = played-holds p packet time w fits brought (all-start packet time w (entryDesk s) refl matches)
+  held : HoldsAll (entryDesk time s) after (performed p (entryDesk time s))
+  held = played-holds p packet time w fits brought (all-start packet time w (entryDesk time s) refl refl matches)
 
-  pub asks : PlanAsks p (w .packets) (entryDesk s)
-  asks = ready p packet time w fits brought (all-start packet time w (entryDesk s) refl matches) (room-all held space)
+  pub asks : PlanAsks p (entryDesk time s)
+  asks = ready p packet time w fits brought (all-start packet time w (entryDesk time s) refl refl matches) (room-all held space)
 
   -- ---- what it leaves
 
@@ -249,9 +251,9 @@ module _ (packet : List ℕ) (time : ℕ) (s : State) (b : Begins packet s) wher
   unfolding sumPlan
   sum-is = summed .1 .1
 
-  module _ (k : Desk) (e : k ≡ performed p (w .packets) (entryDesk s)) where
-    now-held : HoldsAll (entryDesk s) after k
-    now-held = subst (HoldsAll (entryDesk s) after) (sym e) held
+  module _ (k : Desk) (e : k ≡ performed p (entryDesk time s)) where
+    now-held : HoldsAll (entryDesk time s) after k
+    now-held = subst (HoldsAll (entryDesk time s) after) (sym e) held
 
     transaction-is : tied (p .begin .transaction) (k .hand .written) ≡ after .transaction
     transaction-is =
@@ -325,25 +327,24 @@ module _ (packet : List ℕ) (time : ℕ) (s : State) (b : Begins packet s) wher
 
   -- ---- all of it
 
-  module _ (k : Desk) (e : k ≡ performed p (w .packets) (entryDesk s)) (y z : List ℕ) (f : y ≡ sets (s .logs .bytes) (d .counts .bytes) packet) (g : z ≡ sets (s .logs .packets) (d .counts .packets * packetWidth) (d .counts .bytes ∷ time ∷ [])) where
+  module _ (k : Desk) (e : k ≡ performed p (entryDesk time s)) (y z : List ℕ) (f : y ≡ sets (s .logs .bytes) (d .counts .bytes) packet) (g : z ≡ sets (s .logs .packets) (d .counts .packets * packetWidth) (d .counts .bytes ∷ time ∷ [])) where
     logs-are : Appends after (d .counts) (s .logs) (logs y (k .devices) (k .endpoints) z (s .logs .events) (k .transactions) (k .groups) (k .statebytes) (k .states) (k .items) (k .links) (k .requests))
     logs-are =
         let h = now-held k e in
         let m = h .memory in
-        record {
-          bytes = f ∙ ap (sets (s .logs .bytes) (d .counts .bytes)) (sym bytes-are);
-          devices = h .devices .written;
-          endpoints = h .endpoints .written;
-          packets = g ∙ ap (sets (s .logs .packets) (d .counts .packets * packetWidth)) (sym packets-are);
-          events = ap (sets (s .logs .events) (d .counts .events * eventWidth)) (sym events-are);
-          transactions = h .transactions .written;
-          groups = m .groups .written;
-          statebytes = m .statebytes .written;
-          states = m .states .written;
-          items = m .items .written;
-          links = m .links .written;
-          requests = h .requests .written;
-        }
+        each-log _
+        (f ∙ ap (sets (s .logs .bytes) (d .counts .bytes)) (sym bytes-are) ∙ word-each (s .logs .bytes) (log 0 (after .journal)) (d .counts .bytes))
+        (h .devices .written ∙ word-each (s .logs .devices) (log 1 (after .journal)) (d .counts .devices))
+        (h .endpoints .written)
+        (g ∙ ap (sets (s .logs .packets) (d .counts .packets * packetWidth)) (sym packets-are))
+        (ap (sets (s .logs .events) (d .counts .events * eventWidth)) (sym events-are))
+        (h .transactions .written)
+        (m .groups .written)
+        (m .statebytes .written ∙ word-each (s .logs .statebytes) (log 7 (after .journal)) (d .counts .statebytes))
+        (m .states .written ∙ word-each (s .logs .states) (log 8 (after .journal)) (d .counts .states))
+        (m .items .written ∙ word-each (s .logs .items) (log 9 (after .journal)) (d .counts .items))
+        (m .links .written)
+        (h .requests .written)
 
     pub left : Left (handleRawPacket packet time w) (d .finished) s
         (state (decoderBy d p sum (k .hand)) (changed (changeBy p (d .counts .devices)) (s .devices)) (k .table) (logs y (k .devices) (k .endpoints) z (s .logs .events) (k .transactions) (k .groups) (k .statebytes) (k .states) (k .items) (k .links) (k .requests)))

@@ -11,7 +11,7 @@ use Rattle.details.specs.Search.{blank}
 use Rattle.details.specs.declared.Device.{Device}
 use Rattle.rules.specs.declared.EventState.the-variants.{Idle}
 use Rattle.rules.specs.declared.Slot.the-variants.{Empty}
-use Rattle.rules.specs.World.{_▷_}
+use Rattle.rules.specs.World.{_▷_, stamp}
 use Rattle.tally.specs.Tally.{none, addPacket}
 use Rattle.update.specs.Update.{when}
 use Rattle.tally.specs.declared.add.Tally.{Tally}
@@ -62,10 +62,10 @@ sumPlan d p len room = sumOf (planPasses p) d (tallyOf d p len) room
 
 -- ---- the record
 
-abbrev pub handOf : Decoder → Hand
-handOf d =
+abbrev pub handOf : ℕ → Decoder → Hand
+handOf time d =
     record {
-      written = writtenOf d;
+      written = writtenOf (stamp (d .counts .packets) time) d;
       transactions = d .counts .transactions;
       devices = d .counts .devices;
       endpoints = d .counts .endpoints;

@@ -8,10 +8,12 @@ use crate::sum::sum_plan;
 use call::bytes_known;
 use call::known;
 use call::room_of;
+use call::stamp_of;
 use call::tie;
 use call::written_of;
 use decide::near::Near;
 use decide::plan_near;
+use endpoints::Table;
 use plan::Plan;
 use record::Counts;
 use record::Decoder;
@@ -55,13 +57,13 @@ fn is_dropped(slot: Slot, t: Transaction) -> bool
     }
 }
 
-// Where the call begins to write.
-fn hand_of(d: Decoder) -> Hand
-    ensures { λ r. ⌜ r ≡ handOf d ⌝ }
+// Where the call begins to write, and what it brings.
+fn hand_of(d: Decoder, time: u64) -> Hand
+    ensures { λ r. ⌜ r ≡ handOf time d ⌝ }
 {
     let n = d.counts;
     Hand {
-        written: written_of(d),
+        written: written_of(stamp_of(n, time), d),
         transactions: n.transactions,
         devices: n.devices,
         endpoints: n.endpoints,
@@ -160,7 +162,7 @@ pub fn packet_in(
     near: Near,
     packet: &[u8],
     time: u64,
-    table: &mut [u64; 2176],
+    table: &mut Table,
     bytes: &mut [u8],
     device_rows: &mut [u64],
     endpoint_rows: &mut [u64],
@@ -219,8 +221,7 @@ pub fn packet_in(
     put_packet(n, packet, time, bytes, packets);
     let hand = perform(
         plan,
-        n.packets as u64,
-        hand_of(d),
+        hand_of(d, time),
         table,
         device_rows,
         endpoint_rows,

@@ -12,6 +12,7 @@ use call::first_tests;
 use call::room_of;
 use decide::near::look;
 use details::Device;
+use endpoints::Table;
 use record::Decoder;
 ghost use mathlib.Core.Path.{_≡_};
 ghost use Rattle.call.specs.State.{state, logs};
@@ -28,7 +29,7 @@ pub fn packet(
     devices: [Device; 64],
     packet: &[u8],
     time: u64,
-    table: &mut [u64; 2176],
+    table: &mut Table,
     bytes: &mut [u8],
     device_rows: &mut [u64],
     endpoint_rows: &mut [u64],

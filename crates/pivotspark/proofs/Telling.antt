@@ -9,7 +9,7 @@ use Rattle.rows.specs.Sets.{sets-then}
 use Rattle.record.specs.declared.Counts.{Counts}
 use Rattle.call.specs.State.{Logs, State}
 use Rattle.run.specs.Run.{Ran}
-use Rattle.pivotspark.specs.Told.{told, countWords, counted, Told}
+use Rattle.pivotspark.specs.Told.{told, counted, Told}
 
 module _ (l : List ℕ) (n : Counts) where
   pub too-few : length l < 12 → l ≡ counted l n

@@ -2,26 +2,20 @@
 -- Hold it to: ours: the C entry pivotspark_trace
 use Prim.Native.Nat.{ℕ, _+_, _*_, _%_}
 use mathlib.Core.Bool.{cond}
-use mathlib.Core.List.{List, [], _∷_}
+use mathlib.Core.List.{List}
 use mathlib.Core.Path.{_≡_}
 use lib.Dec.{leb}
 use lib.ListN.{length}
 use lib.Seq.{sets}
 use Rattle.record.specs.declared.Counts.{Counts}
-use Rattle.call.specs.State.{Logs, State}
+use Rattle.call.specs.State.{Logs, State, countWords}
 use Rattle.run.specs.Run.{Ran}
 
 -- the answer in the top byte, the place below it
 abbrev pub told : ℕ → ℕ → ℕ
 told answer place = 72057594037927936 * answer + place % 72057594037927936
 
--- the record's counts, in the order of the struct
-abbrev pub countWords : Counts → List ℕ
-countWords n =
-    n .bytes ∷ n .devices ∷ n .endpoints ∷ n .packets ∷ n .events ∷ n .transactions ∷ n .groups ∷ n .statebytes ∷ n .states ∷ n .items ∷ n .links ∷ n .requests
-    ∷ []
-
--- stored from the start of the words lent for them; where those are fewer than twelve, all stay as they were
+-- the record's counts, stored from the start of the words lent for them; where those are fewer than twelve, all stay as they were
 unfoldable pub counted : List ℕ → Counts → List ℕ
 counted l n = cond (leb 12 (length l)) (sets l 0 (countWords n)) l
 

@@ -1,4 +1,5 @@
 // What C and Rust programs call to run a whole trace.
+use endpoints::Table;
 use record::Counts;
 use run::run;
 ghost use mathlib.Core.Path.{_≡_};
@@ -49,7 +50,7 @@ fn put_counts(counts: &mut [u64], n: Counts)
 #[no_mangle]
 pub extern "C" fn pivotspark_trace(
     trace: &[u8],
-    table: &mut [u64; 2176],
+    table: &mut Table,
     bytes: &mut [u8],
     device_rows: &mut [u64],
     endpoint_rows: &mut [u64],

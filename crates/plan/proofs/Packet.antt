@@ -17,17 +17,16 @@ use Rattle.transaction.specs.declared.Status.the-variants.{New, Continue, Retry
 use Rattle.transaction.specs.declared.Transaction.{Transaction}
 use Rattle.transaction.proofs.Laws.{extract-keeps}
 use Rattle.endpoints.specs.declared.Endpoint.{Endpoint}
-use Rattle.rules.specs.World.{World, _▷_, withSlot, withTransaction, withEventState, withId, moreTransactions}
+use Rattle.rules.specs.World.{World, _▷_, withSlot, withTransaction, withId, moreTransactions}
 use Rattle.rules.specs.Endpoints.{detailOf}
 use Rattle.rules.specs.Transactions.{transactionEnd, transactionStart, transactionAppend, completes, resumeAt, stateAt, updateAt, updateFrom, isDropped, transactionUpdate}
-use Rattle.rules.specs.Decoder.{appendBytes, pushPacket, handleRawPacket}
-use Rattle.rules.specs.declared.EventState.the-variants.{Idle}
+use Rattle.rules.specs.Decoder.{handleRawPacket}
 use Rattle.rules.specs.declared.Slot.{Slot}
 use Rattle.rules.specs.declared.Slot.the-variants.{Empty, Current, Suspended}
 use Rattle.update.specs.Update.{when, decideResume}
 use Rattle.update.specs.Entry.{entryAfter}
 use Rattle.plan.specs.Step.{opened, begun, ended, endOf}
-use Rattle.plan.specs.Packet.{resumes, slotThen, oldEndpoint, transactionThen, entryThen, going, starting, appending, closeOf, middleOf, isNew, isLast, succeeds, completesBy, slotAfter, entryEnded, lastEnded, endIf, planBy, planOf, played}
+use Rattle.plan.specs.Packet.{resumes, slotThen, oldEndpoint, transactionThen, entryThen, going, starting, appending, closeOf, middleOf, isNew, isLast, succeeds, completesBy, slotAfter, entryEnded, lastEnded, endIf, planBy, planOf, withPacket, played}
 use Rattle.plan.specs.declared.Middle.{Middle}
 use Rattle.plan.specs.declared.Begin.{Begin}
 use Rattle.plan.specs.declared.End.{End}
@@ -251,11 +250,7 @@ by-slot Suspended id packet w h =
 
 -- ---- handle_raw_packet
 
--- the packet's rows
-abbrev pub withPacket : List ℕ → ℕ → World → World
-withPacket packet time w = w ▷ withEventState Idle ▷ appendBytes packet ▷ pushPacket (w .bytes) time
-
--- are not what is decided from
+-- the packet's rows are not what is decided from
 pub plan-same : (packet : List ℕ) (time : ℕ) (w : World) → planOf packet (withPacket packet time w) ≡ planOf packet w
 unfolding planOf planBy
 plan-same packet time w =

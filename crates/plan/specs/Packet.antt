@@ -23,7 +23,7 @@ use Rattle.transaction.specs.declared.Status.the-variants.{New, Continue, Retry
 use Rattle.transaction.specs.declared.Style.{Style}
 use Rattle.transaction.specs.declared.Style.the-variants.{Nothing, Simple, Split, Token}
 use Rattle.transaction.specs.declared.Transaction.{Transaction}
-use Rattle.rules.specs.World.{World, _▷_, invalidEp, withSlot, withTransaction, withEventState, withId, withLink, withPid, withToken, newTransaction, moreTransactions}
+use Rattle.rules.specs.World.{stamped, World, _▷_, invalidEp, withSlot, withTransaction, withEventState, withId, withLink, withPid, withToken, newTransaction, moreTransactions}
 use Rattle.endpoints.specs.Table.{newEndpoint}
 use Rattle.rules.specs.Endpoints.{deviceFor, addressFor, found, detailOf}
 use Rattle.rules.specs.Transactions.{stateAt, completes}
@@ -292,11 +292,12 @@ planOf packet w =
 
 -- ---- done: the packet's rows, then each step
 
+abbrev pub withPacket : List ℕ → ℕ → World → World
+withPacket packet time w = w ▷ stamped time ▷ withEventState Idle ▷ appendBytes packet ▷ pushPacket (w .bytes) time
+
 unfoldable pub played : Plan → List ℕ → ℕ → World → World
 played p packet time w =
-    w ▷ withEventState Idle
-    ▷ appendBytes packet
-    ▷ pushPacket (w .bytes) time
+    withPacket packet time w
     ▷ when (p .resumes) (begun (w .packets) (p .resume))
     ▷ when (p .ends) (λ v. ended (p .old) (p .end) (withTransaction (p .brought) v))
     ▷ begun (w .packets) (p .begin)

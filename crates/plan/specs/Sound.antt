@@ -4,12 +4,11 @@ use mathlib.Core.Bool.{Bool, true, false}
 use mathlib.Core.Path.{_≡_}
 use Rattle.endpoints.specs.TableLaws.{Fits}
 use Rattle.transaction.specs.Payload.{startPid}
-use Rattle.rules.specs.World.{World, withTransaction, withEventState, _▷_}
-use Rattle.rules.specs.Decoder.{appendBytes, pushPacket}
-use Rattle.rules.specs.declared.EventState.the-variants.{Idle}
+use Rattle.rules.specs.World.{World, withTransaction, _▷_}
 use mathlib.Core.List.{List}
 use Rattle.update.specs.Effect.{passes}
 use Rattle.update.specs.Update.{when}
+use Rattle.plan.specs.Packet.{withPacket}
 use Rattle.plan.specs.Step.{opened, begun, ended}
 use Rattle.plan.specs.declared.Begin.{Begin}
 use Rattle.plan.specs.declared.End.{End}
@@ -40,7 +39,7 @@ pub record EndFits (x : ℕ) (s : End) (w : World) : Type 0 where
 
 -- the worlds that the steps of a packet begin with, in their order
 abbrev pub world1 : List ℕ → ℕ → World → World
-world1 packet time w = w ▷ withEventState Idle ▷ appendBytes packet ▷ pushPacket (w .bytes) time
+world1 packet time w = withPacket packet time w
 
 abbrev pub world2 : Plan → List ℕ → ℕ → World → World
 world2 p packet time w = world1 packet time w ▷ when (p .resumes) (begun (w .packets) (p .resume))

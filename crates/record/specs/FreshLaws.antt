@@ -74,14 +74,14 @@ pub record Agrees (w v : World) : Type 0 where
   pub stateBytes : w .stateBytes ≡ v .stateBytes
   pub items : w .items ≡ v .items
 
-module _ (table : List ℕ) (l : length table ≡ 2176) where
-  length-0 : length (clearTable table) ≡ 2176
+module _ (table : List ℕ) (l : length table ≡ word.table) where
+  length-0 : length (clearTable table) ≡ word.table
   length-0 = length-replicate (length table) 0 ∙ l
 
-  length-1 : length (storeAt (clearTable table) 0 (newEndpoint 0 0x10)) ≡ 2176
+  length-1 : length (storeAt (clearTable table) 0 (newEndpoint 0 0x10)) ≡ word.table
   length-1 = length-store _ _ _ ∙ length-0
 
-  length-2 : length (storeAt (storeAt (clearTable table) 0 (newEndpoint 0 0x10)) 1 (newEndpoint 0 0x11)) ≡ 2176
+  length-2 : length (storeAt (storeAt (clearTable table) 0 (newEndpoint 0 0x10)) 1 (newEndpoint 0 0x11)) ≡ word.table
   length-2 = length-store _ _ _ ∙ length-1
 
   pub fresh-entry : (i : ℕ) → i < 3 → entryAt (freshTable table) i ≡ newEndpoint 0 (numberAt i)

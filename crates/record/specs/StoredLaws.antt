@@ -34,7 +34,7 @@ phase-small Early = omega arith
 phase-small Active = omega arith
 phase-small Ended = omega arith
 
-pub stored-same : (t : List ℕ) (i : ℕ) (e : Endpoint) → length t ≡ 2176 → i < 128 → Fits e → Stored (storeAt t i e) i
+pub stored-same : (t : List ℕ) (i : ℕ) (e : Endpoint) → length t ≡ word.table → i < 128 → Fits e → Stored (storeAt t i e) i
 stored-same t i e l h f =
     record {
       address = rw (at word.address (omega arith)) (f .address);

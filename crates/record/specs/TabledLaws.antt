@@ -21,11 +21,11 @@ use Rattle.record.specs.StoredLaws.{stored-same, stored-other, stored-cl
 
 -- t, which was t₀ when the call began
 pub record Tabled (n : ℕ) (t₀ t : List ℕ) : Type 0 where
-  pub size : length t ≡ 2176
+  pub size : length t ≡ word.table
   pub stored : (i : ℕ) → i < n → Stored t i
   pub beyond : (i : ℕ) → n * word.width ≤ i → getD t i 0 ≡ getD t₀ i 0
 
-pub tabled-start : (n : ℕ) (t : List ℕ) → length t ≡ 2176 → ((i : ℕ) → i < n → Stored t i) → Tabled n t t
+pub tabled-start : (n : ℕ) (t : List ℕ) → length t ≡ word.table → ((i : ℕ) → i < n → Stored t i) → Tabled n t t
 tabled-start n t l s = record { size = l; stored = s; beyond = λ i h. refl }
 
 -- a store leaves what stands behind its row
@@ -34,7 +34,7 @@ unfolding storeAt
 store-past t x e i h = getD-sets-past (words e) t (x * word.width) i 0 (omega arith)
 
 -- a store in one of n rows, where all the others are stored
-store-stored : (n : ℕ) (t : List ℕ) (x : ℕ) (e : Endpoint) → length t ≡ 2176 → x < 128 → Fits e → ((i : ℕ) → i < n → (i ≡ x → ⊥) → Stored t i) → (i : ℕ) → i < n → Stored (storeAt t x e) i
+store-stored : (n : ℕ) (t : List ℕ) (x : ℕ) (e : Endpoint) → length t ≡ word.table → x < 128 → Fits e → ((i : ℕ) → i < n → (i ≡ x → ⊥) → Stored t i) → (i : ℕ) → i < n → Stored (storeAt t x e) i
 store-stored n t x e l hx f s i h = by (eqb i x) refl
   where
     by : (b : Bool) → eqb i x ≡ b → Stored (storeAt t x e) i

@@ -6,10 +6,10 @@ use lib.ListN.{getD}
 use Rattle.details.specs.Search.{blank}
 use Rattle.endpoints.specs.Table.{entryAt}
 use Rattle.details.specs.declared.Device.{Device}
-use Rattle.rules.specs.World.{World}
+use Rattle.rules.specs.World.{World, stamp}
 use Rattle.record.specs.declared.Decoder.{Decoder}
 
--- nothing is appended yet: the journal is that of one call
+-- nothing is appended yet: the journal is that of one call; and the context is finish's, which has no packet row
 abbrev pub worldOf : Decoder → List Device → List ℕ → World
 worldOf d devices table =
     record {
@@ -22,6 +22,7 @@ worldOf d devices table =
       lastItem = d .last;
       eventState = d .event;
       keepalive = d .keepalive;
+      context = stamp 0 0;
       bytes = d .counts .bytes;
       packets = d .counts .packets;
       transactions = d .counts .transactions;

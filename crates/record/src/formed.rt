@@ -9,6 +9,7 @@ use details::FRAMING_EP_NUM;
 use details::INVALID_EP_NUM;
 use endpoints::Endpoint;
 use endpoints::Phase;
+use endpoints::Table;
 use endpoints::entry::load;
 use endpoints::phases::count_waiting;
 use endpoints::word;
@@ -50,7 +51,7 @@ fn entry_formed(counts: Counts, e: Endpoint) -> bool
 }
 
 // The words of endpoint i are ones that `store` writes.
-fn words_stored(table: &[u64; 2176], i: usize) -> bool
+fn words_stored(table: &Table, i: usize) -> bool
     requires { ⌜ i < 128 ⌝ }
     ensures { λ r. ⌜ r ≡ wordsStored (now (table .entry)) i ⌝ }
 {
@@ -66,7 +67,7 @@ fn words_stored(table: &[u64; 2176], i: usize) -> bool
         & (table[at + word::PENDING] < 2)
 }
 
-fn endpoint_formed(counts: Counts, table: &[u64; 2176], i: usize) -> bool
+fn endpoint_formed(counts: Counts, table: &Table, i: usize) -> bool
     requires { ⌜ i < 128 ⌝ }
     ensures { λ r. ⌜ r ≡ endpointFormed counts (now (table .entry)) i ⌝ }
 {
@@ -74,7 +75,7 @@ fn endpoint_formed(counts: Counts, table: &[u64; 2176], i: usize) -> bool
     entry_formed(counts, e) & words_stored(table, i)
 }
 
-fn endpoints_formed(counts: Counts, table: &[u64; 2176]) -> bool
+fn endpoints_formed(counts: Counts, table: &Table) -> bool
     requires { ⌜ counts .endpoints ≤ 128 ⌝ }
     ensures { λ r. ⌜ r ≡ every (endpointFormed counts (now (table .entry))) 0 (counts .endpoints) ⌝ }
 {
@@ -128,7 +129,7 @@ fn transaction_formed(counts: Counts, t: Transaction, e: Endpoint) -> bool
     names & payload & style_formed(style, x) & linked
 }
 
-fn held_formed(counts: Counts, t: Transaction, table: &[u64; 2176]) -> bool
+fn held_formed(counts: Counts, t: Transaction, table: &Table) -> bool
     requires { ⌜ counts .endpoints ≤ 128 ⌝ }
     ensures { λ r. ⌜ r ≡ heldFormed counts t (entryAt (now (table .entry)) (t .endpoint)) ⌝ }
 {
@@ -141,7 +142,7 @@ fn held_formed(counts: Counts, t: Transaction, table: &[u64; 2176]) -> bool
     }
 }
 
-fn slot_formed(slot: Slot, counts: Counts, t: Transaction, table: &[u64; 2176]) -> bool
+fn slot_formed(slot: Slot, counts: Counts, t: Transaction, table: &Table) -> bool
     requires { ⌜ counts .endpoints ≤ 128 ⌝ }
     ensures { λ r. ⌜ r ≡ implies (holds slot) (heldFormed counts t (entryAt (now (table .entry)) (t .endpoint))) ⌝ }
 {
@@ -159,7 +160,7 @@ fn is_special(e: Endpoint, number: u8) -> bool
 }
 
 // The first device and the three special endpoints stand.
-fn specials_stand(counts: Counts, devices: [Device; 64], table: &[u64; 2176]) -> bool
+fn specials_stand(counts: Counts, devices: [Device; 64], table: &Table) -> bool
     ensures { λ r. ⌜ r ≡ specialsStand counts devices (now (table .entry)) ⌝ }
 {
     let first = devices[0];
@@ -175,7 +176,7 @@ fn specials_stand(counts: Counts, devices: [Device; 64], table: &[u64; 2176]) ->
 }
 
 // The event endpoint has no group that is early, active or ended.
-fn event_rests(table: &[u64; 2176]) -> bool
+fn event_rests(table: &Table) -> bool
     ensures { λ r. ⌜ r ≡ eventRests (now (table .entry)) ⌝ }
 {
     let event = load(table, 0);
@@ -190,7 +191,7 @@ fn last_formed(counts: Counts, last: usize) -> bool
 }
 
 // Whether the record is well formed with its devices and its table, on logs with that room.
-pub fn well_formed(d: Decoder, devices: [Device; 64], table: &[u64; 2176], room: Counts) -> bool
+pub fn well_formed(d: Decoder, devices: [Device; 64], table: &Table, room: Counts) -> bool
     ensures { λ r. ⌜ r ≡ wellFormed d devices (now (table .entry)) room ⌝ }
 {
     let counts = d.counts;

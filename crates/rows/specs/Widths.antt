@@ -1,6 +1,8 @@
 -- To be believed: how many words a row of each log has; row n of a log starts at n times that.
 -- Hold it to: 01, "Trace and listing" (the numbers that a line of each kind has).
-use Prim.Native.Nat.{ℕ}
+use Prim.Native.Nat.{ℕ, _*_}
+use mathlib.Core.List.{[], _∷_}
+use lib.ListN.{getD}
 
 -- 1: the address
 abbrev pub deviceWidth : ℕ
@@ -37,3 +39,12 @@ linkWidth = 4
 -- 11: endpoint, setup bytes, length
 abbrev pub requestWidth : ℕ
 requestWidth = 3
+
+-- by the log's number (rules, Rows); packet bytes (0), state bytes (7) and states (8) have one word for each
+abbrev pub widthOf : ℕ → ℕ
+widthOf k =
+    getD (1 ∷ deviceWidth ∷ endpointWidth ∷ packetWidth ∷ eventWidth ∷ transactionWidth ∷ groupWidth ∷ 1 ∷ 1 ∷ itemWidth ∷ linkWidth ∷ requestWidth ∷ []) k 0
+
+-- where row n of log k starts
+abbrev pub place : ℕ → ℕ → ℕ
+place k n = n * widthOf k

@@ -8,7 +8,7 @@ use native.Mathlib.Omega.{arith}
 use borrow.Author.Tests.{eqb-true, ne-eqb}
 use lib.Dec.{eqb}
 use lib.ListN.{length, length-append}
-use Rattle.rows.specs.Widths.{groupWidth, packetWidth}
+use Rattle.rows.specs.Widths.{endpointWidth, groupWidth, packetWidth, transactionWidth, widthOf}
 use Rattle.usb.specs.Fields.{tokenOf}
 use Rattle.usb.specs.Pid.{SPLIT, MALFORMED}
 use Rattle.transaction.specs.Table.{pick}
@@ -31,7 +31,7 @@ use Rattle.group.specs.declared.Grouped.{Grouped}
 use Rattle.group.specs.declared.GroupStatus.{GroupStatus}
 use Rattle.group.specs.declared.GroupStatus.the-variants as group
 use Rattle.rules.specs.Rows.{Row, BytesRow, DeviceRow, EndpointRow, PacketRow, EventRow, TransactionRow, GroupRow, StateRow, StateBytes, ItemRow, T, G, D, E, RequestRow, Over, written, log}
-use Rattle.rules.specs.World.{World, phase, push, change, cleared, withSlot, withKeepalive, withEventState, withItems, newTransaction}
+use Rattle.rules.specs.World.{stamped, World, phase, push, change, cleared, withSlot, withKeepalive, withEventState, withItems, newTransaction}
 use Rattle.rules.specs.Endpoints.{addDevice, deviceFor, pushEndpoint, addEndpointOn, addressFor, found, packetEndpointAt, packetEndpoint, endpointOf, setDetailOn}
 use Rattle.rules.specs.Groups.{closeRow, closeRows, addItem, statesFrom, addGroupEntry, link, linkOnce, pushGroup, over, endActive, addGroup, groupEndAt, groupEnd, groupStartAt, groupStart, groupAppendAt, groupAppend, groupStep, effectStep, grouped, becomes, groupUpdate, undecided, groupEarlyAppend, startsEarly, endEarly, groupEarlyStart}
 use Rattle.rules.specs.Transactions.{transactionEndAt, transactionEnd, appendToken, transactionAppend, pushTransaction, begin as start, typeOf, beginOn, beginSplit, beginPlain, transactionStart, resumeAt, stateAt, completes, extracted, updateAt, updateFrom, isDropped, transactionUpdate}
@@ -65,41 +65,45 @@ log-behind k [] base = append-nil-sym (log k base)
     append-nil-sym l = rw append-nil
 log-behind k (r ∷ js) base = ap (λ (l : List ℕ). l ++ pick (eqb (written r .0) k) (written r .1) []) (log-behind k js base) ∙ append-assoc (log k base) (log k js) _
 
--- ---- rows of one width: 3 words, 2, 4, none, or 1; not of the logs 0 and 7, which are of bytes
+-- ---- rows of one width: of each log except 0 and 7, which are of bytes
 
-abbrev pub width : ℕ → ℕ
-width k = pick (eqb k 2 || eqb k 6 || eqb k 11) 3 (pick (eqb k 3 || eqb k 4) 2 (pick (eqb k 10) 4 (pick (eqb k 12) 0 1)))
-
-row-width : (k : ℕ) → ¬ (k ≡ 0) → ¬ (k ≡ 7) → (r : Row) → eqb (written r .0) k ≡ true → length (written r .1) ≡ width k
-row-width k a b (BytesRow bs) h = absurd (a (sym (eqb-true 0 k h)))
-row-width k a b (DeviceRow d) h = let q : k ≡ 1 = sym (eqb-true 1 k h) in rw q
-row-width k a b (EndpointRow d n r) h = let q : k ≡ 2 = sym (eqb-true 2 k h) in rw q
-row-width k a b (PacketRow s t) h = let q : k ≡ 3 = sym (eqb-true 3 k h) in rw q
-row-width k a b (EventRow p c) h = let q : k ≡ 4 = sym (eqb-true 4 k h) in rw q
-row-width k a b (TransactionRow r) h = let q : k ≡ 5 = sym (eqb-true 5 k h) in rw q
-row-width k a b (GroupRow r) h = let q : k ≡ 6 = sym (eqb-true 6 k h) in rw q
-row-width k a b (StateRow s) h = let q : k ≡ 8 = sym (eqb-true 8 k h) in rw q
-row-width k a b (StateBytes ss) h = absurd (b (sym (eqb-true 7 k h)))
-row-width k a b (ItemRow g) h = let q : k ≡ 9 = sym (eqb-true 9 k h) in rw q
-row-width k a b (T x t) h = let q : k ≡ 10 = sym (eqb-true 10 k h) in rw q
-row-width k a b (G x t) h = let q : k ≡ 10 = sym (eqb-true 10 k h) in rw q
-row-width k a b (D x t n) h = let q : k ≡ 10 = sym (eqb-true 10 k h) in rw q
-row-width k a b (E x i) h = let q : k ≡ 10 = sym (eqb-true 10 k h) in rw q
-row-width k a b (RequestRow r) h = let q : k ≡ 11 = sym (eqb-true 11 k h) in rw q
-row-width k a b (Over x i) h = let q : k ≡ 12 = sym (eqb-true 12 k h) in rw q
+pub written-width : (r : Row) → ¬ (written r .0 ≡ 0) → ¬ (written r .0 ≡ 7) → length (written r .1) ≡ widthOf (written r .0)
+written-width (BytesRow bs) a b = absurd (a refl)
+written-width (DeviceRow d) a b = refl
+written-width (EndpointRow d n r) a b = refl
+written-width (PacketRow s t) a b = refl
+written-width (EventRow p c) a b = refl
+written-width (TransactionRow r) a b = refl
+written-width (GroupRow r) a b = refl
+written-width (StateRow s) a b = refl
+written-width (StateBytes ss) a b = absurd (b refl)
+written-width (ItemRow g) a b = refl
+written-width (T x t) a b = refl
+written-width (G x t) a b = refl
+written-width (D x t n) a b = refl
+written-width (E x i) a b = refl
+written-width (RequestRow r) a b = refl
+written-width (Over x i) a b = refl
 
 abbrev pub rowsIn : ℕ → List Row → ℕ
 rowsIn k [] = 0
 rowsIn k (r ∷ js) = pick (eqb (written r .0) k) (suc (rowsIn k js)) (rowsIn k js)
 
-pub rows-words : (k : ℕ) → ¬ (k ≡ 0) → ¬ (k ≡ 7) → (js : List Row) → wordsIn k js ≡ rowsIn k js * width k
-rows-words k a b [] = sym (zero-mul (width k))
+rows-words : (k : ℕ) → ¬ (k ≡ 0) → ¬ (k ≡ 7) → (js : List Row) → wordsIn k js ≡ rowsIn k js * widthOf k
+rows-words k a b [] = sym (zero-mul (widthOf k))
 rows-words k a b (r ∷ js) = by (eqb (written r .0) k) refl (rows-words k a b js)
   where
-    by : (c : Bool) → eqb (written r .0) k ≡ c → wordsIn k js ≡ rowsIn k js * width k
-        → pick c (wordsIn k js + length (written r .1)) (wordsIn k js) ≡ pick c (suc (rowsIn k js)) (rowsIn k js) * width k
-    by true h e = rw (e, row-width k a b r h, suc-mul (rowsIn k js) (width k))
+    width : written r .0 ≡ k → length (written r .1) ≡ widthOf k
+    width q = written-width r (λ z. a (sym q ∙ z)) (λ z. b (sym q ∙ z)) ∙ ap widthOf q
+
+    by : (c : Bool) → eqb (written r .0) k ≡ c → wordsIn k js ≡ rowsIn k js * widthOf k
+        → pick c (wordsIn k js + length (written r .1)) (wordsIn k js) ≡ pick c (suc (rowsIn k js)) (rowsIn k js) * widthOf k
+    by true h e = rw (e, width (eqb-true (written r .0) k h), suc-mul (rowsIn k js) (widthOf k))
     by false h e = e
+
+-- a log has so many rows of its width
+pub log-rows : (k : ℕ) → ¬ (k ≡ 0) → ¬ (k ≡ 7) → (js : List Row) → length (log k js) ≡ rowsIn k js * widthOf k
+log-rows k a b js = log-words k js ∙ rows-words k a b js
 
 -- ---- the loops
 
@@ -135,10 +139,10 @@ over-rows k h (suc c) f js = over-row k h (f c .phase) c _ (overRows c f js) ∙
 pub record Numbers (n : World) (bytes devices endpoints packets transactions groups marks items b d e p t g m i : ℕ) : Type 0 where
   pub bytes-are : bytes ≡ n .bytes + b
   pub devices-are : devices ≡ n .deviceCount + d
-  pub endpoints-are : endpoints * 3 ≡ n .count * 3 + e
-  pub packets-are : packets * 2 ≡ n .packets * packetWidth + p
-  pub transactions-are : transactions ≡ n .transactions + t
-  pub groups-are : groups * 3 ≡ n .groups * groupWidth + g
+  pub endpoints-are : endpoints * endpointWidth ≡ n .count * endpointWidth + e
+  pub packets-are : packets * packetWidth ≡ n .packets * packetWidth + p
+  pub transactions-are : transactions * transactionWidth ≡ n .transactions * transactionWidth + t
+  pub groups-are : groups * groupWidth ≡ n .groups * groupWidth + g
   pub marks-are : marks ≡ n .stateBytes + m
   pub items-are : items ≡ n .items + i
 
@@ -375,18 +379,18 @@ module _ (n : World) where
 
   packets : (p : List ℕ) (time : ℕ) (w : World) → Counted w → Counted (handleRawPacket p time w)
   unfolding handleRawPacket
-  packets p time w l = tr-update (w .packets) p (pushPacket (w .bytes) time v) (packet-row (w .bytes) time v (bytes p (withEventState Idle w) l))
+  packets p time w l = tr-update (w .packets) p (pushPacket (w .bytes) time v) (packet-row (w .bytes) time v (bytes p (withEventState Idle (stamped time w)) l))
     where
       v : World
-      v = appendBytes p (withEventState Idle w)
+      v = appendBytes p (withEventState Idle (stamped time w))
 
   events : (kind code time : ℕ) (w : World) → Counted w → Counted (handleEvent kind code time w)
   unfolding handleEvent
   events kind code time w l =
-      ev-update (w .packets) kind (push (EventRow (w .packets) code) (pushPacket (w .bytes) time v)) (packet-row (w .bytes) time v (may (eqb kind 0) (suspend w) (endAll w) l (end-all w l)))
+      ev-update (w .packets) kind (push (EventRow (w .packets) code) (pushPacket (w .bytes) time v)) (packet-row (w .bytes) time v (may (eqb kind 0) (suspend (stamped time w)) (endAll (stamped time w)) l (end-all (stamped time w) l)))
     where
       v : World
-      v = pick (eqb kind 0) (suspend w) (endAll w)
+      v = pick (eqb kind 0) (suspend (stamped time w)) (endAll (stamped time w))
 
   details : (g : Found) (number direction kind max : ℕ) (w : World) → Counted w → Counted (setDetailOn g number direction kind max w)
   details (At i) number direction kind max w l = l

@@ -31,7 +31,7 @@ use Rattle.endpoints.specs.declared.Phase.{Phase}
 use Rattle.endpoints.specs.declared.Phase.the-variants.{None, Early, Active, Ended}
 use Rattle.group.specs.Step.{isActive}
 use Rattle.rules.specs.Rows.{Row, EventRow}
-use Rattle.rules.specs.World.{World, phase, push, withSlot, withTransaction, withEventState, withKeepalive, withJournal, moreTransactions, moreGroups, withPid, newTransaction}
+use Rattle.rules.specs.World.{stamped, World, phase, push, withSlot, withTransaction, withEventState, withKeepalive, withJournal, moreTransactions, moreGroups, withPid, newTransaction}
 use Rattle.rules.specs.Endpoints.{deviceFor, packetEndpoint, endpointOf, setDetailOn}
 use Rattle.rules.specs.Groups.{closePhase, undecided, groupEarlyAppend, link}
 use Rattle.rules.specs.Transactions.{transactionEndAt, transactionEnd, appendToken, transactionAppend, pushTransaction, begin, typeOf, beginOn, beginSplit, beginPlain, transactionStart, resumeAt, stateAt, completes, extracted, updateAt, updateFrom, isDropped, transactionUpdate}
@@ -155,14 +155,14 @@ unfolding handleEvent eventUpdate
 event-links kind code time w l = by (eqb kind 0)
   where
     v : World
-    v = transactionEnd false false w
+    v = transactionEnd false false (stamped time w)
 
     go : (u : World) → Linked u → Linked (eventUpdate (w .packets) kind (push (EventRow (w .packets) code) (pushPacket (w .bytes) time u)))
     go u h = act-links (turnOf (u .eventState) kind .act) (w .packets) (push (EventRow (w .packets) code) (pushPacket (w .bytes) time u)) h
 
-    by : (b : Bool) → Linked (eventUpdate (w .packets) kind (push (EventRow (w .packets) code) (pushPacket (w .bytes) time (pick b (suspend w) (endAll w)))))
-    by true = go (suspend w) (suspend-links (w .slot) w l)
-    by false = go (endAll w) (grows (v .slot) (v .transaction) (v .endpoints) _ (λ y. end-excused (v .endpoints y .phase) (v .endpoints y .first)) (end-links (w .slot) false false w refl l))
+    by : (b : Bool) → Linked (eventUpdate (w .packets) kind (push (EventRow (w .packets) code) (pushPacket (w .bytes) time (pick b (suspend (stamped time w)) (endAll (stamped time w))))))
+    by true = go (suspend (stamped time w)) (suspend-links (w .slot) w l)
+    by false = go (endAll (stamped time w)) (grows (v .slot) (v .transaction) (v .endpoints) _ (λ y. end-excused (v .endpoints y .phase) (v .endpoints y .first)) (end-links (w .slot) false false (stamped time w) refl l))
 
 -- ---- transaction_update: after resume no transaction is suspended
 
@@ -296,7 +296,7 @@ unfolding handleRawPacket transactionUpdate
 packet-links p time w l = by (isDropped (w .slot) (w .transaction))
   where
     v : World
-    v = pushPacket (w .bytes) time (appendBytes p (withEventState Idle w))
+    v = pushPacket (w .bytes) time (appendBytes p (withEventState Idle (stamped time w)))
 
     u : World
     u = resumeAt (w .slot) (w .packets) v

@@ -18,7 +18,7 @@ use Rattle.details.specs.Kind.{Unknown}
 use Rattle.details.specs.declared.Found.{Found}
 use Rattle.details.specs.declared.Found.the-variants.{At, Nothing}
 use Rattle.rules.specs.Rows.{Row, EventRow}
-use Rattle.rules.specs.World.{World, push, withSlot, withJournal, withKeepalive, withEventState}
+use Rattle.rules.specs.World.{stamped, World, push, withSlot, withJournal, withKeepalive, withEventState}
 use Rattle.rules.specs.Endpoints.{deviceFor, found, packetEndpoint, numberAt, endpointOf, setDetailOn}
 use Rattle.rules.specs.Transactions.{transactionEndAt, transactionEnd, appendToken, transactionAppend, pushTransaction, typeOf, beginOn, beginSplit, beginPlain, transactionStart, resumeAt, stateAt, completes, extracted, updateAt, updateFrom, isDropped, transactionUpdate}
 use Rattle.rules.specs.Events.{eventSubgroupStart, eventAddGroup, Act, nothing, single, group, subgroup, keepalive, turnOf, eventAct, eventUpdate}
@@ -116,7 +116,7 @@ unfolding handleRawPacket transactionUpdate
 packets p time w s h = by (isDropped (w .slot) (w .transaction))
   where
     v : World
-    v = pushPacket (w .bytes) time (appendBytes p (withEventState Idle w))
+    v = pushPacket (w .bytes) time (appendBytes p (withEventState Idle (stamped time w)))
 
     u : World
     u = resumeAt (w .slot) (w .packets) v
@@ -151,9 +151,9 @@ events : (kind code time : ℕ) (w : World) → Tokened w → Tokened (handleEve
 unfolding handleEvent eventUpdate
 events kind code time w h = by (eqb kind 0)
   where
-    by : (b : Bool) → Tokened (eventUpdate (w .packets) kind (push (EventRow (w .packets) code) (pushPacket (w .bytes) time (pick b (suspend w) (endAll w)))))
-    by true = acts (turnOf (w .eventState) kind .act) (w .packets) (push (EventRow (w .packets) code) (pushPacket (w .bytes) time (suspend w))) (suspends (w .slot) (w .transaction .style) (w .transaction .endpoint) h)
-    by false = acts (turnOf (endAll w .eventState) kind .act) (w .packets) (push (EventRow (w .packets) code) (pushPacket (w .bytes) time (endAll w))) (ends false false w h)
+    by : (b : Bool) → Tokened (eventUpdate (w .packets) kind (push (EventRow (w .packets) code) (pushPacket (w .bytes) time (pick b (suspend (stamped time w)) (endAll (stamped time w))))))
+    by true = acts (turnOf (w .eventState) kind .act) (w .packets) (push (EventRow (w .packets) code) (pushPacket (w .bytes) time (suspend (stamped time w)))) (suspends (w .slot) (w .transaction .style) (w .transaction .endpoint) h)
+    by false = acts (turnOf (endAll (stamped time w) .eventState) kind .act) (w .packets) (push (EventRow (w .packets) code) (pushPacket (w .bytes) time (endAll (stamped time w)))) (ends false false (stamped time w) h)
 
 details : (g : Found) (number direction kind max : ℕ) (w : World) → Tokened w → Tokened (setDetailOn g number direction kind max w)
 details (At i) number direction kind max w h = h

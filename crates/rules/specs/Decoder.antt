@@ -14,7 +14,7 @@ use Rattle.endpoints.specs.declared.Endpoint.{Endpoint}
 use Rattle.endpoints.specs.declared.Phase.{Phase}
 use Rattle.endpoints.specs.declared.Phase.the-variants.{None, Early, Active, Ended}
 use Rattle.rules.specs.Rows.{Row, BytesRow, PacketRow, EventRow, Over}
-use Rattle.rules.specs.World.{World, _▷_, noItem, withEndpoints, withSlot, withEventState, withKeepalive, withBytes, withPackets, withJournal, push, newTransaction, makeWorld}
+use Rattle.rules.specs.World.{World, _▷_, noItem, withEndpoints, withSlot, withEventState, withKeepalive, withBytes, withPackets, withJournal, push, newTransaction, makeWorld, stamp, stamped}
 use Rattle.rules.specs.Endpoints.{addDevice, deviceFor, addEndpoint, setDetailOn}
 use Rattle.rules.specs.Transactions.{transactionEnd, transactionUpdate}
 use Rattle.rules.specs.Events.{LsKeepalive, eventUpdate}
@@ -25,7 +25,8 @@ use Rattle.rules.specs.declared.EventState.the-variants.{Idle}
 -- ---- fn new
 
 abbrev pub nothingYet : World
-nothingYet = makeWorld (λ j. newEndpoint 0 0) 0 (λ j. details.fresh 0) 0 Empty (newTransaction Nothing 0 0 0 Unknown) noItem Idle false 0 0 0 0 0 0 []
+nothingYet = makeWorld (λ j. newEndpoint 0 0) 0 (λ j. details.fresh 0) 0 Empty (newTransaction Nothing 0 0 0 Unknown) noItem Idle false (stamp 0 0)
+    0 0 0 0 0 0 []
 
 -- the default device, and the special endpoints: EVENT_EP_NUM, INVALID_EP_NUM, FRAMING_EP_NUM
 abbrev pub fresh : World
@@ -43,7 +44,8 @@ pushPacket start time w = w ▷ push (PacketRow start time) ▷ withPackets (suc
 
 unfoldable pub handleRawPacket : List ℕ → ℕ → World → World
 handleRawPacket packet time w =
-    w ▷ withEventState Idle
+    w ▷ stamped time
+    ▷ withEventState Idle
     ▷ appendBytes packet
     ▷ pushPacket (w .bytes) time
     ▷ transactionUpdate (w .packets) packet
@@ -87,9 +89,14 @@ endAll w =
     ▷ endAllActive
     ▷ withKeepalive false
 
+-- a keepalive suspends what is running, any other event ends it
+abbrev pub interrupt : ℕ → World → World
+interrupt kind w = pick (eqb kind LsKeepalive) (suspend w) (endAll w)
+
 unfoldable pub handleEvent : ℕ → ℕ → ℕ → World → World
 handleEvent kind code time w =
-    pick (eqb kind LsKeepalive) (suspend w) (endAll w)
+    w ▷ stamped time
+    ▷ interrupt kind
     ▷ pushPacket (w .bytes) time
     ▷ push (EventRow (w .packets) code)
     ▷ eventUpdate (w .packets) kind

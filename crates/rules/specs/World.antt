@@ -18,6 +18,7 @@ use Rattle.transaction.specs.Payload.{makeTransaction}
 use Rattle.rules.specs.Rows.{Row}
 use Rattle.rules.specs.declared.Slot.{Slot}
 use Rattle.rules.specs.declared.EventState.{EventState}
+use Rattle.rules.specs.declared.Stamp.{Stamp}
 
 pub record World : Type 0 where
   -- endpoint_data with last_endpoint_state, and how many there are
@@ -34,6 +35,8 @@ pub record World : Type 0 where
   pub eventState : EventState
   -- ls_keepalive_item: whether there is one
   pub keepalive : Bool
+  -- what the call that is running brings: its packet row's number and time. It is no part of the state: each call that has a packet row sets it first
+  pub context : Stamp
   -- how many packet bytes, packet rows, transaction rows, group rows, state bytes and item rows there are
   pub bytes : ℕ
   pub packets : ℕ
@@ -45,8 +48,10 @@ pub record World : Type 0 where
   pub journal : List Row
 
 -- World from its fields, in their order
-abbrev pub makeWorld : (ℕ → Endpoint) → ℕ → (ℕ → Device) → ℕ → Slot → Transaction → ℕ → EventState → Bool → ℕ → ℕ → ℕ → ℕ → ℕ → ℕ → List Row → World
-makeWorld endpoints count devices deviceCount slot transaction lastItem eventState keepalive bytes packets transactions groups stateBytes items journal =
+abbrev pub makeWorld : (ℕ → Endpoint) → ℕ → (ℕ → Device) → ℕ → Slot → Transaction → ℕ → EventState → Bool → Stamp
+    → ℕ → ℕ → ℕ → ℕ → ℕ → ℕ → List Row → World
+makeWorld endpoints count devices deviceCount slot transaction lastItem eventState keepalive context
+    bytes packets transactions groups stateBytes items journal =
     record {
       endpoints = endpoints;
       count = count;
@@ -57,6 +62,7 @@ makeWorld endpoints count devices deviceCount slot transaction lastItem eventSta
       lastItem = lastItem;
       eventState = eventState;
       keepalive = keepalive;
+      context = context;
       bytes = bytes;
       packets = packets;
       transactions = transactions;
@@ -94,68 +100,81 @@ lastGroup x w = pred (w .endpoints x .groups)
 -- ---- a world with one field changed
 
 abbrev pub withEndpoints : (ℕ → Endpoint) → World → World
-withEndpoints a w = makeWorld a (w .count) (w .devices) (w .deviceCount) (w .slot) (w .transaction) (w .lastItem) (w .eventState) (w .keepalive) (w .bytes)
-    (w .packets) (w .transactions) (w .groups) (w .stateBytes) (w .items) (w .journal)
+withEndpoints a w = makeWorld a (w .count) (w .devices) (w .deviceCount) (w .slot) (w .transaction) (w .lastItem) (w .eventState) (w .keepalive)
+    (w .context) (w .bytes) (w .packets) (w .transactions) (w .groups) (w .stateBytes) (w .items) (w .journal)
 
 abbrev pub withCount : ℕ → World → World
-withCount a w = makeWorld (w .endpoints) a (w .devices) (w .deviceCount) (w .slot) (w .transaction) (w .lastItem) (w .eventState) (w .keepalive) (w .bytes)
-    (w .packets) (w .transactions) (w .groups) (w .stateBytes) (w .items) (w .journal)
+withCount a w = makeWorld (w .endpoints) a (w .devices) (w .deviceCount) (w .slot) (w .transaction) (w .lastItem) (w .eventState) (w .keepalive)
+    (w .context) (w .bytes) (w .packets) (w .transactions) (w .groups) (w .stateBytes) (w .items) (w .journal)
 
 abbrev pub withDevices : (ℕ → Device) → World → World
-withDevices a w = makeWorld (w .endpoints) (w .count) a (w .deviceCount) (w .slot) (w .transaction) (w .lastItem) (w .eventState) (w .keepalive) (w .bytes)
-    (w .packets) (w .transactions) (w .groups) (w .stateBytes) (w .items) (w .journal)
+withDevices a w = makeWorld (w .endpoints) (w .count) a (w .deviceCount) (w .slot) (w .transaction) (w .lastItem) (w .eventState) (w .keepalive)
+    (w .context) (w .bytes) (w .packets) (w .transactions) (w .groups) (w .stateBytes) (w .items) (w .journal)
 
 abbrev pub withDeviceCount : ℕ → World → World
-withDeviceCount a w = makeWorld (w .endpoints) (w .count) (w .devices) a (w .slot) (w .transaction) (w .lastItem) (w .eventState) (w .keepalive) (w .bytes)
-    (w .packets) (w .transactions) (w .groups) (w .stateBytes) (w .items) (w .journal)
+withDeviceCount a w = makeWorld (w .endpoints) (w .count) (w .devices) a (w .slot) (w .transaction) (w .lastItem) (w .eventState) (w .keepalive)
+    (w .context) (w .bytes) (w .packets) (w .transactions) (w .groups) (w .stateBytes) (w .items) (w .journal)
 
 abbrev pub withSlot : Slot → World → World
-withSlot a w = makeWorld (w .endpoints) (w .count) (w .devices) (w .deviceCount) a (w .transaction) (w .lastItem) (w .eventState) (w .keepalive) (w .bytes)
-    (w .packets) (w .transactions) (w .groups) (w .stateBytes) (w .items) (w .journal)
+withSlot a w = makeWorld (w .endpoints) (w .count) (w .devices) (w .deviceCount) a (w .transaction) (w .lastItem) (w .eventState) (w .keepalive)
+    (w .context) (w .bytes) (w .packets) (w .transactions) (w .groups) (w .stateBytes) (w .items) (w .journal)
 
 abbrev pub withTransaction : Transaction → World → World
-withTransaction a w = makeWorld (w .endpoints) (w .count) (w .devices) (w .deviceCount) (w .slot) a (w .lastItem) (w .eventState) (w .keepalive) (w .bytes)
-    (w .packets) (w .transactions) (w .groups) (w .stateBytes) (w .items) (w .journal)
+withTransaction a w = makeWorld (w .endpoints) (w .count) (w .devices) (w .deviceCount) (w .slot) a (w .lastItem) (w .eventState) (w .keepalive)
+    (w .context) (w .bytes) (w .packets) (w .transactions) (w .groups) (w .stateBytes) (w .items) (w .journal)
 
 abbrev pub withLastItem : ℕ → World → World
-withLastItem a w = makeWorld (w .endpoints) (w .count) (w .devices) (w .deviceCount) (w .slot) (w .transaction) a (w .eventState) (w .keepalive) (w .bytes)
-    (w .packets) (w .transactions) (w .groups) (w .stateBytes) (w .items) (w .journal)
+withLastItem a w = makeWorld (w .endpoints) (w .count) (w .devices) (w .deviceCount) (w .slot) (w .transaction) a (w .eventState) (w .keepalive)
+    (w .context) (w .bytes) (w .packets) (w .transactions) (w .groups) (w .stateBytes) (w .items) (w .journal)
 
 abbrev pub withEventState : EventState → World → World
-withEventState a w = makeWorld (w .endpoints) (w .count) (w .devices) (w .deviceCount) (w .slot) (w .transaction) (w .lastItem) a (w .keepalive) (w .bytes)
-    (w .packets) (w .transactions) (w .groups) (w .stateBytes) (w .items) (w .journal)
+withEventState a w = makeWorld (w .endpoints) (w .count) (w .devices) (w .deviceCount) (w .slot) (w .transaction) (w .lastItem) a (w .keepalive)
+    (w .context) (w .bytes) (w .packets) (w .transactions) (w .groups) (w .stateBytes) (w .items) (w .journal)
 
 abbrev pub withKeepalive : Bool → World → World
-withKeepalive a w = makeWorld (w .endpoints) (w .count) (w .devices) (w .deviceCount) (w .slot) (w .transaction) (w .lastItem) (w .eventState) a (w .bytes)
-    (w .packets) (w .transactions) (w .groups) (w .stateBytes) (w .items) (w .journal)
+withKeepalive a w = makeWorld (w .endpoints) (w .count) (w .devices) (w .deviceCount) (w .slot) (w .transaction) (w .lastItem) (w .eventState) a
+    (w .context) (w .bytes) (w .packets) (w .transactions) (w .groups) (w .stateBytes) (w .items) (w .journal)
+
+abbrev pub withContext : Stamp → World → World
+withContext a w = makeWorld (w .endpoints) (w .count) (w .devices) (w .deviceCount) (w .slot) (w .transaction) (w .lastItem) (w .eventState)
+    (w .keepalive) a (w .bytes) (w .packets) (w .transactions) (w .groups) (w .stateBytes) (w .items) (w .journal)
 
 abbrev pub withBytes : ℕ → World → World
-withBytes a w = makeWorld (w .endpoints) (w .count) (w .devices) (w .deviceCount) (w .slot) (w .transaction) (w .lastItem) (w .eventState) (w .keepalive) a
-    (w .packets) (w .transactions) (w .groups) (w .stateBytes) (w .items) (w .journal)
+withBytes a w = makeWorld (w .endpoints) (w .count) (w .devices) (w .deviceCount) (w .slot) (w .transaction) (w .lastItem) (w .eventState)
+    (w .keepalive) (w .context) a (w .packets) (w .transactions) (w .groups) (w .stateBytes) (w .items) (w .journal)
 
 abbrev pub withPackets : ℕ → World → World
-withPackets a w = makeWorld (w .endpoints) (w .count) (w .devices) (w .deviceCount) (w .slot) (w .transaction) (w .lastItem) (w .eventState) (w .keepalive)
-    (w .bytes) a (w .transactions) (w .groups) (w .stateBytes) (w .items) (w .journal)
+withPackets a w = makeWorld (w .endpoints) (w .count) (w .devices) (w .deviceCount) (w .slot) (w .transaction) (w .lastItem) (w .eventState)
+    (w .keepalive) (w .context) (w .bytes) a (w .transactions) (w .groups) (w .stateBytes) (w .items) (w .journal)
 
 abbrev pub withTransactions : ℕ → World → World
-withTransactions a w = makeWorld (w .endpoints) (w .count) (w .devices) (w .deviceCount) (w .slot) (w .transaction) (w .lastItem) (w .eventState) (w .keepalive)
-    (w .bytes) (w .packets) a (w .groups) (w .stateBytes) (w .items) (w .journal)
+withTransactions a w = makeWorld (w .endpoints) (w .count) (w .devices) (w .deviceCount) (w .slot) (w .transaction) (w .lastItem) (w .eventState)
+    (w .keepalive) (w .context) (w .bytes) (w .packets) a (w .groups) (w .stateBytes) (w .items) (w .journal)
 
 abbrev pub withGroups : ℕ → World → World
-withGroups a w = makeWorld (w .endpoints) (w .count) (w .devices) (w .deviceCount) (w .slot) (w .transaction) (w .lastItem) (w .eventState) (w .keepalive)
-    (w .bytes) (w .packets) (w .transactions) a (w .stateBytes) (w .items) (w .journal)
+withGroups a w = makeWorld (w .endpoints) (w .count) (w .devices) (w .deviceCount) (w .slot) (w .transaction) (w .lastItem) (w .eventState)
+    (w .keepalive) (w .context) (w .bytes) (w .packets) (w .transactions) a (w .stateBytes) (w .items) (w .journal)
 
 abbrev pub withStateBytes : ℕ → World → World
-withStateBytes a w = makeWorld (w .endpoints) (w .count) (w .devices) (w .deviceCount) (w .slot) (w .transaction) (w .lastItem) (w .eventState) (w .keepalive)
-    (w .bytes) (w .packets) (w .transactions) (w .groups) a (w .items) (w .journal)
+withStateBytes a w = makeWorld (w .endpoints) (w .count) (w .devices) (w .deviceCount) (w .slot) (w .transaction) (w .lastItem) (w .eventState)
+    (w .keepalive) (w .context) (w .bytes) (w .packets) (w .transactions) (w .groups) a (w .items) (w .journal)
 
 abbrev pub withItems : ℕ → World → World
-withItems a w = makeWorld (w .endpoints) (w .count) (w .devices) (w .deviceCount) (w .slot) (w .transaction) (w .lastItem) (w .eventState) (w .keepalive)
-    (w .bytes) (w .packets) (w .transactions) (w .groups) (w .stateBytes) a (w .journal)
+withItems a w = makeWorld (w .endpoints) (w .count) (w .devices) (w .deviceCount) (w .slot) (w .transaction) (w .lastItem) (w .eventState)
+    (w .keepalive) (w .context) (w .bytes) (w .packets) (w .transactions) (w .groups) (w .stateBytes) a (w .journal)
 
 abbrev pub withJournal : List Row → World → World
-withJournal a w = makeWorld (w .endpoints) (w .count) (w .devices) (w .deviceCount) (w .slot) (w .transaction) (w .lastItem) (w .eventState) (w .keepalive)
-    (w .bytes) (w .packets) (w .transactions) (w .groups) (w .stateBytes) (w .items) a
+withJournal a w = makeWorld (w .endpoints) (w .count) (w .devices) (w .deviceCount) (w .slot) (w .transaction) (w .lastItem) (w .eventState)
+    (w .keepalive) (w .context) (w .bytes) (w .packets) (w .transactions) (w .groups) (w .stateBytes) (w .items) a
+
+-- ---- what a call brings
+
+abbrev pub stamp : ℕ → ℕ → Stamp
+stamp packet time = record { packet = packet; time = time }
+
+-- the next packet row will be the call's own
+abbrev pub stamped : ℕ → World → World
+stamped time w = withContext (stamp (w .packets) time) w
 
 -- ---- what is appended
 

@@ -19,3 +19,9 @@ pub enum EventState {
     PartialHostChirp,
     ValidHostChirp,
 }
+
+// What the call that is running brings: the number of its packet row, and its time.
+pub struct Stamp {
+    pub packet: u64,
+    pub time: u64,
+}

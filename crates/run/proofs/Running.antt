@@ -8,7 +8,6 @@ use lib.ListN.{length, take, drop}
 use Rattle.details.specs.Details.{fresh}
 use Rattle.details.specs.declared.Device.{Device}
 use Rattle.record.specs.Fresh.{refusedDecoder}
-use Rattle.record.specs.declared.Counts.{Counts}
 use Rattle.record.specs.declared.Decoder.{Decoder}
 use Rattle.trace.specs.Clock.{stopped, tickOf}
 use Rattle.trace.specs.Laws.{packet-inside, event-inside, detail-inside}
@@ -19,6 +18,7 @@ use Rattle.trace.specs.declared.Next.{Next}
 use Rattle.trace.specs.declared.Next.the-variants.{Packet, Event, Detail, Unknown, Cut, End}
 use Rattle.trace.specs.declared.clock.Clock.{Clock}
 use Rattle.call.specs.State.{Logs, State, state}
+use Rattle.call.specs.StateLaws.{SameSizes}
 use Rattle.start.specs.Detail.{Details}
 use Rattle.start.specs.Fresh.{Makes, unmade, noDevices}
 use Rattle.start.specs.FreshLaws.{made-on}
@@ -118,39 +118,21 @@ module _ {trace : List ℕ} {at : ℕ} {c c′ : Clock} {s : State} {r : Stepped
 
 -- ---- the records
 
--- the lengths of the logs, in words
-abbrev pub sizesOf : Logs → Counts
-sizesOf l =
-    record {
-      bytes = length (l .bytes);
-      devices = length (l .devices);
-      endpoints = length (l .endpoints);
-      packets = length (l .packets);
-      events = length (l .events);
-      transactions = length (l .transactions);
-      groups = length (l .groups);
-      statebytes = length (l .statebytes);
-      states = length (l .states);
-      items = length (l .items);
-      links = length (l .links);
-      requests = length (l .requests);
-    }
-
 -- the records up to `at` led from s₀ to s: what the rest of the trace gives from s, all of it gives from s₀
 pub record Going (trace : List ℕ) (s₀ : State) (at : ℕ) (c : Clock) (s : State) : Type 0 where
-  pub sizes : sizesOf (s .logs) ≡ sizesOf (s₀ .logs)
+  pub sizes : SameSizes (s₀ .logs) (s .logs)
   pub rest : {b q : ℕ} {s″ : State} → Runs trace at c s b q s″ → Runs trace 5 stopped s₀ b q s″
 
 pub going-start : {trace : List ℕ} {s₀ : State} {at : ℕ} {c : Clock} → at ≡ 5 → c ≡ stopped → Going trace s₀ at c s₀
 going-start {trace} {s₀} {c = c} h k =
-    subst (λ (x : ℕ). Going trace s₀ x c s₀) (sym h) (subst (λ (x : Clock). Going trace s₀ 5 x s₀) (sym k) (record { sizes = refl; rest = λ r. r }))
+    subst (λ (x : ℕ). Going trace s₀ x c s₀) (sym h) (subst (λ (x : Clock). Going trace s₀ 5 x s₀) (sym k) (record { sizes = λ k u. refl; rest = λ r. r }))
 
 module _ {trace : List ℕ} {s₀ s : State} {at : ℕ} {c : Clock} {r : Stepped} {t : List ℕ} {l : Logs} (g : Going trace s₀ at c s) (x : Steps trace at c s r t l) where
   pub going-over : r .going ≡ false → Runs trace 5 stopped s₀ (r .answer) (r .place) (leftBy r t l)
   going-over h = g .rest (x .over h)
 
-  pub going-on : r .going ≡ true → sizesOf l ≡ sizesOf (s .logs) → Going trace s₀ (r .next) (r .clock) (leftBy r t l)
-  going-on h k = record { sizes = k ∙ g .sizes; rest = λ r. g .rest (x .rest h r) }
+  pub going-on : r .going ≡ true → SameSizes (s .logs) l → Going trace s₀ (r .next) (r .clock) (leftBy r t l)
+  going-on h k = record { sizes = λ j u. k j u ∙ g .sizes j u; rest = λ r. g .rest (x .rest h r) }
 
 -- ---- the whole trace
 

@@ -1,6 +1,7 @@
 // A whole trace through the calls (01, "Trace and listing"): its header, a fresh decoder, its records one by one, and finish.
 use details::Device;
 use details::fresh_device;
+use endpoints::Table;
 use events::event;
 use events::finish;
 use packet::packet;
@@ -86,7 +87,7 @@ fn step(
     clock: Clock,
     d: Decoder,
     devices: [Device; 64],
-    table: &mut [u64; 2176],
+    table: &mut Table,
     bytes: &mut [u8],
     device_rows: &mut [u64],
     endpoint_rows: &mut [u64],
@@ -236,7 +237,7 @@ fn records(
     trace: &[u8],
     decoder: Decoder,
     devices: [Device; 64],
-    table: &mut [u64; 2176],
+    table: &mut Table,
     bytes: &mut [u8],
     device_rows: &mut [u64],
     endpoint_rows: &mut [u64],
@@ -299,7 +300,7 @@ fn records(
 // The trace on the lent table and logs: 10 or 11 for its header, what a decoder that can't be made answers, or what its records come to.
 pub fn run(
     trace: &[u8],
-    table: &mut [u64; 2176],
+    table: &mut Table,
     bytes: &mut [u8],
     device_rows: &mut [u64],
     endpoint_rows: &mut [u64],

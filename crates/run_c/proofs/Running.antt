@@ -9,6 +9,7 @@ use lib.Dec.{leb}
 use lib.ListN.{length, take, drop}
 use Rattle.call.specs.Outcome.{accepts}
 use Rattle.call.specs.State.{Logs, State}
+use Rattle.call.specs.StateLaws.{SameSizes}
 use Rattle.packet.specs.Call.{PacketCall}
 use Rattle.start.specs.Fresh.{Makes}
 use Rattle.start.specs.FreshLaws.{made-on}
@@ -45,40 +46,6 @@ module _ (input : List ℕ) (at : ℕ) where
 
 -- ---- the loop's invariant
 
--- the logs are as long as they were
-pub record SameSizes (l l′ : Logs) : Type 0 where
-  pub bytes : length (l′ .bytes) ≡ length (l .bytes)
-  pub devices : length (l′ .devices) ≡ length (l .devices)
-  pub endpoints : length (l′ .endpoints) ≡ length (l .endpoints)
-  pub packets : length (l′ .packets) ≡ length (l .packets)
-  pub transactions : length (l′ .transactions) ≡ length (l .transactions)
-  pub groups : length (l′ .groups) ≡ length (l .groups)
-  pub statebytes : length (l′ .statebytes) ≡ length (l .statebytes)
-  pub states : length (l′ .states) ≡ length (l .states)
-  pub items : length (l′ .items) ≡ length (l .items)
-  pub links : length (l′ .links) ≡ length (l .links)
-  pub requests : length (l′ .requests) ≡ length (l .requests)
-
-pub same-sizes : (l : Logs) → SameSizes l l
-same-sizes l =
-    record { bytes = refl; devices = refl; endpoints = refl; packets = refl; transactions = refl; groups = refl; statebytes = refl; states = refl; items = refl; links = refl; requests = refl }
-
-pub then-sizes : {a b c : Logs} → SameSizes a b → SameSizes b c → SameSizes a c
-then-sizes x y =
-    record {
-      bytes = y .bytes ∙ x .bytes;
-      devices = y .devices ∙ x .devices;
-      endpoints = y .endpoints ∙ x .endpoints;
-      packets = y .packets ∙ x .packets;
-      transactions = y .transactions ∙ x .transactions;
-      groups = y .groups ∙ x .groups;
-      statebytes = y .statebytes ∙ x .statebytes;
-      states = y .states ∙ x .states;
-      items = y .items ∙ x .items;
-      links = y .links ∙ x .links;
-      requests = y .requests ∙ x .requests;
-    }
-
 -- n packets have been taken, up to byte `at`, and led from s₀ to s: what the rest of the input gives from s, all of it gives from s₀
 pub record Going (input : List ℕ) (s₀ : State) (at n end : ℕ) (s : State) : Type 0 where
   pub within : at ≤ length input
@@ -88,7 +55,7 @@ pub record Going (input : List ℕ) (s₀ : State) (at n end : ℕ) (s : State) 
   pub rest : {m b : ℕ} {s″ : State} → Runs input at n s m b s″ → Runs input 0 0 s₀ m b s″
 
 pub going-start : {input : List ℕ} {s₀ : State} {end : ℕ} → end ≡ endOf input 0 → Going input s₀ 0 0 end s₀
-going-start {s₀ = s₀} e = record { within = omega arith; few = omega arith; ended = e; sizes = same-sizes (s₀ .logs); rest = λ r. r }
+going-start e = record { within = omega arith; few = omega arith; ended = e; sizes = λ k u. refl; rest = λ r. r }
 
 -- the bytes of the packet whose record ends at `end`
 abbrev pub partOf : List ℕ → ℕ → ℕ → List ℕ
@@ -116,7 +83,7 @@ module _ {input : List ℕ} {s₀ s : State} {at n end : ℕ} (g : Going input s
           within = b .1;
           few = omega arith;
           ended = f;
-          sizes = then-sizes (g .sizes) z;
+          sizes = λ k u. z k u ∙ g .sizes k u;
           rest = λ r. g .rest (goes (λ y. h (g .ended ∙ y)) called e (rw (g .ended) at r));
         }
 

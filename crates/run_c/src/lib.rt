@@ -1,6 +1,7 @@
 // What C and Rust programs call to run many packets: a decoder is made, and takes one packet of the input after the other.
 use details::Device;
 use details::fresh_device;
+use endpoints::Table;
 use packet::packet;
 use record::Decoder;
 use start::fresh::fresh;
@@ -70,7 +71,7 @@ fn run(
     decoder: Decoder,
     devices: [Device; 64],
     input: &[u8],
-    table: &mut [u64; 2176],
+    table: &mut Table,
     bytes: &mut [u8],
     device_rows: &mut [u64],
     endpoint_rows: &mut [u64],
@@ -141,7 +142,7 @@ fn run(
 #[no_mangle]
 pub extern "C" fn pivotspark_packets(
     input: &[u8],
-    table: &mut [u64; 2176],
+    table: &mut Table,
     bytes: &mut [u8],
     device_rows: &mut [u64],
     endpoint_rows: &mut [u64],

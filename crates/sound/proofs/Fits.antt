@@ -30,7 +30,7 @@ use Rattle.rules.proofs.Linked.{token-slot, resume-links, extract-links}
 use Rattle.rules.proofs.Seen.{Seen, append-seen}
 use Rattle.rules.proofs.Tokened.{resumes}
 use Rattle.rules.specs.Rows.{Row, EventRow}
-use Rattle.rules.specs.World.{World, push, withSlot, withTransaction, withEventState, withKeepalive, withId, withPid, moreTransactions, newTransaction}
+use Rattle.rules.specs.World.{World, stamped, push, withSlot, withTransaction, withEventState, withKeepalive, withId, withPid, moreTransactions, newTransaction}
 use Rattle.rules.specs.Endpoints.{deviceFor, packetEndpoint, endpointOf, typed, detailed, setEndpointType, setDetailOn}
 use Rattle.rules.specs.Groups.{addGroupEntry, pushGroup, link, groupUpdate, groupEarlyAppend}
 use Rattle.rules.specs.Transactions.{transactionEndAt, transactionEnd, appendToken, transactionAppend, pushTransaction, begin, typeOf, beginOn, beginSplit, beginPlain, transactionStart, resumeAt, stateAt, completes, extracted, updateAt, updateFrom, isDropped, transactionUpdate}
@@ -232,7 +232,7 @@ module _ (n : ℕ) where
   packet-fits p time w t l f = by (isDropped (w .slot) (w .transaction)) refl
     where
       v : World
-      v = pushPacket (w .bytes) time (appendBytes p (withEventState Idle w))
+      v = pushPacket (w .bytes) time (appendBytes p (withEventState Idle (stamped time w)))
 
       g : Fits n v
       g = longer (omega arith) f
@@ -324,9 +324,9 @@ module _ (n : ℕ) where
       go : (u : World) → Fits n u → Fits n (eventUpdate (w .packets) kind (push (EventRow (w .packets) code) (pushPacket (w .bytes) time u)))
       go u g = act-fits (turnOf (u .eventState) kind .act) (w .packets) (push (EventRow (w .packets) code) (pushPacket (w .bytes) time u)) (longer (omega arith) g)
 
-      by : (b : Bool) → Fits n (eventUpdate (w .packets) kind (push (EventRow (w .packets) code) (pushPacket (w .bytes) time (pick b (suspend w) (endAll w)))))
-      by true = go (suspend w) (suspend-fits w f)
-      by false = go (endAll w) (active-fits (transactionEnd false false w) (fail-fits false w f))
+      by : (b : Bool) → Fits n (eventUpdate (w .packets) kind (push (EventRow (w .packets) code) (pushPacket (w .bytes) time (pick b (suspend (stamped time w)) (endAll (stamped time w))))))
+      by true = go (suspend (stamped time w)) (suspend-fits (stamped time w) f)
+      by false = go (endAll (stamped time w)) (active-fits (transactionEnd false false (stamped time w)) (fail-fits false (stamped time w) f))
 
   -- ---- every call
 

@@ -8,6 +8,7 @@ use mathlib.Core.List.{List}
 use borrow.Author.Tests.{eqb-true}
 use lib.Dec.{eqb}
 use lib.ListN.{length}
+use Rattle.endpoints.specs.Word as word
 use Rattle.details.specs.Details.{fresh}
 use Rattle.details.specs.declared.Device.{Device}
 use Rattle.details.specs.declared.Found.{Found}
@@ -103,7 +104,7 @@ agreed w v a p i u =
     let b = a .bytes in
     rw (e, z, t, b) (p i h)
 
-pub sound-fresh : (v : List Device) (t : List ℕ) (l : Logs) (s : State) → Makes v t l 0 s → length t ≡ 2176 → 0 < length v → isSound s ≡ true
+pub sound-fresh : (v : List Device) (t : List ℕ) (l : Logs) (s : State) → Makes v t l 0 s → length t ≡ word.table → 0 < length v → isSound s ≡ true
 sound-fresh v t l s m ht hv =
     let g = sound s (fresh-well m ht hv) in
     sound-is s (g .1) (g .0) (agreed (worldAt s) rules.fresh (fresh-stands m ht hv) fresh-paid)

@@ -23,7 +23,7 @@ use Rattle.details.specs.Kind.{Unknown}
 use Rattle.details.specs.declared.Found.{Found}
 use Rattle.details.specs.declared.Found.the-variants.{At, Nothing}
 use Rattle.rules.specs.Rows.{EventRow}
-use Rattle.rules.specs.World.{World, eventEp, push, withSlot, withTransaction, withEventState, withKeepalive, moreTransactions, moreGroups, withId, withPid, newTransaction}
+use Rattle.rules.specs.World.{World, stamped, eventEp, push, withSlot, withTransaction, withEventState, withKeepalive, moreTransactions, moreGroups, withId, withPid, newTransaction}
 use Rattle.endpoints.specs.Table.{newEndpoint}
 use Rattle.rules.specs.Endpoints.{addDevice, deviceFor, pushEndpoint, addEndpointOn, found, packetEndpointAt, packetEndpoint, endpointOf, setDetailOn}
 use Rattle.rules.specs.Transactions.{transactionEnd, appendToken, transactionAppend, pushTransaction, begin, typeOf, beginOn, beginSplit, beginPlain, transactionStart, resumeAt, stateAt, completes, extracted, updateAt, updateFrom, isDropped, transactionUpdate}
@@ -182,7 +182,7 @@ unfolding handleRawPacket transactionUpdate
 packet-pays p time w l h paid = by (isDropped (w .slot) (w .transaction))
   where
     v : World
-    v = pushPacket (w .bytes) time (appendBytes p (withEventState Idle w))
+    v = pushPacket (w .bytes) time (appendBytes p (withEventState Idle (stamped time w)))
 
     u : World
     u = resumeAt (w .slot) (w .packets) v
@@ -235,9 +235,9 @@ event-pays kind code time w p = by (eqb kind 0)
     go : (u : World) → Paid u → Paid (eventUpdate (w .packets) kind (push (EventRow (w .packets) code) (pushPacket (w .bytes) time u)))
     go u h = act-pays (turnOf (u .eventState) kind .act) (w .packets) (push (EventRow (w .packets) code) (pushPacket (w .bytes) time u)) h
 
-    by : (b : Bool) → Paid (eventUpdate (w .packets) kind (push (EventRow (w .packets) code) (pushPacket (w .bytes) time (pick b (suspend w) (endAll w)))))
-    by true = go (suspend w) (λ i h. (omega (arith, suspend-le (w .slot) (w .transaction) i, p i h)))
-    by false = go (endAll w) (end-pays false false w p)
+    by : (b : Bool) → Paid (eventUpdate (w .packets) kind (push (EventRow (w .packets) code) (pushPacket (w .bytes) time (pick b (suspend (stamped time w)) (endAll (stamped time w))))))
+    by true = go (suspend (stamped time w)) (λ i h. (omega (arith, suspend-le (w .slot) (w .transaction) i, p i h)))
+    by false = go (endAll (stamped time w)) (end-pays false false (stamped time w) p)
 
 -- ---- every call
 

@@ -8,8 +8,8 @@ use mathlib.Core.List.{List, [], _∷_}
 use borrow.Author.Tests.{ltb-true, lt-ltb, leb-true, le-leb, eqb-true, eqb-false, eq-eqb, ne-eqb}
 use lib.Dec.{eqb, ltb}
 use lib.ListN.{length, length-append}
-use lib.Seq.{length-sets}
 use Rattle.rows.specs.One.{one}
+use Rattle.rows.specs.Widths.{widthOf}
 use Rattle.transaction.specs.Table.{pick}
 use Rattle.transaction.specs.declared.Style.{Style}
 use Rattle.transaction.specs.declared.Style.the-variants.{Nothing, Simple, Split, Token}
@@ -22,19 +22,20 @@ use Rattle.endpoints.specs.declared.Endpoint.{Endpoint}
 use Rattle.endpoints.specs.declared.Phase.{Phase}
 use Rattle.endpoints.specs.declared.Phase.the-variants.{None, Early, Active, Ended}
 use Rattle.rules.specs.Linked.{excused, linkedAt, LinkedIn, Linked}
-use Rattle.rules.specs.Rows.{Row, BytesRow, DeviceRow, EndpointRow, PacketRow, EventRow, TransactionRow, GroupRow, StateRow, StateBytes, ItemRow, T, G, D, E, RequestRow, Over, written, log}
+use Rattle.rules.specs.Rows.{Row, written, log}
 use Rattle.rules.specs.Tokened.{TokenedAt, TokenedIn, Tokened}
 use Rattle.rules.specs.World.{World, isEnded, endedIn, waitingOf}
 use Rattle.rules.specs.declared.Slot.{Slot}
 use Rattle.rules.specs.declared.Slot.the-variants.{Empty, Current, Suspended}
+use Rattle.rules.proofs.Counted.{written-width}
 use Rattle.record.specs.Bools.{both, and, nor, or-right, every-at, every-true}
 use Rattle.record.specs.Formed.{standing, heldStyle, mayLack, holds, every}
 use Rattle.record.specs.FormedLaws.{EntryFormed, HeldFormed, Special, resting, WellFormed, well-formed}
 use Rattle.record.specs.RoomLaws.{Within, Short, long-short}
 use Rattle.record.specs.declared.Counts.{Counts}
-use Rattle.call.specs.Outcome.{isIll, countsAfter, Appends, decoderOf, Left, worldAt}
-use Rattle.call.specs.OutcomeLaws.{sound, waiting-entries}
-use Rattle.call.specs.State.{Logs, State, state, roomOf}
+use Rattle.call.specs.Outcome.{isIll, countsAfter, decoderOf, Left, worldAt}
+use Rattle.call.specs.OutcomeLaws.{same-room, sound, waiting-entries}
+use Rattle.call.specs.State.{State, state, roomOf}
 use Rattle.sound.specs.Fit.{linkRows, Fit, inHand, brings, Paid}
 use Rattle.sound.specs.Sound.{isPaid, soundIn, isSound}
 
@@ -141,22 +142,11 @@ lacks-by z l x h p q = rw (p, q) at h
 
 -- each link row takes four words
 row-words : (r : Row) → length (pick (eqb (written r .0) 10) (written r .1) []) ≡ one (eqb (written r .0) 10) * 4
-row-words (BytesRow bs) = refl
-row-words (DeviceRow a) = refl
-row-words (EndpointRow d n r) = refl
-row-words (PacketRow s t) = refl
-row-words (EventRow p c) = refl
-row-words (TransactionRow r) = refl
-row-words (GroupRow r) = refl
-row-words (StateRow s) = refl
-row-words (StateBytes ss) = refl
-row-words (ItemRow g) = refl
-row-words (T x t) = refl
-row-words (G x t) = refl
-row-words (D x t n) = refl
-row-words (E x i) = refl
-row-words (RequestRow r) = refl
-row-words (Over x k) = refl
+row-words r = by (eqb (written r .0) 10) refl
+  where
+    by : (b : Bool) → eqb (written r .0) 10 ≡ b → length (pick b (written r .1) []) ≡ one b * 4
+    by true e = let q = eqb-true (written r .0) 10 e in written-width r (λ z. omega arith) (λ z. omega arith) ∙ ap widthOf q
+    by false e = refl
 
 link-words : (js : List Row) → length (log 10 js) ≡ linkRows js * 4
 link-words [] = refl
@@ -212,11 +202,6 @@ module _ (n : Counts) (w : World) (fit : Fit (n .links) w) (paid : Paid w) where
       }
 
 -- ---- a state that a call leaves
-
--- the rows leave every log as long as it was
-same-room : (w : World) (n : Counts) (l l′ : Logs) → Appends w n l l′ → roomOf l′ ≡ roomOf l
-same-room w n l l′ a =
-    rw (a .bytes, a .devices, a .endpoints, a .packets, a .events, a .transactions, a .groups, a .statebytes, a .states, a .items, a .links, a .requests) (simp length-sets)
 
 -- as many endpoints wait by the table as by the world
 same-waiting : (w : World) (t : List ℕ) → ((i : ℕ) → i < w .count → entryAt t i ≡ w .endpoints i) → waitingOf w ≡ waiting t (w .count)

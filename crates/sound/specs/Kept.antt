@@ -5,6 +5,7 @@ use mathlib.Core.Bool.{true, false}
 use mathlib.Core.List.{List}
 use mathlib.Core.Path.{_≡_}
 use lib.ListN.{length}
+use Rattle.endpoints.specs.Word as word
 use Rattle.details.specs.declared.Device.{Device}
 use Rattle.call.specs.Outcome.{isIll}
 use Rattle.call.specs.State.{Logs, State}
@@ -22,7 +23,7 @@ pub record Kept : Type 0 where
   -- so that no call on a sound state answers 1
   pub well : (s : State) → isSound s ≡ true → isIll s ≡ false
   -- fresh, answered 0, with a table of all its words and a row for the first device
-  pub fresh : (v : List Device) (t : List ℕ) (l : Logs) (s : State) → Makes v t l 0 s → length t ≡ 2176 → 0 < length v → isSound s ≡ true
+  pub fresh : (v : List Device) (t : List ℕ) (l : Logs) (s : State) → Makes v t l 0 s → length t ≡ word.table → 0 < length v → isSound s ≡ true
   pub packet : (bytes : List ℕ) (time : ℕ) → Keeps (PacketCall bytes time)
   pub event : (kind code time : ℕ) → Keeps (EventCall kind code time)
   pub detail : (address number direction kind max : ℕ) → Keeps (Details address number direction kind max)

@@ -3,6 +3,7 @@
 use call::is_ill;
 use details::Device;
 use endpoints::Endpoint;
+use endpoints::Table;
 use endpoints::entry::load;
 use record::Counts;
 use record::Decoder;
@@ -51,7 +52,7 @@ fn brought(slot: Slot, t: Transaction, i: usize) -> u64
 }
 
 // Together they do not pass the packet bytes.
-fn endpoint_paid(d: Decoder, table: &[u64; 2176], i: usize) -> bool
+fn endpoint_paid(d: Decoder, table: &Table, i: usize) -> bool
     requires { ⌜ (i < 128) × (paying d (now table) i < 2 ^ 64) ⌝ }
     ensures { λ r. ⌜ r ≡ isPaid d (now (table .entry)) i ⌝ }
 {
@@ -62,7 +63,7 @@ fn endpoint_paid(d: Decoder, table: &[u64; 2176], i: usize) -> bool
     in_hand(e) + brought(slot, t, i) <= counts.bytes as u64
 }
 
-fn endpoints_paid(d: Decoder, table: &[u64; 2176]) -> bool
+fn endpoints_paid(d: Decoder, table: &Table) -> bool
     requires { ⌜ (d .counts .endpoints ≤ 128) × Summable d (now table) ⌝ }
     ensures { λ r. ⌜ r ≡ every (isPaid d (now (table .entry))) 0 (d .counts .endpoints) ⌝ }
 {
@@ -80,7 +81,7 @@ fn endpoints_paid(d: Decoder, table: &[u64; 2176]) -> bool
 }
 
 // Whether the record is sound with its devices and its table, on logs with that room.
-pub fn is_sound(d: Decoder, devices: [Device; 64], table: &[u64; 2176], room: Counts) -> bool
+pub fn is_sound(d: Decoder, devices: [Device; 64], table: &Table, room: Counts) -> bool
     ensures { λ r. ⌜ r ≡ soundIn d devices (now (table .entry)) room ⌝ }
 {
     if is_ill(d, devices, table, room) {

@@ -7,6 +7,7 @@ use mathlib.Core.List.{List}
 use borrow.Author.Tests.{eqb-true, eqb-false, ltb-false, le-ltb}
 use lib.Dec.{eqb, ltb}
 use lib.ListN.{length}
+use Rattle.endpoints.specs.Word as word
 use Rattle.rows.specs.One.{one}
 use Rattle.usb.specs.Fields.{setupDataOf}
 use Rattle.usb.specs.Pid.{SPLIT}
@@ -32,7 +33,7 @@ use Rattle.rules.specs.Events as events
 use Rattle.rules.specs.Groups.{groupEarlyAppend}
 use Rattle.rules.specs.Rows.{EventRow}
 use Rattle.rules.specs.Transactions.{isDropped, stateAt, transactionEndAt, transactionEnd, transactionUpdate}
-use Rattle.rules.specs.World.{World, newTransaction, push, withKeepalive}
+use Rattle.rules.specs.World.{World, stamped, newTransaction, push, withKeepalive}
 use Rattle.rules.specs.declared.Slot.{Slot}
 use Rattle.rules.specs.declared.Slot.the-variants.{Empty, Current, Suspended}
 use Rattle.record.specs.Answers.{firstOf, packetTests, eventTests}
@@ -231,7 +232,7 @@ module _ (id : ℕ) (w : World) (h : isCurrent (w .slot) ≡ false) where
 keepalive-world : (code time : ℕ) (w : World) → (handleEvent LsKeepalive code time w .slot ≡ suspendAt (w .slot)) × (handleEvent LsKeepalive code time w .transaction ≡ w .transaction)
 unfolding handleEvent eventUpdate
 keepalive-world code time w =
-    let v = push (EventRow (w .packets) code) (pushPacket (w .bytes) time (suspend w)) in
+    let v = push (EventRow (w .packets) code) (pushPacket (w .bytes) time (suspend (stamped time w))) in
     act-holds (w .packets) v (suspended (w .slot)) (turnOf (w .eventState) LsKeepalive .act)
 
 event-tests : (ill finished full over : Bool) → ill ≡ false → finished ≡ false → over ≡ false → firstOf (eventTests ill finished LsKeepalive full over) ≡ cond full 7 0
@@ -276,7 +277,7 @@ fresh-totals (suc zero) l = omega arith
 fresh-totals (suc (suc zero)) l = omega arith
 fresh-totals (suc (suc (suc i))) l = absurd (omega arith)
 
-module _ {v : List Device} {t : List ℕ} {l : Logs} {s : State} (hv : length v ≡ 64) (ht : length t ≡ 2176) (m : Makes v t l 0 s) where
+module _ {v : List Device} {t : List ℕ} {l : Logs} {s : State} (hv : length v ≡ 64) (ht : length t ≡ word.table) (m : Makes v t l 0 s) where
   stands : Agrees (worldAt s) fresh
   stands = fresh-stands m ht (omega arith)
 

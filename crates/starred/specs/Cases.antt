@@ -6,6 +6,7 @@ use mathlib.Core.Bool.{Bool, true, false, cond}
 use mathlib.Core.List.{List, [], _∷_}
 use mathlib.Core.Path.{_≡_}
 use lib.ListN.{length}
+use Rattle.endpoints.specs.Word as word
 use Rattle.usb.specs.Pid.{IN, SPLIT, DATA0, ACK}
 use Rattle.usb.specs.Packet.{payloadOf, checkedOf}
 use Rattle.usb.specs.Fields.{tokenOf}
@@ -175,7 +176,7 @@ Holds (short len max a) =
     (e : Endpoint) (t : Transaction) (type : ℕ) (success complete : Bool) → Brings len t → stepOf e t (detail type max) success complete .short ≡ a
 Holds (group type len max a) = groupStatus going (read type len) (detail type max) true true .status ≡ a
 Holds (calls ks) =
-    (v : List Device) (t : List ℕ) (l : Logs) (s : State) → length v ≡ 64 → length t ≡ 2176 → Makes v t l 0 s → Goes ks s
+    (v : List Device) (t : List ℕ) (l : Logs) (s : State) → length v ≡ 64 → length t ≡ word.table → Makes v t l 0 s → Goes ks s
 
 abbrev pub All : List Case → Type 0
 All [] = Unit {0}

@@ -30,7 +30,7 @@ use Rattle.record.specs.FormedLaws.{well-formed}
 use Rattle.record.specs.Room.{long}
 use Rattle.record.specs.RoomLaws.{long-short}
 use Rattle.record.specs.declared.Counts.{Counts}
-use Rattle.call.specs.Outcome.{isIll, countsAfter, decoderOf, Appends, TableOf, Left, accepts, worldAt}
+use Rattle.call.specs.Outcome.{isIll, countsAfter, decoderOf, TableOf, Left, accepts, worldAt}
 use Rattle.call.specs.OutcomeLaws.{unique, same-left, refused, accepted, sound, ill-by, waiting-entries}
 use Rattle.call.specs.State.{State, state, roomOf}
 use Rattle.start.specs.Detail.{Details}
@@ -103,10 +103,6 @@ same-decoder s f h =
 
 same-table : (s : State) (f : ℕ → Device) → isIll s ≡ false → TableOf (withDevices f (worldAt s)) (s .table) (s .table)
 same-table s f h = record { size = refl; entries = λ i u. refl; words = λ i u. sound s h .0 .endpoints i u .words; beyond = λ i u. refl }
-
-same-logs : (s : State) (f : ℕ → Device) → Appends (withDevices f (worldAt s)) (s .decoder .counts) (s .logs) (s .logs)
-same-logs s f =
-    record { bytes = refl; devices = refl; endpoints = refl; packets = refl; events = refl; transactions = refl; groups = refl; statebytes = refl; states = refl; items = refl; links = refl; requests = refl }
 
 -- ---- the outcome, by the tests in their order
 
@@ -198,7 +194,7 @@ module _ (address number direction kind max : ℕ) (s : State) where
               decoder = same-decoder s _ h;
               devices = record { size = length-set (s .devices) at _; there = λ i u. changed-at number direction kind max (s .devices) at i; beyond = λ i u. let b = found-below s address at f in getD-set-other (s .devices) at i _ blank (λ e. omega arith) };
               table = same-table s _ h;
-              logs = same-logs s _;
+              logs = λ k u. refl;
             }
 
     accept : isIll s ≡ false → (a : ℕ) → a ≡ firstOf (detailTests (isIll s) (s .decoder .finished) number direction kind (deviceFor address (worldAt s))) → a ≡ 0
@@ -249,7 +245,7 @@ module _ (address number direction kind max : ℕ) (s : State) where
             decoder = same-decoder s (worldAt s .devices) h;
             devices = record { size = refl; there = λ i u. refl; beyond = λ i u. refl };
             table = same-table s (worldAt s .devices) h;
-            logs = same-logs s (worldAt s .devices);
+            logs = λ k u. refl;
           }
 
   -- no call spoils the record: one that was well formed is so after it, whatever the answer (01, "Ruled out")

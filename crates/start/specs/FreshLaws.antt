@@ -9,6 +9,7 @@ use borrow.Author.Tests.{eqb-true, eqb-false}
 use lib.Dec.{eqb}
 use lib.ListN.{length}
 use lib.Seq.{length-sets}
+use Rattle.endpoints.specs.Word as word
 use Rattle.details.specs.Details.{fresh as freshDevice}
 use Rattle.details.specs.declared.Device.{Device}
 use Rattle.rules.specs.Decoder.{fresh}
@@ -47,7 +48,7 @@ fitted room h = passes (long room) (fitting (countsOf 1 3) room) h
 same-room : (l : Logs) → roomOf (madeLogs l) ≡ roomOf l
 same-room l = rw (length-sets, length-sets)
 
-module _ {v : List Device} {t : List ℕ} {l : Logs} {s′ : State} (m : Makes v t l 0 s′) (ht : length t ≡ 2176) (hv : 0 < length v) where
+module _ {v : List Device} {t : List ℕ} {l : Logs} {s′ : State} (m : Makes v t l 0 s′) (ht : length t ≡ word.table) (hv : 0 < length v) where
   well-made : isIll (made v t l) ≡ false
   unfolding isIll made
   well-made =

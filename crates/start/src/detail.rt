@@ -7,6 +7,7 @@ use details::Found;
 use details::detail_answer;
 use details::find::find_device;
 use details::set_detail;
+use endpoints::Table;
 use record::Counts;
 use record::Decoder;
 ghost use mathlib.Core.Bool.{not, _||_};
@@ -31,7 +32,7 @@ fn judged(
     number: u8,
     direction: u8,
     kind: u8,
-    table: &[u64; 2176],
+    table: &Table,
     room: Counts,
 ) -> Verdict
     ensures { λ r. ⌜ Judges (long room || not (wellFormed d devices (now (table .entry)) room)) (d .finished) number direction kind (foundDevice devices (d .counts .devices) address) (r .answer) (r .at) ⌝ }
@@ -60,7 +61,7 @@ pub fn detail(
     direction: u8,
     kind: u8,
     max: u16,
-    table: &[u64; 2176],
+    table: &Table,
     bytes: &[u8],
     device_rows: &[u64],
     endpoint_rows: &[u64],

@@ -6,9 +6,11 @@ use details::EVENT_EP_NUM;
 use details::FRAMING_EP_NUM;
 use details::INVALID_EP_NUM;
 use details::fresh_device;
+use endpoints::Table;
 use endpoints::entry::new_endpoint;
 use endpoints::entry::sized;
 use endpoints::entry::store;
+use endpoints::word;
 use record::Counts;
 use record::fresh::fresh_decoder;
 use record::fresh::refused_decoder;
@@ -40,19 +42,19 @@ fn fresh_answer(room: Counts) -> u8
 }
 
 // Every word 0: of what a caller left in the table no call of a fresh decoder sees anything.
-fn clear_table(table: &mut [u64; 2176])
+fn clear_table(table: &mut Table)
     ensures { λ r. ⌜ now (table .exit) ≡ clearTable (now (table .entry)) ⌝ }
 {
     sized(table);
     let mut i: usize = 0;
-    while i < 2176 {
+    while i < word::TABLE {
         table[i] = 0;
         i += 1;
     }
 }
 
 // The entries of the three special endpoints, in a cleared table.
-fn store_specials(table: &mut [u64; 2176])
+fn store_specials(table: &mut Table)
     ensures { λ r. ⌜ now (table .exit) ≡ freshTable (now (table .entry)) ⌝ }
 {
     clear_table(table);
@@ -85,7 +87,7 @@ fn put_specials(endpoint_rows: &mut [u64])
 // A fresh decoder on the lent table and logs, of which it writes the first rows of two.
 pub fn fresh(
     devices: [Device; 64],
-    table: &mut [u64; 2176],
+    table: &mut Table,
     bytes: &[u8],
     device_rows: &mut [u64],
     endpoint_rows: &mut [u64],

@@ -16,7 +16,7 @@ use Rattle.endpoints.specs.declared.Phase.the-variants.{None, Early, Active, En
 use Rattle.group.specs.declared.Effect.{Effect}
 use Rattle.group.specs.declared.Effect.the-variants.{NoEffect, NewDevice, Request, PendingData, IndexData}
 use Rattle.rules.specs.Rows.{Row, BytesRow, DeviceRow, EndpointRow, PacketRow, EventRow, TransactionRow, naming, GroupRow, grouping, ItemRow, T, G, D, E, RequestRow, asking, Over}
-use Rattle.rules.specs.World.{World, eventEp, lastGroup, push, change, cleared, withTransaction, withEventState, withKeepalive, changeDevice}
+use Rattle.rules.specs.World.{World, stamped, eventEp, lastGroup, push, change, cleared, withTransaction, withEventState, withKeepalive, changeDevice}
 use Rattle.rules.specs.Endpoints.{addDevice, deviceFor, pushEndpoint, typed, setDetailOn}
 use Rattle.rules.specs.Groups.{closeRow, closeRows, addItem, statesFrom, addGroupEntry, link, pushGroup, over, effectStep, becomes}
 use Rattle.rules.specs.Transactions.{transactionEnd, pushTransaction, isDropped}
@@ -173,7 +173,7 @@ module _ (b : ℕ) where
   packet-keeps bytes time w h = by (isDropped (w .slot) (w .transaction)) refl
     where
       rowed : In (world1 bytes time w)
-      rowed = packet-row (w .bytes) time (appendBytes bytes (withEventState Idle w)) (other (BytesRow bytes) refl refl h)
+      rowed = packet-row (w .bytes) time (appendBytes bytes (withEventState Idle (stamped time w))) (other (BytesRow bytes) refl refl h)
 
       by : (c : Bool) → isDropped (w .slot) (w .transaction) ≡ c → In (handleRawPacket bytes time w)
       by true q = subst In (sym (dropped-is bytes time w q)) rowed
@@ -209,15 +209,15 @@ module _ (b : ℕ) where
   unfolding handleEvent eventUpdate
   event-keeps kind code time w h = by (eqb kind 0)
     where
-      by : (c : Bool) → In (eventUpdate (w .packets) kind (push (EventRow (w .packets) code) (pushPacket (w .bytes) time (pick c (suspend w) (endAll w)))))
+      by : (c : Bool) → In (eventUpdate (w .packets) kind (push (EventRow (w .packets) code) (pushPacket (w .bytes) time (pick c (suspend (stamped time w)) (endAll (stamped time w))))))
       by c =
-          let v = pick c (suspend w) (endAll w) in
+          let v = pick c (suspend (stamped time w)) (endAll (stamped time w)) in
           let u = push (EventRow (w .packets) code) (pushPacket (w .bytes) time v) in
           turn-keeps (turnOf (u .eventState) kind .act) (w .packets) u (other (EventRow (w .packets) code) refl refl (packet-row (w .bytes) time v (before c)))
         where
-          before : (c : Bool) → In (pick c (suspend w) (endAll w))
+          before : (c : Bool) → In (pick c (suspend (stamped time w)) (endAll (stamped time w)))
           before true = h
-          before false = all-keeps w h
+          before false = all-keeps (stamped time w) h
 
   -- ---- every call
 

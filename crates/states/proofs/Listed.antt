@@ -1,11 +1,13 @@
 -- What specs/Whole.antt claims: of every sequence of calls, and of every run, since its calls are such a sequence.
-use Prim.Native.Nat.{ℕ}
+use Prim.Native.Nat.{ℕ, _*_}
 use native.Mathlib.Omega.{arith}
 use mathlib.Core.List.{List, _∷_, _++_, []}
 use mathlib.Core.Path.{_≡_, refl, sym, ap, subst}
 use lib.ListN.{length, take}
+use Rattle.endpoints.specs.Word as word
+use Rattle.rows.specs.WidthsLaws.{log-number}
 use Rattle.rules.specs.Demand.{packet, event, detail, finishing}
-use Rattle.rules.specs.Rows.{Row}
+use Rattle.rules.specs.Rows.{Row, log}
 use Rattle.text.specs.Lines.{stateLine}
 use Rattle.trace.specs.Clock.{tickOf}
 use Rattle.trace.specs.Trace.{nextAt}
@@ -37,7 +39,9 @@ whole {js} {s} q =
     let m = s .decoder .counts .statebytes in
     let states = s .logs .states in
     let bytes = s .logs .statebytes in
-    let places : Stepped 0 128 (take n states ++ (m ∷ [])) = subst (λ (l : List ℕ). Stepped 0 128 (l ++ (m ∷ []))) (sym (h .told .states)) (stepped (wider (fits .fewEndpoints) (tiled q))) in
+    let by-words : n * 1 ≡ n = omega arith in
+    let told : take n states ≡ log 8 js = subst (λ (x : ℕ). take x states ≡ log 8 js) by-words (h .told 8 (log-number 8 refl)) in
+    let places : Stepped 0 128 (take n states ++ (m ∷ [])) = subst (λ (l : List ℕ). Stepped 0 128 (l ++ (m ∷ []))) (sym told) (stepped (wider (fits .fewEndpoints) (tiled q))) in
     record {
       first = cuts.first n states m bytes (fits .states) (fits .statebytes) places;
       forward = cuts.forward n states m bytes (fits .states) (fits .statebytes) places;
@@ -64,7 +68,7 @@ records q (ends e f) = record { history = _; sequence = then finishing _ _ (q .s
 records {trace} {at} {c = c} q (stops g h) = one trace (nextAt trace at) c _ _ q g
 records {trace} {at} {c = c} q (goes a g h r) = records (one trace (nextAt trace at) c a _ q g) r
 
-pub comes : {trace t : List ℕ} {l : Logs} {a p : ℕ} {s : State} → length t ≡ 2176 → Ran trace t l a p s → a ≡ 0 → Comes s
+pub comes : {trace t : List ℕ} {l : Logs} {a p : ℕ} {s : State} → length t ≡ word.table → Ran trace t l a p s → a ≡ 0 → Comes s
 comes ht (wrong h) e = absurd (h e)
 comes ht (refused h m n) e = absurd (n e)
 comes ht (runs h m r) e = records (record { history = _; sequence = made refl ht m }) r

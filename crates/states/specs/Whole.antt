@@ -7,6 +7,7 @@ use mathlib.Core.Path.{_≡_}
 use lib.Dec.{ltb}
 use lib.ListN.{length, take, getD}
 use lib.Seq.{slice}
+use Rattle.endpoints.specs.Word as word
 use Rattle.rules.specs.Rows.{Row}
 use Rattle.text.specs.Lines.{stateLine}
 use Rattle.record.specs.Room.{mostEndpoints}
@@ -59,5 +60,5 @@ pub record Comes (s : State) : Type 0 where
 pub record ListedWhole : Type 0 where
   pub sequence : {js : List Row} {s : State} → Sequence js s → Whole s
   -- a run that finished is such a sequence, so what is listed of it is whole; the table has its 2,176 words, as the program's has
-  pub comes : {trace t : List ℕ} {l : Logs} {a p : ℕ} {s : State} → length t ≡ 2176 → Ran trace t l a p s → a ≡ 0 → Comes s
-  pub run : {trace t : List ℕ} {l : Logs} {a p : ℕ} {s : State} → length t ≡ 2176 → Ran trace t l a p s → a ≡ 0 → Whole s
+  pub comes : {trace t : List ℕ} {l : Logs} {a p : ℕ} {s : State} → length t ≡ word.table → Ran trace t l a p s → a ≡ 0 → Comes s
+  pub run : {trace t : List ℕ} {l : Logs} {a p : ℕ} {s : State} → length t ≡ word.table → Ran trace t l a p s → a ≡ 0 → Whole s

@@ -7,6 +7,7 @@ use mathlib.Core.Path.{_≡_, refl, sym, ap, subst, _∙_}
 use borrow.Author.Tests.{lt-ltb}
 use lib.ListN.{length, getD, length-drop}
 use lib.Seq.{length-take-le}
+use Rattle.endpoints.specs.Word as word
 use Rattle.usb.specs.Fields.{tokenOf}
 use Rattle.usb.specs.declared.fields.Token.{Token}
 use Rattle.details.specs.Details.{detailsOf}
@@ -22,6 +23,7 @@ use Rattle.plan.specs.Packet.{oldEndpoint}
 use Rattle.call.specs.Outcome.{isIll, accepts, decoderOf}
 use Rattle.call.specs.OutcomeLaws.{sound, refused}
 use Rattle.call.specs.State.{Logs, State, state, roomOf}
+use Rattle.call.specs.StateLaws.{SameSizes}
 use Rattle.start.specs.Fresh.{Makes, made}
 use Rattle.decide.specs.Near.{placeIn, nearBy}
 use Rattle.decide.specs.declared.near.Near.{Near}
@@ -33,7 +35,7 @@ use Rattle.packet.specs.Lent.{Lent}
 use Rattle.sound.specs.Sound.{isSound}
 use Rattle.sound.proofs.Keeps.{kept}
 use Rattle.run_c.specs.Run.{endOf, Runs}
-use Rattle.run_c.proofs.Running.{SameSizes, Going, going-start, going-ends, going-between, going-stops, going-more, partOf}
+use Rattle.run_c.proofs.Running.{Going, going-start, going-ends, going-between, going-stops, going-more, partOf}
 use Rattle.stream.specs.Addresses.{Addressed, foundAddress}
 use Rattle.stream.proofs.Addresses.{found-same}
 
@@ -152,5 +154,5 @@ module _ {v : List Device} {t : List ℕ} {l : Logs} {s : State} {a : ℕ} (m : 
   unfolding made
   made-unfinished = ap (λ (x : State). x .decoder .finished) (m .accepted z)
 
-  pub made-sound : length t ≡ 2176 → 0 < length v → isSound s ≡ true
+  pub made-sound : length t ≡ word.table → 0 < length v → isSound s ≡ true
   made-sound ht hv = kept .fresh v t l s (subst (λ (k : ℕ). Makes v t l k s) z m) ht hv

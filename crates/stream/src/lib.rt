@@ -7,6 +7,7 @@ use details::Device;
 use details::Found;
 use details::endpoint_details;
 use details::fresh_device;
+use endpoints::Table;
 use packet::change::added_by;
 use packet::change::is_change;
 use packet::change::row_by;
@@ -65,7 +66,7 @@ fn run(
     decoder: Decoder,
     devices: [Device; 64],
     input: &[u8],
-    table: &mut [u64; 2176],
+    table: &mut Table,
     bytes: &mut [u8],
     device_rows: &mut [u64],
     endpoint_rows: &mut [u64],
@@ -166,7 +167,7 @@ fn run(
 #[no_mangle]
 pub extern "C" fn pivotspark_stream(
     input: &[u8],
-    table: &mut [u64; 2176],
+    table: &mut Table,
     bytes: &mut [u8],
     device_rows: &mut [u64],
     endpoint_rows: &mut [u64],

@@ -12,11 +12,12 @@ use Rattle.transaction.specs.declared.Transaction.{Transaction}
 use Rattle.details.specs.declared.Device.{Device}
 use Rattle.endpoints.specs.declared.Endpoint.{Endpoint}
 use Rattle.endpoints.specs.declared.Phase.{Phase}
-use Rattle.rules.specs.World.{World, phase, change, changeDevice, withTransaction, isEnded, waitingOf}
+use Rattle.rules.specs.World.{World, withContext, phase, change, changeDevice, withTransaction, isEnded, waitingOf}
 use Rattle.rules.specs.Endpoints as rules
 use Rattle.rules.specs.Groups.{becomes}
 use Rattle.rules.specs.Transactions.{pushTransaction}
 use Rattle.rules.specs.declared.EventState.{EventState}
+use Rattle.rules.specs.declared.Stamp.{Stamp}
 use Rattle.rules.specs.declared.Slot.{Slot}
 use Rattle.tally.specs.Tally.{addTransaction, addDevice, addEndpoint, tallyUpdate, Adds, Suits}
 use Rattle.update.specs.Update.{when}
@@ -35,10 +36,14 @@ use Rattle.plan.proofs.Small.{act-count, opened-count, begun-count, ended-count
 use Rattle.tally.specs.Tallies.{endpointsThen, tallyBegin, tallyEnd, tallyPlan, tallyEnding}
 use Rattle.tally.specs.Suited.{BeginSuits, EndSuits, PlanSuits, EndingSuits}
 
--- what is no row changes no tally: slot, transaction, event state, keepalive group and details
-pub same-adds : {t : Tally} {w₀ w : World} (s : Slot) (x : Transaction) (e : EventState) (k : Bool) (d : ℕ → Device) → Adds t w₀ w
-    → Adds t w₀ (record { endpoints = w .endpoints; count = w .count; devices = d; deviceCount = w .deviceCount; slot = s; transaction = x; lastItem = w .lastItem; eventState = e; keepalive = k; bytes = w .bytes; packets = w .packets; transactions = w .transactions; groups = w .groups; stateBytes = w .stateBytes; items = w .items; journal = w .journal })
-same-adds s x e k d a = record { words = a .words; waiting = a .waiting; bytes = a .bytes; devices = a .devices; endpoints = a .endpoints; packets = a .packets; transactions = a .transactions; groups = a .groups; statebytes = a .statebytes; items = a .items }
+-- what is no row changes no tally: slot, transaction, event state, keepalive group, context and details
+pub same-adds : {t : Tally} {w₀ w : World} (s : Slot) (x : Transaction) (e : EventState) (k : Bool) (c : Stamp) (d : ℕ → Device) → Adds t w₀ w
+    → Adds t w₀ (record { endpoints = w .endpoints; count = w .count; devices = d; deviceCount = w .deviceCount; slot = s; transaction = x; lastItem = w .lastItem; eventState = e; keepalive = k; context = c; bytes = w .bytes; packets = w .packets; transactions = w .transactions; groups = w .groups; stateBytes = w .stateBytes; items = w .items; journal = w .journal })
+same-adds s x e k c d a = record { words = a .words; waiting = a .waiting; bytes = a .bytes; devices = a .devices; endpoints = a .endpoints; packets = a .packets; transactions = a .transactions; groups = a .groups; statebytes = a .statebytes; items = a .items }
+
+-- nor where the call began with another context
+pub adds-from : {t : Tally} {w v : World} (c : Stamp) → Adds t (withContext c w) v → Adds t w v
+adds-from c a = record { words = a .words; waiting = a .waiting; bytes = a .bytes; devices = a .devices; endpoints = a .endpoints; packets = a .packets; transactions = a .transactions; groups = a .groups; statebytes = a .statebytes; items = a .items }
 
 -- ---- a step that begins
 
@@ -56,7 +61,7 @@ module _ {w₀ : World} where
   endpoint-when false d address a = a
 
   types-when : (b : Bool) (d : ℕ) (f : Device → Device) {t : Tally} {w : World} → Adds t w₀ w → Adds t w₀ (when b (changeDevice d f) w)
-  types-when true d f {t} {w} a = same-adds (w .slot) (w .transaction) (w .eventState) (w .keepalive) _ a
+  types-when true d f {t} {w} a = same-adds (w .slot) (w .transaction) (w .eventState) (w .keepalive) (w .context) _ a
   types-when false d f a = a
 
   pub begun-adds : (id : ℕ) (s : Begin) {t : Tally} {w : World} → BeginSuits id s w → Adds t w₀ w → Adds (tallyBegin s (w .count) t) w₀ (begun id s w)
@@ -67,7 +72,7 @@ module _ {w₀ : World} where
       let c : Adds (when (s .endpoint) addEndpoint (when (s .device) addDevice (when (s .row) addTransaction t))) w₀ v = types-when (s .types) (s .place) (rules.typed (s .number) (s .kind)) b in
       subst (λ (n : ℕ). Adds (tallyUpdate (s .update) n (when (s .endpoint) addEndpoint (when (s .device) addDevice (when (s .row) addTransaction t)))) w₀ (begun id s w))
       (opened-count id s w)
-      (act-adds (s .update) (s .transaction .endpoint) (h .there) (h .suits) (same-adds (v .slot) (s .transaction) (v .eventState) (v .keepalive) (v .devices) c))
+      (act-adds (s .update) (s .transaction .endpoint) (h .there) (h .suits) (same-adds (v .slot) (s .transaction) (v .eventState) (v .keepalive) (v .context) (v .devices) c))
 
 -- ---- a step that ends
 
@@ -106,7 +111,7 @@ module _ {w₀ : World} where
   brought-when : (b : Bool) (x : ℕ) (s : End) (brought : Transaction) (n : ℕ) {t : Tally} {w : World} → w .count ≡ n → (b ≡ true → EndSuits x s (withTransaction brought w)) → Adds t w₀ w
       → Adds (when b (tallyEnd s n) t) w₀ (when b (λ v. ended x s (withTransaction brought v)) w)
   brought-when true x s brought n {t} {w} e h a =
-      subst (λ (m : ℕ). Adds (tallyEnd s m t) w₀ (ended x s (withTransaction brought w))) e (ended-adds x s (h refl) (same-adds (w .slot) brought (w .eventState) (w .keepalive) (w .devices) a))
+      subst (λ (m : ℕ). Adds (tallyEnd s m t) w₀ (ended x s (withTransaction brought w))) e (ended-adds x s (h refl) (same-adds (w .slot) brought (w .eventState) (w .keepalive) (w .context) (w .devices) a))
   brought-when false x s brought n e h a = a
 
 pub begun-still : (b : Bool) (id : ℕ) (s : Begin) (w : World) → s .endpoint ≡ false → when b (begun id s) w .count ≡ w .count
@@ -134,17 +139,17 @@ module _ (p : Plan) (packet : List ℕ) (time : ℕ) (w : World) (h : PlanSuits 
   pub played-adds : Adds (tallyPlan p (length packet) (w .count) (waitingOf w)) w (played p packet time w)
   unfolding tallyPlan played
   played-adds =
-      let a = packet-adds (same-adds (w .slot) (w .transaction) _ (w .keepalive) (w .devices) (adds-none w)) packet time in
+      let a = packet-adds (same-adds (w .slot) (w .transaction) _ (w .keepalive) _ (w .devices) (adds-none w)) packet time in
       let b = begun-when (p .resumes) (w .packets) (p .resume) (w .count) refl (h .resume) a in
       let c = brought-when (p .ends) (p .old) (p .end) (p .brought) (w .count) (count2 p packet time w (h .still)) (h .end) b in
       let d = begun-when true (w .packets) (p .begin) (w .count) (count3 p packet time w (h .still)) (λ e. h .begin) c in
       let e = ended-when (p .closes) (p .begin .transaction .endpoint) (p .close) (endpointsThen (p .begin) (w .count)) (count4 p packet time w (h .still)) (h .close) d in
       let v = when (p .closes) (ended (p .begin .transaction .endpoint) (p .close)) (world4 p packet time w) in
-      same-adds (p .slot) (v .transaction) (v .eventState) (v .keepalive) (v .devices) e
+      same-adds (p .slot) (v .transaction) (v .eventState) (v .keepalive) (v .context) (v .devices) e
 
 -- finish
 pub ending-adds : (e : Ending) (w : World) → EndingSuits e w → Adds (tallyEnding e (w .count) (waitingOf w)) w (endPlayed e w)
 unfolding tallyEnding endPlayed
 ending-adds e w h =
     let v = when (e .ends) (ended (e .old) (e .end)) w in
-    same-adds (slotEnded (w .slot)) (v .transaction) (v .eventState) (v .keepalive) (v .devices) (ended-when (e .ends) (e .old) (e .end) (w .count) refl h (adds-none w))
+    same-adds (slotEnded (w .slot)) (v .transaction) (v .eventState) (v .keepalive) (v .context) (v .devices) (ended-when (e .ends) (e .old) (e .end) (w .count) refl h (adds-none w))

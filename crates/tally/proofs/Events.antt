@@ -10,7 +10,7 @@ use Rattle.endpoints.specs.declared.Phase.the-variants.{None, Early, Active, En
 use Rattle.rules.specs.Decoder.{suspendAt, overRow, overRows, endAllActive, pushPacket, handleEvent}
 use Rattle.rules.specs.Events as rules
 use Rattle.rules.specs.Rows.{Row, Over, EventRow}
-use Rattle.rules.specs.World.{World, _▷_, push, withKeepalive}
+use Rattle.rules.specs.World.{World, _▷_, push, withKeepalive, stamp, stamped}
 use Rattle.rules.specs.declared.EventState.{EventState}
 use Rattle.rules.specs.declared.Slot.{Slot}
 use Rattle.rules.specs.declared.Slot.the-variants.{Empty, Current, Suspended}
@@ -34,7 +34,7 @@ use Rattle.plan.proofs.Small.{ended-count}
 use Rattle.tally.specs.Event.{eventPlayed}
 use Rattle.tally.specs.Suited.{EndingSuits, EndingActs, activesOf}
 use Rattle.tally.specs.Tallies.{tallyEnding, waitAnew, waitingThen, addCounts, tallyRows, tallyKeepalive, tallyEvent}
-use Rattle.tally.proofs.Counted.{same-adds, ending-adds}
+use Rattle.tally.proofs.Counted.{same-adds, adds-from, ending-adds}
 use Rattle.tally.proofs.Anew.{waiting-then}
 use Rattle.tally.proofs.Counts.{state-full}
 
@@ -55,7 +55,7 @@ pub keepalive-adds : (code time : ℕ) (w : World) → 0 < w .count
     → Adds (tallyKeepalive (rules.turnOf (w .eventState) rules.LsKeepalive .act) (w .keepalive) (w .count) (waitingOf w)) w (handleEvent rules.LsKeepalive code time w)
 unfolding tallyKeepalive handleEvent
 keepalive-adds code time w h =
-    rows-adds (w .bytes) (w .packets) rules.LsKeepalive code time (suspended (w .slot)) h (same-adds (suspendAt (w .slot)) (w .transaction) (w .eventState) (w .keepalive) (w .devices) (adds-none w))
+    rows-adds (w .bytes) (w .packets) rules.LsKeepalive code time (suspended (w .slot)) h (same-adds (suspendAt (w .slot)) (w .transaction) (w .eventState) (w .keepalive) (stamp (w .packets) time) (w .devices) (adds-none w))
 
 -- ---- every active group ends: a row in no log
 
@@ -91,7 +91,7 @@ event-played-adds e kind code time w h s f =
     let z : u .eventState ≡ w .eventState = when-keeps (λ v. v .eventState) (e .ends) (ended (e .old) (e .end)) (ended-keeps (λ v. v .eventState) event-untouched (e .old) (e .end)) w in
     let v = endPlayed e w ▷ endAllActive in
     let b : Adds (waitAnew k t) w v = subst (λ (m : ℕ). Adds (waitAnew m t) w v) (waiting-then e w s f) (all-adds (ending-adds e w s)) in
-    let a : Adds (waitAnew k t) w (withKeepalive false v) = same-adds (v .slot) (v .transaction) (v .eventState) false (v .devices) b in
+    let a : Adds (waitAnew k t) w (withKeepalive false v) = same-adds (v .slot) (v .transaction) (v .eventState) false (v .context) (v .devices) b in
     subst (λ (q : EventState). Adds (tallyRows (rules.turnOf q kind .act) false (w .count) (waitAnew k t)) w (eventPlayed e kind code time w)) z
     (subst (λ (m : ℕ). Adds (tallyRows (rules.turnOf (u .eventState) kind .act) false m (waitAnew k t)) w (eventPlayed e kind code time w)) n
     (rows-adds (w .bytes) (w .packets) kind code time (settled (w .slot)) (subst (λ (m : ℕ). 0 < m) (sym n) h) a))
@@ -102,6 +102,6 @@ pub keepalive-full : (code time : ℕ) (s : State) → 0 < s .decoder .counts .e
     → isFull s (handleEvent rules.LsKeepalive code time (worldAt s)) ≡ not (fitting (addCounts (s .decoder .counts) (tallyKeepalive (rules.turnOf (s .decoder .event) rules.LsKeepalive .act) (s .decoder .keepalive) (s .decoder .counts .endpoints) (waitingOf (worldAt s)))) (roomOf (s .logs)))
 keepalive-full code time s h = state-full s (keepalive-adds code time (worldAt s) h)
 
-pub event-full : (e : Ending) (kind code time : ℕ) (s : State) → 0 < s .decoder .counts .endpoints → EndingSuits e (worldAt s) → EndingActs e
-    → isFull s (eventPlayed e kind code time (worldAt s)) ≡ not (fitting (addCounts (s .decoder .counts) (tallyEvent e (rules.turnOf (s .decoder .event) kind .act) (s .decoder .counts .endpoints) (waitingOf (worldAt s)) (activesOf (worldAt s)))) (roomOf (s .logs)))
-event-full e kind code time s h g f = state-full s (event-played-adds e kind code time (worldAt s) h g f)
+pub event-full : (e : Ending) (kind code time : ℕ) (s : State) → 0 < s .decoder .counts .endpoints → EndingSuits e (stamped time (worldAt s)) → EndingActs e
+    → isFull s (eventPlayed e kind code time (stamped time (worldAt s))) ≡ not (fitting (addCounts (s .decoder .counts) (tallyEvent e (rules.turnOf (s .decoder .event) kind .act) (s .decoder .counts .endpoints) (waitingOf (worldAt s)) (activesOf (worldAt s)))) (roomOf (s .logs)))
+event-full e kind code time s h g f = state-full s (adds-from _ (event-played-adds e kind code time (stamped time (worldAt s)) h g f))

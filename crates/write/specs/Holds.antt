@@ -1,10 +1,11 @@
--- Laws (proved): what it means that memory holds a world of the rules (rules, World): the counts are its numbers, the table's entries its endpoints, and each
+-- Laws (proved): what it means that memory holds a world of the rules (rules, World): the call's stamp is its context, the counts are its numbers, the table's entries its endpoints, and each
 -- log has, behind the rows that stood there before, the words of its rows in the journal.
 use Prim.Native.Nat.{ℕ, _+_, _*_, _<_, _≤_}
 use mathlib.Core.List.{List}
 use mathlib.Core.Path.{_≡_}
 use lib.ListN.{length}
 use lib.Seq.{sets}
+use Rattle.endpoints.specs.Word as word
 use Rattle.rows.specs.Widths.{groupWidth, linkWidth}
 use Rattle.endpoints.specs.Table.{entryAt}
 use Rattle.transaction.specs.Payload.{startPid}
@@ -19,7 +20,9 @@ pub record Appended (k : ℕ) (first : List ℕ) (from : ℕ) (js : List Row) (w
 
 -- memory m, which was m₀ when the journal was empty, holds the world w, of n endpoints and the transaction in row id that began with pid
 pub record Holds (n id pid : ℕ) (m₀ : Memory) (w : World) (m : Memory) : Type 0 where
-  pub sized : length (m .table) ≡ 2176
+  pub sized : length (m .table) ≡ word.table
+  pub stamp : m .written .stamp ≡ m₀ .written .stamp
+  pub context : w .context ≡ m₀ .written .stamp
   pub count : w .count ≡ n
   pub endpoints : (j : ℕ) → j < n → entryAt (m .table) j ≡ w .endpoints j
   pub row : w .transaction .id ≡ id

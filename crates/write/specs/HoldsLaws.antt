@@ -59,13 +59,15 @@ none : (k : ℕ) (words : List ℕ) (to : ℕ) (js : List Row) → js ≡ [] →
 none k words to js e = rw e (record { written = refl; filled = omega arith })
 
 -- where a call begins
-pub holds-start : (n id pid : ℕ) (w : World) (m : Memory) → w .journal ≡ [] → length (m .table) ≡ 2176 → w .count ≡ n
+pub holds-start : (n id pid : ℕ) (w : World) (m : Memory) → w .journal ≡ [] → length (m .table) ≡ word.table → w .context ≡ m .written .stamp → w .count ≡ n
     → ((j : ℕ) → j < n → entryAt (m .table) j ≡ w .endpoints j) → w .transaction .id ≡ id → startPid (w .transaction .style) ≡ pid
     → m .written .linked ≡ w .transaction .linked → m .written .link ≡ w .transaction .link → m .written .last ≡ w .lastItem
     → m .written .groups ≡ w .groups → m .written .statebytes ≡ w .stateBytes → m .written .items ≡ w .items → Holds n id pid m w m
-holds-start n id pid w m e sized count endpoints row began linked link lastItem groups statebytes items =
+holds-start n id pid w m e sized context count endpoints row began linked link lastItem groups statebytes items =
     record {
       sized = sized;
+      stamp = refl;
+      context = context;
       count = count;
       endpoints = endpoints;
       row = row;
@@ -102,6 +104,8 @@ module _ {n id pid : ℕ} {m₀ m : Memory} {w : World} (h : Holds n id pid m₀
   holds-altered x f hx few fits =
       record {
         sized = length-sets (m .table) (x * word.width) (words (f (entryAt (m .table) x))) ∙ h .sized;
+        stamp = h .stamp;
+        context = h .context;
         count = h .count;
         endpoints = λ j hj. at j hj (eqb j x) refl;
         row = h .row;
@@ -131,6 +135,8 @@ module _ {n id pid : ℕ} {m₀ m : Memory} {w : World} (h : Holds n id pid m₀
   holds-over-row x g =
       record {
         sized = h .sized;
+        stamp = h .stamp;
+        context = h .context;
         count = h .count;
         endpoints = h .endpoints;
         row = h .row;
@@ -154,6 +160,8 @@ module _ {n id pid : ℕ} {m₀ m : Memory} {w : World} (h : Holds n id pid m₀
   holds-link-row r k x a b e =
       record {
         sized = h .sized;
+        stamp = h .stamp;
+        context = h .context;
         count = h .count;
         endpoints = h .endpoints;
         row = h .row;
@@ -176,6 +184,8 @@ module _ {n id pid : ℕ} {m₀ m : Memory} {w : World} (h : Holds n id pid m₀
   holds-tied i i′ e =
       record {
         sized = h .sized;
+        stamp = h .stamp;
+        context = h .context;
         count = h .count;
         endpoints = h .endpoints;
         row = h .row;
@@ -213,6 +223,8 @@ module _ {n id pid : ℕ} {m₀ m : Memory} {w : World} (h : Holds n id pid m₀
   holds-group-row x start nth e =
       record {
         sized = length-next (m .table) n x start ∙ h .sized;
+        stamp = h .stamp;
+        context = h .context;
         count = h .count;
         endpoints = stated x start;
         row = h .row;
@@ -289,6 +301,8 @@ module _ {n id pid : ℕ} {m₀ m : Memory} {w : World} (h : Holds n id pid m₀
   holds-item x =
       record {
         sized = length-cleared (m .table) n ∙ h .sized;
+        stamp = h .stamp;
+        context = h .context;
         count = h .count;
         endpoints = λ j hj. entry-cleared (m .table) n j (omega (arith, h .sized)) hj ∙ rw (h .endpoints j hj, same-close (w .endpoints j .phase)) refl;
         row = h .row;

@@ -34,18 +34,18 @@ memory d t g m s i l = record { written = d; table = t; groups = g; statebytes =
 
 -- a group row, its state row and n state bytes
 abbrev pub groupWritten : ℕ → Written → Written
-groupWritten n d = record { groups = d .groups + 1; statebytes = d .statebytes + n; states = d .states + 1; items = d .items; links = d .links; last = d .last; linked = d .linked; link = d .link }
+groupWritten n d = record { stamp = d .stamp; groups = d .groups + 1; statebytes = d .statebytes + n; states = d .states + 1; items = d .items; links = d .links; last = d .last; linked = d .linked; link = d .link }
 
 -- an item of endpoint x, which closes k groups
 abbrev pub itemWritten : ℕ → ℕ → Written → Written
-itemWritten k x d = record { groups = d .groups; statebytes = d .statebytes; states = d .states; items = d .items + 1; links = d .links + k; last = x; linked = d .linked; link = d .link }
+itemWritten k x d = record { stamp = d .stamp; groups = d .groups; statebytes = d .statebytes; states = d .states; items = d .items + 1; links = d .links + k; last = x; linked = d .linked; link = d .link }
 
 abbrev pub linkWritten : Written → Written
-linkWritten d = record { groups = d .groups; statebytes = d .statebytes; states = d .states; items = d .items; links = d .links + 1; last = d .last; linked = d .linked; link = d .link }
+linkWritten d = record { stamp = d .stamp; groups = d .groups; statebytes = d .statebytes; states = d .states; items = d .items; links = d .links + 1; last = d .last; linked = d .linked; link = d .link }
 
 -- ep_transaction_id = Some(i)
 abbrev pub tied : ℕ → Written → Written
-tied i d = record { groups = d .groups; statebytes = d .statebytes; states = d .states; items = d .items; links = d .links; last = d .last; linked = true; link = i }
+tied i d = record { stamp = d .stamp; groups = d .groups; statebytes = d .statebytes; states = d .states; items = d .items; links = d .links; last = d .last; linked = true; link = i }
 
 -- ---- rows
 

@@ -1,6 +1,7 @@
 // An endpoint's entry changed in the table: each function loads it, changes what its name says, and stores it.
 use endpoints::Endpoint;
 use endpoints::Phase;
+use endpoints::Table;
 use endpoints::entry::load;
 use endpoints::entry::store;
 use endpoints::entry::with_phase;
@@ -12,7 +13,7 @@ ghost use Rattle.rules.specs.Groups.{activated};
 ghost use Rattle.write.specs.Memory.{alter, lastNumber};
 
 // The number of the endpoint's last group.
-pub fn last_group(table: &[u64; 2176], x: usize) -> u64
+pub fn last_group(table: &Table, x: usize) -> u64
     requires { ⌜ x < 128 ⌝ }
     ensures { λ r. ⌜ r ≡ lastNumber x (now (table .entry)) ⌝ }
 {
@@ -20,7 +21,7 @@ pub fn last_group(table: &[u64; 2176], x: usize) -> u64
     crate::leaf::last(e.groups)
 }
 
-pub fn set_phase(table: &mut [u64; 2176], x: usize, phase: Phase)
+pub fn set_phase(table: &mut Table, x: usize, phase: Phase)
     requires { ⌜ x < 128 ⌝ }
     ensures { λ r. ⌜ now (table .exit) ≡ alter x (withPhase phase) (now (table .entry)) ⌝ }
 {
@@ -29,7 +30,7 @@ pub fn set_phase(table: &mut [u64; 2176], x: usize, phase: Phase)
 }
 
 // One more T row.
-pub fn more_transactions(table: &mut [u64; 2176], x: usize)
+pub fn more_transactions(table: &mut Table, x: usize)
     requires { ⌜ x < 128 ⌝ }
     requires { ⌜ entryAt (now table) x .transactions + 1 < 2 ^ 64 ⌝ }
     ensures { λ r. ⌜ now (table .exit) ≡ alter x moreTransactions (now (table .entry)) ⌝ }
@@ -41,7 +42,7 @@ pub fn more_transactions(table: &mut [u64; 2176], x: usize)
 }
 
 // One more G row.
-pub fn more_groups(table: &mut [u64; 2176], x: usize)
+pub fn more_groups(table: &mut Table, x: usize)
     requires { ⌜ x < 128 ⌝ }
     requires { ⌜ entryAt (now table) x .groups + 1 < 2 ^ 64 ⌝ }
     ensures { λ r. ⌜ now (table .exit) ≡ alter x moreGroups (now (table .entry)) ⌝ }
@@ -53,7 +54,7 @@ pub fn more_groups(table: &mut [u64; 2176], x: usize)
 }
 
 // payload.clear()
-pub fn clear_payload(table: &mut [u64; 2176], x: usize)
+pub fn clear_payload(table: &mut Table, x: usize)
     requires { ⌜ x < 128 ⌝ }
     ensures { λ r. ⌜ now (table .exit) ≡ alter x cleared (now (table .entry)) ⌝ }
 {
@@ -63,7 +64,7 @@ pub fn clear_payload(table: &mut [u64; 2176], x: usize)
 }
 
 // The last transaction of the active group that went well began with this PID.
-pub fn set_last(table: &mut [u64; 2176], x: usize, pid: u8)
+pub fn set_last(table: &mut Table, x: usize, pid: u8)
     requires { ⌜ x < 128 ⌝ }
     ensures { λ r. ⌜ now (table .exit) ≡ alter x (withLast pid) (now (table .entry)) ⌝ }
 {
@@ -74,7 +75,7 @@ pub fn set_last(table: &mut [u64; 2176], x: usize, pid: u8)
 }
 
 // The group is active, and its payload empty.
-pub fn activate(table: &mut [u64; 2176], x: usize, done: bool, pid: u8)
+pub fn activate(table: &mut Table, x: usize, done: bool, pid: u8)
     requires { ⌜ x < 128 ⌝ }
     ensures { λ r. ⌜ now (table .exit) ≡ alter x (activated done pid) (now (table .entry)) ⌝ }
 {

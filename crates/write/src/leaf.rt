@@ -1,9 +1,11 @@
 // One row and what stands with it: a group row with its state row, an item with the ends that it closes, a link row.
 use crate::Written;
+use endpoints::Table;
 use endpoints::entry;
 use endpoints::phases;
 use endpoints::states;
 use rows::width;
+use rules::Stamp;
 ghost use mathlib.Core.List.{_∷_, []};
 ghost use mathlib.Core.Path.{_≡_};
 ghost use Prim.Native.Nat.{pred, _+_, _*_, _<_, _≤_};
@@ -30,7 +32,7 @@ pub fn group_row(
     x: usize,
     nth: u64,
     start: bool,
-    table: &mut [u64; 2176],
+    table: &mut Table,
     groups: &mut [u64],
     statebytes: &mut [u8],
     states: &mut [u64],
@@ -65,12 +67,12 @@ pub fn group_row(
     d
 }
 
-// A transaction row, where `on`: the packet that the transaction begins with. It is row n.
-pub fn put_transaction(on: bool, transactions: &mut [u64], n: usize, packet: u64)
-    requires { ⌜ n * transactionWidth + length (opt on (transactionWords (naming packet))) ≤ length (now transactions) ⌝ }
-    ensures { λ r. ⌜ now (transactions .exit) ≡ sets (now (transactions .entry)) (n * transactionWidth) (opt on (transactionWords (naming packet))) ⌝ }
+// A transaction row, where `on`, of the call that brings the stamp: its packet. It is row n.
+pub fn put_transaction(on: bool, transactions: &mut [u64], n: usize, stamp: Stamp)
+    requires { ⌜ n * transactionWidth + length (opt on (transactionWords (naming (stamp .packet)))) ≤ length (now transactions) ⌝ }
+    ensures { λ r. ⌜ now (transactions .exit) ≡ sets (now (transactions .entry)) (n * transactionWidth) (opt on (transactionWords (naming (stamp .packet)))) ⌝ }
 {
-    rows::put1_if(on, transactions, n * width::TRANSACTION, packet);
+    rows::put1_if(on, transactions, n * width::TRANSACTION, stamp.packet);
 }
 
 // add_item: the item of the last group row, and an E row for each endpoint that waits; then none waits any more.
@@ -78,7 +80,7 @@ pub fn item_row(
     d: Written,
     n: usize,
     x: usize,
-    table: &mut [u64; 2176],
+    table: &mut Table,
     items: &mut [u64],
     links: &mut [u64],
 ) -> Written

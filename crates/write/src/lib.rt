@@ -3,8 +3,11 @@ pub mod entries;
 pub mod leaf;
 pub mod steps;
 
-// How far a call has written: the rows of the five logs that groups go to, the last item's endpoint, and the transaction's T row.
+use rules::Stamp;
+
+// What a call brings, and how far it has written: the rows of the five logs that groups go to, the last item's endpoint, and the transaction's T row.
 pub struct Written {
+    pub stamp: Stamp,
     pub groups: usize,
     pub statebytes: usize,
     pub states: usize,

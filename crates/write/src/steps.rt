@@ -5,6 +5,7 @@ use crate::leaf::group_row;
 use crate::leaf::item_row;
 use crate::leaf::link_row;
 use endpoints::Phase;
+use endpoints::Table;
 use endpoints::entry::load;
 use endpoints::link;
 ghost use mathlib.Core.Path.{_≡_};
@@ -20,7 +21,7 @@ ghost use Rattle.update.specs.Update.{when};
 ghost use Rattle.write.specs.Memory.{Room, OnGroups, OnItems, OnLinks, memory, alter, groupWritten, itemWritten, linkWritten, endRow, linkStep, startGroup, itemRow, tied};
 
 // ended = Some(..), with no row.
-pub fn over_if(on: bool, x: usize, table: &mut [u64; 2176])
+pub fn over_if(on: bool, x: usize, table: &mut Table)
     requires { ⌜ x < 128 ⌝ }
     ensures { λ r. ⌜ now (table .exit) ≡ when on (alter x (withPhase Ended)) (now (table .entry)) ⌝ }
 {
@@ -30,7 +31,7 @@ pub fn over_if(on: bool, x: usize, table: &mut [u64; 2176])
 }
 
 // payload.clear()
-pub fn clear_if(on: bool, x: usize, table: &mut [u64; 2176])
+pub fn clear_if(on: bool, x: usize, table: &mut Table)
     requires { ⌜ x < 128 ⌝ }
     ensures { λ r. ⌜ now (table .exit) ≡ when on (alter x cleared) (now (table .entry)) ⌝ }
 {
@@ -45,7 +46,7 @@ pub fn end_row_if(
     d: Written,
     n: usize,
     x: usize,
-    table: &mut [u64; 2176],
+    table: &mut Table,
     groups: &mut [u64],
     statebytes: &mut [u8],
     states: &mut [u64],
@@ -72,7 +73,7 @@ pub fn item_if(
     d: Written,
     n: usize,
     x: usize,
-    table: &mut [u64; 2176],
+    table: &mut Table,
     items: &mut [u64],
     links: &mut [u64],
 ) -> Written
@@ -104,7 +105,7 @@ pub fn link_if(
     d: Written,
     x: usize,
     id: u64,
-    table: &mut [u64; 2176],
+    table: &mut Table,
     links: &mut [u64],
 ) -> Written
     requires { ⌜ x < 128 ⌝ }
@@ -128,7 +129,7 @@ pub fn start_if(
     d: Written,
     n: usize,
     x: usize,
-    table: &mut [u64; 2176],
+    table: &mut Table,
     groups: &mut [u64],
     statebytes: &mut [u8],
     states: &mut [u64],

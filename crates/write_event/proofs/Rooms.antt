@@ -6,6 +6,7 @@ use mathlib.Core.List.{List, [], _∷_}
 use mathlib.Core.Path.{_≡_, refl, sym, ap, _∙_, subst}
 use lib.ListN.{length}
 use lib.Seq.{sets, length-sets}
+use Rattle.endpoints.specs.Word as word
 use Rattle.rows.specs.Widths.{groupWidth, linkWidth}
 use Rattle.rows.specs.One.{one}
 use Rattle.endpoints.specs.Link as kind
@@ -64,7 +65,7 @@ link-asks true id m h = omega (arith, h, length-sets (m .links) (m .written .lin
 link-asks false id m h = h
 
 -- a T row more is no group more
-same-groups : (row : Bool) (id : ℕ) (m : Memory) → length (m .table) ≡ 2176 → entryAt (when row (eventLinked id) m .table) 0 .groups ≡ entryAt (m .table) 0 .groups
+same-groups : (row : Bool) (id : ℕ) (m : Memory) → length (m .table) ≡ word.table → entryAt (when row (eventLinked id) m .table) 0 .groups ≡ entryAt (m .table) 0 .groups
 same-groups true id m l =
     let f = fits-entry (m .table) 0 in
     ap (λ (e : Endpoint). e .groups)
@@ -76,7 +77,7 @@ module _ (row group start : Bool) (n id : ℕ) (m : Memory) (a : Able row group 
   unfolding eventRows
   first-asks = (a .transactions, link-asks row id m (links-before group start n (when row (eventLinked id) m) (a .room)))
 
-  pub second-asks : length (m .table) ≡ 2176 → (m₁ : Memory) → m₁ ≡ when row (eventLinked id) m
+  pub second-asks : length (m .table) ≡ word.table → (m₁ : Memory) → m₁ ≡ when row (eventLinked id) m
       → (n ≤ 128) × ((entryAt (m₁ .table) 0 .groups + 1 < 2 ^ 64) × Room (when group (eventGrouped n start) m₁))
   unfolding eventRows
   second-asks l m₁ e = (a .few, (omega (arith, a .groups, counts), subst (λ (v : Memory). Room (when group (eventGrouped n start) v)) (sym e) (a .room)))

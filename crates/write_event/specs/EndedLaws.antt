@@ -48,6 +48,8 @@ pub ended-holds : {n id pid : ℕ} {m₀ m : Memory} {w : World} → Holds n id 
 ended-holds {n} {id} {pid} {m₀} {m} {w} h few =
     record {
       sized = length-ended (m .table) n ∙ h .sized;
+      stamp = h .stamp;
+      context = h .context;
       count = h .count;
       endpoints = λ j hj. entry-ended (m .table) n j (omega (arith, h .sized)) hj ∙ rw (h .endpoints j hj, same-end (w .endpoints j .phase)) refl;
       row = h .row;

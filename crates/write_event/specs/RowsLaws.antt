@@ -27,6 +27,7 @@ use Rattle.write_event.specs.Rows.{Able, eventLinked, eventGrouped, even
 pub record Alike (w v : World) : Type 0 where
   pub endpoints : v .endpoints ≡ w .endpoints
   pub count : v .count ≡ w .count
+  pub context : v .context ≡ w .context
   pub transaction : v .transaction ≡ w .transaction
   pub lastItem : v .lastItem ≡ w .lastItem
   pub groupCount : v .groups ≡ w .groups
@@ -39,6 +40,8 @@ pub holds-alike : {n id pid : ℕ} {m₀ m : Memory} {w v : World} → Alike w v
 holds-alike {m = m} a h =
     record {
       sized = h .sized;
+      stamp = h .stamp;
+      context = a .context ∙ h .context;
       count = a .count ∙ h .count;
       endpoints = λ j hj. rw (a .endpoints) (h .endpoints j hj);
       row = rw (a .transaction) (h .row);
@@ -62,25 +65,25 @@ row-below r js k h g = rw (ne-eqb (written r .0) k (λ e. omega arith)) (append-
 
 module _ (w : World) where
   pub slot-alike : (s : Slot) → Alike w (withSlot s w)
-  slot-alike s = record { endpoints = refl; count = refl; transaction = refl; lastItem = refl; groupCount = refl; stateBytes = refl; itemCount = refl; logs = λ k u v. refl }
+  slot-alike s = record { endpoints = refl; count = refl; context = refl; transaction = refl; lastItem = refl; groupCount = refl; stateBytes = refl; itemCount = refl; logs = λ k u v. refl }
 
   pub keepalive-alike : (b : Bool) → Alike w (withKeepalive b w)
-  keepalive-alike b = record { endpoints = refl; count = refl; transaction = refl; lastItem = refl; groupCount = refl; stateBytes = refl; itemCount = refl; logs = λ k u v. refl }
+  keepalive-alike b = record { endpoints = refl; count = refl; context = refl; transaction = refl; lastItem = refl; groupCount = refl; stateBytes = refl; itemCount = refl; logs = λ k u v. refl }
 
   pub state-alike : (s : EventState) → Alike w (withEventState s w)
-  state-alike s = record { endpoints = refl; count = refl; transaction = refl; lastItem = refl; groupCount = refl; stateBytes = refl; itemCount = refl; logs = λ k u v. refl }
+  state-alike s = record { endpoints = refl; count = refl; context = refl; transaction = refl; lastItem = refl; groupCount = refl; stateBytes = refl; itemCount = refl; logs = λ k u v. refl }
 
   pub transaction-alike : (packet : ℕ) → Alike w (pushTransaction packet w)
   transaction-alike packet =
-      record { endpoints = refl; count = refl; transaction = refl; lastItem = refl; groupCount = refl; stateBytes = refl; itemCount = refl; logs = λ k u v. row-below (TransactionRow (naming packet)) (w .journal) k (omega arith) u }
+      record { endpoints = refl; count = refl; context = refl; transaction = refl; lastItem = refl; groupCount = refl; stateBytes = refl; itemCount = refl; logs = λ k u v. row-below (TransactionRow (naming packet)) (w .journal) k (omega arith) u }
 
   pub packet-alike : (start time : ℕ) → Alike w (pushPacket start time w)
   packet-alike start time =
-      record { endpoints = refl; count = refl; transaction = refl; lastItem = refl; groupCount = refl; stateBytes = refl; itemCount = refl; logs = λ k u v. row-below (PacketRow start time) (w .journal) k (omega arith) u }
+      record { endpoints = refl; count = refl; context = refl; transaction = refl; lastItem = refl; groupCount = refl; stateBytes = refl; itemCount = refl; logs = λ k u v. row-below (PacketRow start time) (w .journal) k (omega arith) u }
 
   pub event-row-alike : (packet code : ℕ) → Alike w (push (EventRow packet code) w)
   event-row-alike packet code =
-      record { endpoints = refl; count = refl; transaction = refl; lastItem = refl; groupCount = refl; stateBytes = refl; itemCount = refl; logs = λ k u v. row-below (EventRow packet code) (w .journal) k (omega arith) u }
+      record { endpoints = refl; count = refl; context = refl; transaction = refl; lastItem = refl; groupCount = refl; stateBytes = refl; itemCount = refl; logs = λ k u v. row-below (EventRow packet code) (w .journal) k (omega arith) u }
 
 -- ---- the act, once no transaction is current
 

@@ -1,5 +1,6 @@
 // The rows of an event on the event endpoint, once the old transaction has ended or is suspended (document 000, event_add_group and
 // event_subgroup_start). The transaction row itself is the caller's.
+use endpoints::Table;
 use endpoints::entry::load;
 use endpoints::link;
 use write::Written;
@@ -18,7 +19,7 @@ ghost use Rattle.write_event.specs.Rows.{Able, eventLinked, eventGrouped
 const EVENT: usize = 0;
 
 // The T row of transaction row id. The tally's T row is the suspended transaction's, and stays.
-fn link_event(on: bool, d: Written, id: u64, table: &mut [u64; 2176], links: &mut [u64]) -> Written
+fn link_event(on: bool, d: Written, id: u64, table: &mut Table, links: &mut [u64]) -> Written
     requires { ⌜ entryAt (now table) 0 .transactions + 1 < 2 ^ 64 ⌝ }
     requires { ⌜ when on linkWritten d .links * linkWidth ≤ length (now links) ⌝ }
     ensures { λ r. ⌜ OnLinks (when on (eventLinked id)) d (now (table .entry)) (now (links .entry)) r (now (table .exit)) (now (links .exit)) ⌝ }
@@ -37,7 +38,7 @@ fn group_event(
     start: bool,
     d: Written,
     n: usize,
-    table: &mut [u64; 2176],
+    table: &mut Table,
     groups: &mut [u64],
     statebytes: &mut [u8],
     states: &mut [u64],
@@ -70,7 +71,7 @@ pub fn event_rows(
     d: Written,
     n: usize,
     id: u64,
-    table: &mut [u64; 2176],
+    table: &mut Table,
     groups: &mut [u64],
     statebytes: &mut [u8],
     states: &mut [u64],

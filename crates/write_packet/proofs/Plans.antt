@@ -29,18 +29,18 @@ use Rattle.write_packet.proofs.Steps.{room-effect}
 carried-room : (u : Update) (n x id pid : ℕ) (m : Memory) → Room (carried u n x id pid m) → Room m
 carried-room u n x id pid m r = room-opened u n x id m (room-closed u n x pid (opened u n x id m) r)
 
-pub room-begun : (id : ℕ) (s : Begin) (k : Desk) → RoomAll (begunDesk id s k) → RoomAll k
+pub room-begun : (s : Begin) (k : Desk) → RoomAll (begunDesk s k) → RoomAll k
 unfolding begunDesk
-room-begun id s k r =
+room-begun s k r =
     record {
-      memory = bare (carried-room (s .update) _ (s .transaction .endpoint) (s .transaction .id) (startPid (s .transaction .style)) (memoryOf (openedDesk id s k)) (r .memory));
+      memory = bare (carried-room (s .update) _ (s .transaction .endpoint) (s .transaction .id) (startPid (s .transaction .style)) (memoryOf (openedDesk s k)) (r .memory));
       devices = omega (arith, r .devices, plus-le (s .device) (k .hand .devices), length-sets (k .devices) (k .hand .devices) (deviceWords s));
       endpoints = omega (arith, r .endpoints, plus-le (s .endpoint) (k .hand .endpoints), length-sets (k .endpoints) (k .hand .endpoints * endpointWidth) (endpointWords s));
-      transactions = omega (arith, r .transactions, plus-le (s .row) (k .hand .transactions), length-sets (k .transactions) (k .hand .transactions * transactionWidth) (transactionWordsIf id s));
+      transactions = omega (arith, r .transactions, plus-le (s .row) (k .hand .transactions), length-sets (k .transactions) (k .hand .transactions * transactionWidth) (transactionWordsIf (k .hand .written .stamp) s));
       requests = r .requests;
     }
   where
-    bare : Room (memoryOf (openedDesk id s k)) → Room (memoryOf k)
+    bare : Room (memoryOf (openedDesk s k)) → Room (memoryOf k)
     bare a = record { groups = a .groups; states = a .states; statebytes = a .statebytes; items = a .items; links = a .links }
 
 devices-le : (f : Effect) (n : ℕ) → n ≤ devicesBy f n
@@ -77,31 +77,31 @@ when-room false f step k r = r
 
 -- ---- the four steps
 
-module _ (p : Plan) (id : ℕ) (k : Desk) (a : PlanAsks p id k) where
-  room4 : RoomAll (desk4 p id k)
-  room4 = when-room (p .closes) _ (λ y r. room-ended (p .begin .transaction .endpoint) (p .begin .transaction .id) (startPid (p .begin .transaction .style)) (p .close) y r) (desk4 p id k) (a .room)
+module _ (p : Plan) (k : Desk) (a : PlanAsks p k) where
+  room4 : RoomAll (desk4 p k)
+  room4 = when-room (p .closes) _ (λ y r. room-ended (p .begin .transaction .endpoint) (p .begin .transaction .id) (startPid (p .begin .transaction .style)) (p .close) y r) (desk4 p k) (a .room)
 
-  room3 : RoomAll (desk3 p id k)
-  room3 = room-begun id (p .begin) (desk3 p id k) room4
+  room3 : RoomAll (desk3 p k)
+  room3 = room-begun (p .begin) (desk3 p k) room4
 
-  room2 : RoomAll (desk2 p id k)
-  room2 = when-room (p .ends) _ (λ y r. room-ended (p .old) (p .brought .id) (startPid (p .brought .style)) (p .end) y r) (desk2 p id k) room3
+  room2 : RoomAll (desk2 p k)
+  room2 = when-room (p .ends) _ (λ y r. room-ended (p .old) (p .brought .id) (startPid (p .brought .style)) (p .end) y r) (desk2 p k) room3
 
-  pub first : BeginsIf (p .resumes) id (p .resume) (desk (k .hand) (k .table) (k .devices) (k .endpoints) (k .transactions) (k .groups) (k .statebytes) (k .states) (k .items) (k .links) [])
-  first = begins-if (p .resumes) id (p .resume) k k refl room2 (a .resume)
+  pub first : BeginsIf (p .resumes) (p .resume) (desk (k .hand) (k .table) (k .devices) (k .endpoints) (k .transactions) (k .groups) (k .statebytes) (k .states) (k .items) (k .links) [])
+  first = begins-if (p .resumes) (p .resume) k k refl room2 (a .resume)
 
-  pub second : (pid : ℕ) → pid ≡ startPid (p .brought .style) → (k₁ : Desk) → k₁ ≡ desk2 p id k
+  pub second : (pid : ℕ) → pid ≡ startPid (p .brought .style) → (k₁ : Desk) → k₁ ≡ desk2 p k
       → EndsIf (p .ends) (p .old) (p .brought .id) pid (p .end) (desk (k₁ .hand) (k₁ .table) (k₁ .devices) [] [] (k₁ .groups) (k₁ .statebytes) (k₁ .states) (k₁ .items) (k₁ .links) (k₁ .requests))
-  second pid f k₁ e = ends-if (p .ends) (p .old) (p .brought .id) (startPid (p .brought .style)) pid (p .end) (desk2 p id k) k₁ e f room3 (a .end)
+  second pid f k₁ e = ends-if (p .ends) (p .old) (p .brought .id) (startPid (p .brought .style)) pid (p .end) (desk2 p k) k₁ e f room3 (a .end)
 
-  pub third : (k₁ : Desk) → k₁ ≡ desk3 p id k
-      → BeginsIf true id (p .begin) (desk (k₁ .hand) (k₁ .table) (k₁ .devices) (k₁ .endpoints) (k₁ .transactions) (k₁ .groups) (k₁ .statebytes) (k₁ .states) (k₁ .items) (k₁ .links) [])
-  third k₁ e = begins-if true id (p .begin) (desk3 p id k) k₁ e room4 (λ t. a .begin)
+  pub third : (k₁ : Desk) → k₁ ≡ desk3 p k
+      → BeginsIf true (p .begin) (desk (k₁ .hand) (k₁ .table) (k₁ .devices) (k₁ .endpoints) (k₁ .transactions) (k₁ .groups) (k₁ .statebytes) (k₁ .states) (k₁ .items) (k₁ .links) [])
+  third k₁ e = begins-if true (p .begin) (desk3 p k) k₁ e room4 (λ t. a .begin)
 
-  pub fourth : (pid : ℕ) → pid ≡ startPid (p .begin .transaction .style) → (k₁ : Desk) → k₁ ≡ desk4 p id k
+  pub fourth : (pid : ℕ) → pid ≡ startPid (p .begin .transaction .style) → (k₁ : Desk) → k₁ ≡ desk4 p k
       → EndsIf (p .closes) (p .begin .transaction .endpoint) (p .begin .transaction .id) pid (p .close) (desk (k₁ .hand) (k₁ .table) (k₁ .devices) [] [] (k₁ .groups) (k₁ .statebytes) (k₁ .states) (k₁ .items) (k₁ .links) (k₁ .requests))
   fourth pid f k₁ e =
-      ends-if (p .closes) (p .begin .transaction .endpoint) (p .begin .transaction .id) (startPid (p .begin .transaction .style)) pid (p .close) (desk4 p id k) k₁ e f (a .room) (a .close)
+      ends-if (p .closes) (p .begin .transaction .endpoint) (p .begin .transaction .id) (startPid (p .begin .transaction .style)) pid (p .close) (desk4 p k) k₁ e f (a .room) (a .close)
 
 -- an end with the token as the code has it
 pub end-then : (on : Bool) (x id pid pid₁ : ℕ) (s : End) (k k₁ k₂ : Desk) → k₁ ≡ k → pid₁ ≡ pid → k₂ ≡ when on (endedDesk x id pid₁ s) k₁ → k₂ ≡ when on (endedDesk x id pid s) k

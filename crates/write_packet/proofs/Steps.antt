@@ -38,23 +38,23 @@ acted u x id pid k m r e f =
 
 -- ---- a step that begins
 
-module _ (id : ℕ) (s : Begin) (k : Desk) (a : BeginReady id s k) where
-  pub open-asks : RoomRows (openedDesk id s (desk (k .hand) (k .table) (k .devices) (k .endpoints) (k .transactions) [] [] [] [] [] []))
+module _ (s : Begin) (k : Desk) (a : BeginReady s k) where
+  pub open-asks : RoomRows (openedDesk s (desk (k .hand) (k .table) (k .devices) (k .endpoints) (k .transactions) [] [] [] [] [] []))
   unfolding begunDesk
   open-asks = record { devices = a .rows .devices; endpoints = a .rows .endpoints; transactions = a .rows .transactions }
 
-  pub begin-carries : (k₁ : Desk) → k₁ ≡ openedDesk id s k → (pid : ℕ) → pid ≡ startPid (s .transaction .style)
+  pub begin-carries : (k₁ : Desk) → k₁ ≡ openedDesk s k → (pid : ℕ) → pid ≡ startPid (s .transaction .style)
       → CarryAsks (s .update) (s .transaction .endpoint) (s .transaction .id) pid k₁
   unfolding begunDesk
   begin-carries k₁ e pid f =
       subst (λ (y : Desk). CarryAsks (s .update) (s .transaction .endpoint) (s .transaction .id) pid y) (sym e)
-      (subst (λ (p : ℕ). CarryAsks (s .update) (s .transaction .endpoint) (s .transaction .id) p (openedDesk id s k)) (sym f)
+      (subst (λ (p : ℕ). CarryAsks (s .update) (s .transaction .endpoint) (s .transaction .id) p (openedDesk s k)) (sym f)
       (a .asks .few, (a .asks .there, (a .asks .transactions, (a .asks .groups, a .memory)))))
 
-pub begins : (id : ℕ) (s : Begin) (k k₁ k₂ : Desk) (pid : ℕ) → k₁ ≡ openedDesk id s k → pid ≡ startPid (s .transaction .style)
-    → k₂ ≡ actedDesk (s .update) (s .transaction .endpoint) (s .transaction .id) pid k₁ → k₂ ≡ begunDesk id s k
+pub begins : (s : Begin) (k k₁ k₂ : Desk) (pid : ℕ) → k₁ ≡ openedDesk s k → pid ≡ startPid (s .transaction .style)
+    → k₂ ≡ actedDesk (s .update) (s .transaction .endpoint) (s .transaction .id) pid k₁ → k₂ ≡ begunDesk s k
 unfolding begunDesk
-begins id s k k₁ k₂ pid e f g =
+begins s k k₁ k₂ pid e f g =
     g ∙ ap (λ (p : ℕ). actedDesk (s .update) (s .transaction .endpoint) (s .transaction .id) p k₁) f
     ∙ ap (actedDesk (s .update) (s .transaction .endpoint) (s .transaction .id) (startPid (s .transaction .style))) e
 

@@ -37,11 +37,11 @@ pub record RoomAll (k : Desk) : Type 0 where
 
 -- ---- a step that begins
 
-pub record BeginAsks (id : ℕ) (s : Begin) (k : Desk) : Type 0 where
-  pub few : openedDesk id s k .hand .endpoints ≤ 128
-  pub there : s .transaction .endpoint < openedDesk id s k .hand .endpoints
-  pub transactions : entryAt (openedDesk id s k .table) (s .transaction .endpoint) .transactions + 1 < 2 ^ 64
-  pub groups : entryAt (openedDesk id s k .table) (s .transaction .endpoint) .groups + 1 < 2 ^ 64
+pub record BeginAsks (s : Begin) (k : Desk) : Type 0 where
+  pub few : openedDesk s k .hand .endpoints ≤ 128
+  pub there : s .transaction .endpoint < openedDesk s k .hand .endpoints
+  pub transactions : entryAt (openedDesk s k .table) (s .transaction .endpoint) .transactions + 1 < 2 ^ 64
+  pub groups : entryAt (openedDesk s k .table) (s .transaction .endpoint) .groups + 1 < 2 ^ 64
 
 -- ---- a step that ends
 
@@ -55,30 +55,30 @@ pub record EndAsks (x id pid : ℕ) (s : End) (k : Desk) : Type 0 where
 
 -- ---- where the flag says so; a log that is not lent holds nothing here, and a step does not write on it
 
-pub record BeginReady (id : ℕ) (s : Begin) (k : Desk) : Type 0 where
-  pub asks : BeginAsks id s k
-  pub memory : Room (memoryOf (begunDesk id s k))
-  pub rows : RoomRows (begunDesk id s k)
+pub record BeginReady (s : Begin) (k : Desk) : Type 0 where
+  pub asks : BeginAsks s k
+  pub memory : Room (memoryOf (begunDesk s k))
+  pub rows : RoomRows (begunDesk s k)
 
 pub record EndReady (x id pid : ℕ) (s : End) (k : Desk) : Type 0 where
   pub asks : EndAsks x id pid s k
   pub memory : Room (memoryOf (endedDesk x id pid s k))
   pub effect : RoomEffect (endedDesk x id pid s k)
 
-abbrev pub BeginsIf : Bool → ℕ → Begin → Desk → Type 0
-BeginsIf on id s k = on ≡ true → BeginReady id s k
+abbrev pub BeginsIf : Bool → Begin → Desk → Type 0
+BeginsIf on s k = on ≡ true → BeginReady s k
 
 abbrev pub EndsIf : Bool → ℕ → ℕ → ℕ → End → Desk → Type 0
 EndsIf on x id pid s k = on ≡ true → EndReady x id pid s k
 
--- ---- all steps of a packet, whose row is id
+-- ---- all steps of a packet
 
-pub record PlanAsks (p : Plan) (id : ℕ) (k : Desk) : Type 0 where
-  pub resume : p .resumes ≡ true → BeginAsks id (p .resume) k
-  pub end : p .ends ≡ true → EndAsks (p .old) (p .brought .id) (startPid (p .brought .style)) (p .end) (desk2 p id k)
-  pub begin : BeginAsks id (p .begin) (desk3 p id k)
-  pub close : p .closes ≡ true → EndAsks (p .begin .transaction .endpoint) (p .begin .transaction .id) (startPid (p .begin .transaction .style)) (p .close) (desk4 p id k)
-  pub room : RoomAll (performed p id k)
+pub record PlanAsks (p : Plan) (k : Desk) : Type 0 where
+  pub resume : p .resumes ≡ true → BeginAsks (p .resume) k
+  pub end : p .ends ≡ true → EndAsks (p .old) (p .brought .id) (startPid (p .brought .style)) (p .end) (desk2 p k)
+  pub begin : BeginAsks (p .begin) (desk3 p k)
+  pub close : p .closes ≡ true → EndAsks (p .begin .transaction .endpoint) (p .begin .transaction .id) (startPid (p .begin .transaction .style)) (p .close) (desk4 p k)
+  pub room : RoomAll (performed p k)
 
 -- ---- a step f over some of the logs, whatever the others hold: what stands after it is f of what stood before
 

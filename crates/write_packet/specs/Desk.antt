@@ -17,6 +17,7 @@ use Rattle.group.specs.declared.Effect.{Effect}
 use Rattle.group.specs.declared.Effect.the-variants.{NoEffect, NewDevice, Request, PendingData, IndexData}
 use Rattle.rules.specs.Rows.{naming, asking, transactionWords, requestWords}
 use Rattle.rules.specs.World.{_▷_}
+use Rattle.rules.specs.declared.Stamp.{Stamp}
 use Rattle.endpoints.specs.Table.{newEndpoint}
 use Rattle.update.specs.Effect.{effectEntry}
 use Rattle.update.specs.Update.{when}
@@ -65,7 +66,7 @@ actedDesk u x id pid k = withMemory (carried u (k .hand .endpoints) x id pid (me
 
 -- the tally with the T row of a transaction
 abbrev pub tiedTo : Transaction → Written → Written
-tiedTo t d = record { groups = d .groups; statebytes = d .statebytes; states = d .states; items = d .items; links = d .links; last = d .last; linked = t .linked; link = t .link }
+tiedTo t d = record { stamp = d .stamp; groups = d .groups; statebytes = d .statebytes; states = d .states; items = d .items; links = d .links; last = d .last; linked = t .linked; link = t .link }
 
 -- one row more, where the flag says so
 abbrev pub plus : Bool → ℕ → ℕ
@@ -86,8 +87,8 @@ openedHand s h =
 abbrev pub newEntry : ℕ → ℕ → ℕ → List ℕ → List ℕ
 newEntry n place number t = storeAt t n (newEndpoint place number)
 
-abbrev pub transactionWordsIf : ℕ → Begin → List ℕ
-transactionWordsIf id s = opt (s .row) (transactionWords (naming id))
+abbrev pub transactionWordsIf : Stamp → Begin → List ℕ
+transactionWordsIf c s = opt (s .row) (transactionWords (naming (c .packet)))
 
 abbrev pub deviceWords : Begin → List ℕ
 deviceWords s = opt (s .device) (s .owner ∷ [])
@@ -95,20 +96,20 @@ deviceWords s = opt (s .device) (s .owner ∷ [])
 abbrev pub endpointWords : Begin → List ℕ
 endpointWords s = opt (s .endpoint) (s .place ∷ numberOf (s .number) ∷ s .number / 128 ∷ [])
 
--- by the packet in row id
-abbrev pub openedDesk : ℕ → Begin → Desk → Desk
-openedDesk id s k =
+-- by the call's own packet
+abbrev pub openedDesk : Begin → Desk → Desk
+openedDesk s k =
     desk (openedHand s (k .hand))
     (when (s .endpoint) (newEntry (k .hand .endpoints) (s .place) (s .number)) (k .table))
     (sets (k .devices) (k .hand .devices) (deviceWords s))
     (sets (k .endpoints) (k .hand .endpoints * endpointWidth) (endpointWords s))
-    (sets (k .transactions) (k .hand .transactions * transactionWidth) (transactionWordsIf id s))
+    (sets (k .transactions) (k .hand .transactions * transactionWidth) (transactionWordsIf (k .hand .written .stamp) s))
     (k .groups) (k .statebytes) (k .states) (k .items) (k .links) (k .requests)
 
 -- then what is done to the transaction's endpoint
-unfoldable pub begunDesk : ℕ → Begin → Desk → Desk
-begunDesk id s k =
-    k ▷ openedDesk id s
+unfoldable pub begunDesk : Begin → Desk → Desk
+begunDesk s k =
+    k ▷ openedDesk s
     ▷ actedDesk (s .update) (s .transaction .endpoint) (s .transaction .id) (startPid (s .transaction .style))
 
 -- ---- a step that ends
@@ -169,7 +170,7 @@ effectTable (PendingData n) x link t = storeAt t x (effectEntry (PendingData n) 
 effectTable (IndexData n waited i) x link t = storeAt t x (effectEntry (IndexData n waited i) (entryAt t x) link)
 
 abbrev pub withLinks : ℕ → Written → Written
-withLinks n d = record { groups = d .groups; statebytes = d .statebytes; states = d .states; items = d .items; links = n; last = d .last; linked = d .linked; link = d .link }
+withLinks n d = record { stamp = d .stamp; groups = d .groups; statebytes = d .statebytes; states = d .states; items = d .items; links = n; last = d .last; linked = d .linked; link = d .link }
 
 abbrev pub effectHand : Effect → Hand → Hand
 effectHand f h =
@@ -207,14 +208,14 @@ endPlan p k = when (p .ends) (endedDesk (p .old) (p .brought .id) (startPid (p .
 abbrev pub closePlan : Plan → Desk → Desk
 closePlan p k = when (p .closes) (endedDesk (p .begin .transaction .endpoint) (p .begin .transaction .id) (startPid (p .begin .transaction .style)) (p .close)) k
 
-abbrev pub desk2 : Plan → ℕ → Desk → Desk
-desk2 p id k = when (p .resumes) (begunDesk id (p .resume)) k
+abbrev pub desk2 : Plan → Desk → Desk
+desk2 p k = when (p .resumes) (begunDesk (p .resume)) k
 
-abbrev pub desk3 : Plan → ℕ → Desk → Desk
-desk3 p id k = endPlan p (desk2 p id k)
+abbrev pub desk3 : Plan → Desk → Desk
+desk3 p k = endPlan p (desk2 p k)
 
-abbrev pub desk4 : Plan → ℕ → Desk → Desk
-desk4 p id k = begunDesk id (p .begin) (desk3 p id k)
+abbrev pub desk4 : Plan → Desk → Desk
+desk4 p k = begunDesk (p .begin) (desk3 p k)
 
-abbrev pub performed : Plan → ℕ → Desk → Desk
-performed p id k = closePlan p (desk4 p id k)
+abbrev pub performed : Plan → Desk → Desk
+performed p k = closePlan p (desk4 p k)

@@ -4,6 +4,7 @@ use Prim.Native.Nat.{ℕ, _+_, _*_, _<_, _≤_}
 use mathlib.Core.List.{List}
 use mathlib.Core.Path.{_≡_}
 use lib.ListN.{length}
+use Rattle.endpoints.specs.Word as word
 use Rattle.rows.specs.Widths.{endpointWidth, requestWidth, transactionWidth}
 use Rattle.endpoints.specs.Table.{entryAt}
 use Rattle.transaction.specs.Payload.{startPid}
@@ -29,7 +30,7 @@ pub record HoldsAll (k₀ : Desk) (w : World) (k : Desk) : Type 0 where
 
 -- what stands at a call's entry, where the journal is empty
 pub record Matches (w : World) (k : Desk) : Type 0 where
-  pub sized : length (k .table) ≡ 2176
+  pub sized : length (k .table) ≡ word.table
   pub entries : (j : ℕ) → j < w .count → entryAt (k .table) j ≡ w .endpoints j
   pub stored : (j : ℕ) → j < w .count → Stored (k .table) j
   pub linked : k .hand .written .linked ≡ w .transaction .linked

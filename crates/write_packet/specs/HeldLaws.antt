@@ -27,6 +27,7 @@ use Rattle.rules.specs.Groups.{becomes, effectStep}
 use Rattle.rules.specs.Transactions.{pushTransaction}
 use Rattle.update.specs.Update.{when, act}
 use Rattle.update.specs.declared.Update.{Update}
+use Rattle.rules.specs.declared.Stamp.{Stamp}
 use Rattle.write.specs.Holds.{Holds}
 use Rattle.write.specs.HoldsLaws.{append, keep, holds-altered, holds-link-row}
 use Rattle.write.specs.Memory.{Memory, memory, altered, linkRow}
@@ -50,6 +51,8 @@ own : {n id pid : ℕ} {m₀ m : Memory} {w : World} → Holds n id pid m₀ w m
 own {n} {id} {pid} {m₀} {m} {w} h =
     record {
       sized = h .sized;
+      stamp = h .stamp;
+      context = h .context;
       count = refl;
       endpoints = λ j u. h .endpoints j (omega (arith, h .count));
       row = refl;
@@ -103,7 +106,7 @@ module _ {k₀ k : Desk} {w : World} (h : HoldsAll k₀ w k) where
 
 -- a world with other devices, counts and rows
 abbrev others : (ℕ → Device) → ℕ → ℕ → List Row → World → World
-others d c t js w = record { endpoints = w .endpoints; count = w .count; devices = d; deviceCount = c; slot = w .slot; transaction = w .transaction; lastItem = w .lastItem; eventState = w .eventState; keepalive = w .keepalive; bytes = w .bytes; packets = w .packets; transactions = t; groups = w .groups; stateBytes = w .stateBytes; items = w .items; journal = js }
+others d c t js w = record { endpoints = w .endpoints; count = w .count; devices = d; deviceCount = c; slot = w .slot; transaction = w .transaction; lastItem = w .lastItem; eventState = w .eventState; keepalive = w .keepalive; context = w .context; bytes = w .bytes; packets = w .packets; transactions = t; groups = w .groups; stateBytes = w .stateBytes; items = w .items; journal = js }
 
 holds-others : {n id pid : ℕ} {m₀ m : Memory} {w : World} → Holds n id pid m₀ w m → (d : ℕ → Device) (c t : ℕ) (js : List Row)
     → log 6 js ≡ log 6 (w .journal) → log 7 js ≡ log 7 (w .journal) → log 8 js ≡ log 8 (w .journal) → log 9 js ≡ log 9 (w .journal) → log 10 js ≡ log 10 (w .journal)
@@ -111,6 +114,8 @@ holds-others : {n id pid : ℕ} {m₀ m : Memory} {w : World} → Holds n id pid
 holds-others h d c t js e6 e7 e8 e9 e10 =
     record {
       sized = h .sized;
+      stamp = h .stamp;
+      context = h .context;
       count = h .count;
       endpoints = h .endpoints;
       row = h .row;
@@ -146,7 +151,7 @@ endpointIf b p a k =
 abbrev toldDesk : Bool → ℕ → Desk → Desk
 toldDesk linked link k =
     let d = k .hand .written in
-    desk (record { written = record { groups = d .groups; states = d .states; statebytes = d .statebytes; items = d .items; links = d .links; last = d .last; linked = linked; link = link }; transactions = k .hand .transactions; devices = k .hand .devices; endpoints = k .hand .endpoints; requests = k .hand .requests })
+    desk (record { written = record { stamp = d .stamp; groups = d .groups; states = d .states; statebytes = d .statebytes; items = d .items; links = d .links; last = d .last; linked = linked; link = link }; transactions = k .hand .transactions; devices = k .hand .devices; endpoints = k .hand .endpoints; requests = k .hand .requests })
     (k .table) (k .devices) (k .endpoints) (k .transactions) (k .groups) (k .statebytes) (k .states) (k .items) (k .links) (k .requests)
 
 module _ {k₀ k : Desk} {w : World} (h : HoldsAll k₀ w k) where
@@ -222,6 +227,8 @@ holds-new {k₀} {k} {w} h p a few byte =
     let m = h .memory in
     record {
       sized = tabled-more (h .table) few (newEndpoint p a) fits .size;
+      stamp = m .stamp;
+      context = m .context;
       count = refl;
       endpoints = λ j u. at j u (eqb j (w .count)) refl;
       row = refl;
@@ -276,6 +283,8 @@ module _ {k₀ k : Desk} {w : World} (h : HoldsAll k₀ w k) where
         memory =
             record {
               sized = m .sized;
+              stamp = m .stamp;
+              context = m .context;
               count = refl;
               endpoints = m .endpoints;
               row = refl;
@@ -311,18 +320,22 @@ types-count : (b : Bool) (p : ℕ) (f : Device → Device) (w : World) → when 
 types-count true p f w = refl
 types-count false p f w = refl
 
-module _ {k₀ k : Desk} {w : World} (id : ℕ) (s : Begin) (fits : BeginFits id s w) (h : HoldsAll k₀ w k) where
-  pub opened-holds : HoldsAll k₀ (withTransaction (s .transaction) (opened id s w)) (openedDesk id s k)
+module _ {k₀ k : Desk} {w : World} (id : ℕ) (s : Begin) (fits : BeginFits id s w) (h : HoldsAll k₀ w k) (own : k₀ .hand .written .stamp .packet ≡ id) where
+  -- the transaction row names the call's packet
+  rowed : HoldsAll k₀ (when (s .row) (pushTransaction id) w) (transactionIf (s .row) (k .hand .written .stamp .packet) k)
+  rowed = subst (λ (i : ℕ). HoldsAll k₀ (when (s .row) (pushTransaction id) w) (transactionIf (s .row) i k)) (sym (ap (λ (c : Stamp). c .packet) (h .memory .stamp) ∙ own)) (held-transaction h (s .row) id)
+
+  pub opened-holds : HoldsAll k₀ (withTransaction (s .transaction) (opened id s w)) (openedDesk s k)
   unfolding opened
   opened-holds =
       held-told
-      (held-types (held-endpoint (held-device (held-transaction h (s .row) id) (s .device) (s .owner)) (s .endpoint) (s .place) (s .number) few (fits .number)) (s .types) (s .place) (typed (s .number) (s .kind)))
+      (held-types (held-endpoint (held-device rowed (s .device) (s .owner)) (s .endpoint) (s .place) (s .number) few (fits .number)) (s .types) (s .place) (typed (s .number) (s .kind)))
       (s .transaction) (s .transaction .linked) (s .transaction .link) refl refl
     where
       few : when (s .endpoint) (pushEndpoint (s .place) (s .number)) (when (s .device) (addDevice (s .owner)) (when (s .row) (pushTransaction id) w)) .count ≤ 128
       few = subst (λ (c : ℕ). c ≤ 128) (types-count (s .types) (s .place) (typed (s .number) (s .kind)) _) (fits .few)
 
-  pub begun-holds : HoldsAll k₀ (begun id s w) (begunDesk id s k)
+  pub begun-holds : HoldsAll k₀ (begun id s w) (begunDesk s k)
   unfolding begun begunDesk
   begun-holds = held-act opened-holds (s .update) (s .transaction .endpoint) (fits .few) (fits .there) (fits .token)
 

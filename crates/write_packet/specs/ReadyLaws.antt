@@ -25,9 +25,9 @@ use Rattle.write_packet.specs.HeldLaws.{opened-holds, stored-holds, clos
 
 -- ---- numbers
 
-pub begin-asks : {k₀ k : Desk} {w : World} (id : ℕ) (s : Begin) → BeginFits id s w → HoldsAll k₀ w k → BeginAsks id s k
-begin-asks {k₀} {k} {w} id s fits h =
-    let o = opened-holds id s fits h in
+pub begin-asks : {k₀ k : Desk} {w : World} (id : ℕ) (s : Begin) → BeginFits id s w → HoldsAll k₀ w k → k₀ .hand .written .stamp .packet ≡ id → BeginAsks s k
+begin-asks {k₀} {k} {w} id s fits h own =
+    let o = opened-holds id s fits h own in
     let e = o .memory .endpoints (s .transaction .endpoint) (fits .there) in
     record {
       few = subst (λ (c : ℕ). c ≤ 128) (sym (o .count)) (fits .few);
@@ -70,10 +70,10 @@ when-on : (b : Bool) (f : Desk → Desk) (k : Desk) → b ≡ true → RoomAll (
 when-on true f k e r = r
 when-on false f k e r = absurd (false≢true e)
 
-begin-ready : (id : ℕ) (s : Begin) (k : Desk) → RoomAll (begunDesk id s k) → BeginAsks id s k
-    → BeginReady id s (desk (k .hand) (k .table) (k .devices) (k .endpoints) (k .transactions) (k .groups) (k .statebytes) (k .states) (k .items) (k .links) [])
+begin-ready : (s : Begin) (k : Desk) → RoomAll (begunDesk s k) → BeginAsks s k
+    → BeginReady s (desk (k .hand) (k .table) (k .devices) (k .endpoints) (k .transactions) (k .groups) (k .statebytes) (k .states) (k .items) (k .links) [])
 unfolding begunDesk
-begin-ready id s k r a =
+begin-ready s k r a =
     record {
       asks = record { few = a .few; there = a .there; transactions = a .transactions; groups = a .groups };
       memory = r .memory;
@@ -91,11 +91,11 @@ end-ready x id pid s k r a =
     }
 
 -- what begin_if and end_if require, of the desk k₁ that is k
-pub begins-if : (on : Bool) (id : ℕ) (s : Begin) (k k₁ : Desk) → k₁ ≡ k → RoomAll (when on (begunDesk id s) k) → (on ≡ true → BeginAsks id s k)
-    → BeginsIf on id s (desk (k₁ .hand) (k₁ .table) (k₁ .devices) (k₁ .endpoints) (k₁ .transactions) (k₁ .groups) (k₁ .statebytes) (k₁ .states) (k₁ .items) (k₁ .links) [])
-begins-if on id s k k₁ e r a =
-    subst (λ (y : Desk). BeginsIf on id s (desk (y .hand) (y .table) (y .devices) (y .endpoints) (y .transactions) (y .groups) (y .statebytes) (y .states) (y .items) (y .links) [])) (sym e)
-    (λ t. begin-ready id s k (when-on on (begunDesk id s) k t r) (a t))
+pub begins-if : (on : Bool) (s : Begin) (k k₁ : Desk) → k₁ ≡ k → RoomAll (when on (begunDesk s) k) → (on ≡ true → BeginAsks s k)
+    → BeginsIf on s (desk (k₁ .hand) (k₁ .table) (k₁ .devices) (k₁ .endpoints) (k₁ .transactions) (k₁ .groups) (k₁ .statebytes) (k₁ .states) (k₁ .items) (k₁ .links) [])
+begins-if on s k k₁ e r a =
+    subst (λ (y : Desk). BeginsIf on s (desk (y .hand) (y .table) (y .devices) (y .endpoints) (y .transactions) (y .groups) (y .statebytes) (y .states) (y .items) (y .links) [])) (sym e)
+    (λ t. begin-ready s k (when-on on (begunDesk s) k t r) (a t))
 
 pub ends-if : (on : Bool) (x id pid pid₁ : ℕ) (s : End) (k k₁ : Desk) → k₁ ≡ k → pid₁ ≡ pid → RoomAll (when on (endedDesk x id pid s) k) → (on ≡ true → EndAsks x id pid s k)
     → EndsIf on x id pid₁ s (desk (k₁ .hand) (k₁ .table) (k₁ .devices) [] [] (k₁ .groups) (k₁ .statebytes) (k₁ .states) (k₁ .items) (k₁ .links) (k₁ .requests))

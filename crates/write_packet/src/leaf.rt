@@ -1,5 +1,6 @@
 // The parts of a step: the rows that it begins with, and the effect that it ends with.
 use crate::Hand;
+use endpoints::Table;
 use endpoints::entry;
 use endpoints::entry::new_endpoint;
 use endpoints::link;
@@ -74,7 +75,7 @@ fn opened_hand(s: Begin, h: Hand) -> Hand
 }
 
 // The entry of a new endpoint, behind n others.
-fn entry_if(on: bool, n: usize, place: usize, number: u8, table: &mut [u64; 2176])
+fn entry_if(on: bool, n: usize, place: usize, number: u8, table: &mut Table)
     requires { ⌜ plus on n ≤ 128 ⌝ }
     ensures { λ r. ⌜ now (table .exit) ≡ when on (newEntry n place number) (now (table .entry)) ⌝ }
 {
@@ -83,24 +84,23 @@ fn entry_if(on: bool, n: usize, place: usize, number: u8, table: &mut [u64; 2176
     }
 }
 
-// The rows of a step that begins, by the packet in row id: a transaction, a device, an endpoint.
+// The rows of a step that begins, by the call's own packet: a transaction, a device, an endpoint.
 pub fn open_rows(
     s: Begin,
-    id: u64,
     h: Hand,
-    table: &mut [u64; 2176],
+    table: &mut Table,
     devices: &mut [u64],
     endpoints: &mut [u64],
     transactions: &mut [u64],
 ) -> Hand
     requires { ⌜ plus (s .endpoint) (h .endpoints) ≤ 128 ⌝ }
-    requires { ⌜ RoomRows (openedDesk id s (desk h (now table) (now devices) (now endpoints) (now transactions) [] [] [] [] [] [])) ⌝ }
-    ensures { λ r. ⌜ OnRows (openedDesk id s) h (now (table .entry)) (now (devices .entry)) (now (endpoints .entry)) (now (transactions .entry)) r (now (table .exit)) (now (devices .exit)) (now (endpoints .exit)) (now (transactions .exit)) ⌝ }
+    requires { ⌜ RoomRows (openedDesk s (desk h (now table) (now devices) (now endpoints) (now transactions) [] [] [] [] [] [])) ⌝ }
+    ensures { λ r. ⌜ OnRows (openedDesk s) h (now (table .entry)) (now (devices .entry)) (now (endpoints .entry)) (now (transactions .entry)) r (now (table .exit)) (now (devices .exit)) (now (endpoints .exit)) (now (transactions .exit)) ⌝ }
 {
     let r = opened_hand(s, h);
     let n = h.endpoints;
     let number = s.number;
-    put_transaction(s.row, transactions, h.transactions, id);
+    put_transaction(s.row, transactions, h.transactions, h.written.stamp);
     rows::put1_if(s.device, devices, h.devices, s.owner as u64);
     rows::put3_if(
         s.endpoint,
@@ -128,7 +128,7 @@ fn device_row(address: u8, h: Hand, devices: &mut [u64]) -> Hand
 }
 
 // A request row of endpoint x: its setup bytes, and a payload of n bytes.
-fn request_row(n: u64, x: usize, h: Hand, table: &[u64; 2176], requests: &mut [u64]) -> Hand
+fn request_row(n: u64, x: usize, h: Hand, table: &Table, requests: &mut [u64]) -> Hand
     requires { ⌜ x < 128 ⌝ }
     requires { ⌜ (h .requests + 1) * requestWidth ≤ length (now requests) ⌝ }
     ensures { λ r. ⌜ r ≡ effectHand (Request n) h ⌝ }
@@ -143,7 +143,7 @@ fn request_row(n: u64, x: usize, h: Hand, table: &[u64; 2176], requests: &mut [u
 }
 
 // The entry of endpoint x after the effect; link is the T row of the transaction.
-fn note(effect: Effect, x: usize, link: u64, table: &mut [u64; 2176])
+fn note(effect: Effect, x: usize, link: u64, table: &mut Table)
     requires { ⌜ x < 128 ⌝ }
     requires { ⌜ passes effect (entryAt (now table) x .total) ≡ false ⌝ }
     ensures { λ r. ⌜ now (table .exit) ≡ storeAt (now (table .entry)) x (effectEntry effect (entryAt (now (table .entry)) x) link) ⌝ }
@@ -166,7 +166,7 @@ fn total_row(
     i: u64,
     x: usize,
     h: Hand,
-    table: &mut [u64; 2176],
+    table: &mut Table,
     links: &mut [u64],
 ) -> Hand
     requires { ⌜ x < 128 ⌝ }
@@ -188,7 +188,7 @@ pub fn take_effect(
     effect: Effect,
     x: usize,
     h: Hand,
-    table: &mut [u64; 2176],
+    table: &mut Table,
     devices: &mut [u64],
     links: &mut [u64],
     requests: &mut [u64],

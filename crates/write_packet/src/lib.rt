@@ -4,6 +4,7 @@ mod leaf;
 use crate::leaf::open_rows;
 use crate::leaf::take_effect;
 use crate::leaf::with_written;
+use endpoints::Table;
 use endpoints::entry;
 use plan::Begin;
 use plan::End;
@@ -25,13 +26,12 @@ pub struct Hand {
     pub requests: usize,
 }
 
-// Where on, a transaction begins, is resumed or goes on, by the packet in row id. The array of devices is its caller's.
+// Where on, a transaction begins, is resumed or goes on, by the call's own packet. The array of devices is its caller's.
 pub fn begin_if(
     on: bool,
     s: Begin,
-    id: u64,
     h: Hand,
-    table: &mut [u64; 2176],
+    table: &mut Table,
     devices: &mut [u64],
     endpoints: &mut [u64],
     transactions: &mut [u64],
@@ -41,14 +41,14 @@ pub fn begin_if(
     items: &mut [u64],
     links: &mut [u64],
 ) -> Hand
-    requires { ⌜ BeginsIf on id s (desk h (now table) (now devices) (now endpoints) (now transactions) (now groups) (now statebytes) (now states) (now items) (now links) []) ⌝ }
-    ensures { λ r. ⌜ OnBegin (when on (begunDesk id s)) h (now (table .entry)) (now (devices .entry)) (now (endpoints .entry)) (now (transactions .entry)) (now (groups .entry)) (now (statebytes .entry)) (now (states .entry)) (now (items .entry)) (now (links .entry)) r (now (table .exit)) (now (devices .exit)) (now (endpoints .exit)) (now (transactions .exit)) (now (groups .exit)) (now (statebytes .exit)) (now (states .exit)) (now (items .exit)) (now (links .exit)) ⌝ }
+    requires { ⌜ BeginsIf on s (desk h (now table) (now devices) (now endpoints) (now transactions) (now groups) (now statebytes) (now states) (now items) (now links) []) ⌝ }
+    ensures { λ r. ⌜ OnBegin (when on (begunDesk s)) h (now (table .entry)) (now (devices .entry)) (now (endpoints .entry)) (now (transactions .entry)) (now (groups .entry)) (now (statebytes .entry)) (now (states .entry)) (now (items .entry)) (now (links .entry)) r (now (table .exit)) (now (devices .exit)) (now (endpoints .exit)) (now (transactions .exit)) (now (groups .exit)) (now (statebytes .exit)) (now (states .exit)) (now (items .exit)) (now (links .exit)) ⌝ }
 {
     if on {
         let t = s.transaction;
         let style = t.style;
         let pid = start_pid(style);
-        let h = open_rows(s, id, h, table, devices, endpoints, transactions);
+        let h = open_rows(s, h, table, devices, endpoints, transactions);
         let d = write_update::carry_out(
             s.update,
             h.written,
@@ -77,7 +77,7 @@ pub fn end_if(
     pid: u8,
     s: End,
     h: Hand,
-    table: &mut [u64; 2176],
+    table: &mut Table,
     devices: &mut [u64],
     groups: &mut [u64],
     statebytes: &mut [u8],
@@ -113,12 +113,11 @@ pub fn end_if(
     }
 }
 
-// The steps of the packet in row id: the suspended transaction is resumed, the old one ends, a new one begins or the old one goes on, and ends.
+// The steps of a packet: the suspended transaction is resumed, the old one ends, a new one begins or the old one goes on, and ends.
 pub fn perform(
     p: Plan,
-    id: u64,
     h: Hand,
-    table: &mut [u64; 2176],
+    table: &mut Table,
     devices: &mut [u64],
     endpoints: &mut [u64],
     transactions: &mut [u64],
@@ -129,8 +128,8 @@ pub fn perform(
     links: &mut [u64],
     requests: &mut [u64],
 ) -> Hand
-    requires { ⌜ PlanAsks p id (desk h (now table) (now devices) (now endpoints) (now transactions) (now groups) (now statebytes) (now states) (now items) (now links) (now requests)) ⌝ }
-    ensures { λ r. ⌜ desk r (now (table .exit)) (now (devices .exit)) (now (endpoints .exit)) (now (transactions .exit)) (now (groups .exit)) (now (statebytes .exit)) (now (states .exit)) (now (items .exit)) (now (links .exit)) (now (requests .exit)) ≡ performed p id (desk h (now (table .entry)) (now (devices .entry)) (now (endpoints .entry)) (now (transactions .entry)) (now (groups .entry)) (now (statebytes .entry)) (now (states .entry)) (now (items .entry)) (now (links .entry)) (now (requests .entry))) ⌝ }
+    requires { ⌜ PlanAsks p (desk h (now table) (now devices) (now endpoints) (now transactions) (now groups) (now statebytes) (now states) (now items) (now links) (now requests)) ⌝ }
+    ensures { λ r. ⌜ desk r (now (table .exit)) (now (devices .exit)) (now (endpoints .exit)) (now (transactions .exit)) (now (groups .exit)) (now (statebytes .exit)) (now (states .exit)) (now (items .exit)) (now (links .exit)) (now (requests .exit)) ≡ performed p (desk h (now (table .entry)) (now (devices .entry)) (now (endpoints .entry)) (now (transactions .entry)) (now (groups .entry)) (now (statebytes .entry)) (now (states .entry)) (now (items .entry)) (now (links .entry)) (now (requests .entry))) ⌝ }
 {
     let b = p.brought;
     let old = b.style;
@@ -141,7 +140,6 @@ pub fn perform(
     let h = begin_if(
         p.resumes,
         p.resume,
-        id,
         h,
         table,
         devices,
@@ -172,7 +170,6 @@ pub fn perform(
     let h = begin_if(
         true,
         p.begin,
-        id,
         h,
         table,
         devices,

@@ -124,7 +124,7 @@ item-asks false n x m r = (r .items, r .links)
 -- ---- a count of endpoint x that a step keeps
 
 record Kept (p : Endpoint → ℕ) (x v : ℕ) (m : Memory) : Type 0 where
-  sized : length (m .table) ≡ 2176
+  sized : length (m .table) ≡ word.table
   value : p (entryAt (m .table) x) ≡ v
 
 module _ (p : Endpoint → ℕ) (x v : ℕ) (hx : x < 128) where
@@ -182,7 +182,7 @@ room-opened u n x id m r =
     (when-room (u .link) (linkStep x id) (λ a b. room-link-step x id b)
     (when-room (u .start) (startGroup n x) (λ a b. room-start-group n x b) r)))
 
-module _ (u : Update) (n x id : ℕ) (m : Memory) (few : n ≤ 128) (hx : x < n) (sized : length (m .table) ≡ 2176) where
+module _ (u : Update) (n x id : ℕ) (m : Memory) (few : n ≤ 128) (hx : x < n) (sized : length (m .table) ≡ word.table) where
   ends : (p : Endpoint → ℕ) → ((e : Endpoint) → p (withPhase Ended e) ≡ p e) → ((s : ℕ) (e : Endpoint) → p (withState s e) ≡ p e)
       → Kept p x (p (entryAt (m .table) x)) (when (u .cut) (endRow n x) (when (u .over) (altered x (withPhase Ended)) m))
   ends p a b =

@@ -1,5 +1,6 @@
 // An update carried out on memory: its steps in the order of `act` (update).
 use endpoints::Phase;
+use endpoints::Table;
 use update::Then;
 use update::Update;
 use write::Written;
@@ -12,7 +13,7 @@ ghost use Rattle.write.specs.Memory.{Room, OnTable, memory};
 ghost use Rattle.write_update.specs.Carried.{become, opened, closed, carried};
 
 // What becomes of the group, of a transaction that began with this PID.
-fn set_group(group: Then, x: usize, pid: u8, table: &mut [u64; 2176])
+fn set_group(group: Then, x: usize, pid: u8, table: &mut Table)
     requires { ⌜ x < 128 ⌝ }
     ensures { λ r. ⌜ OnTable (become group x pid) (now (table .entry)) (now (table .exit)) ⌝ }
 {
@@ -32,7 +33,7 @@ fn open_group(
     n: usize,
     x: usize,
     id: u64,
-    table: &mut [u64; 2176],
+    table: &mut Table,
     groups: &mut [u64],
     statebytes: &mut [u8],
     states: &mut [u64],
@@ -71,7 +72,7 @@ fn close_group(
     n: usize,
     x: usize,
     pid: u8,
-    table: &mut [u64; 2176],
+    table: &mut Table,
     groups: &mut [u64],
     statebytes: &mut [u8],
     states: &mut [u64],
@@ -98,7 +99,7 @@ pub fn carry_out(
     x: usize,
     id: u64,
     pid: u8,
-    table: &mut [u64; 2176],
+    table: &mut Table,
     groups: &mut [u64],
     statebytes: &mut [u8],
     states: &mut [u64],

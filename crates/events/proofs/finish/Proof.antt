@@ -3,6 +3,8 @@ use Rattle.call.specs.State.{State, state, logs}
 use Rattle.events.proofs.Refuses.{first-refuses, first-passes}
 use Rattle.events.proofs.finish.Statement.{statement}
 use Rattle.events.proofs.finish.Tie as tie
+mod Places
+use Places.*
 
 -- the state that the call begins with
 abbrev begun : tie.Start → State
@@ -11,30 +13,30 @@ begun s =
     (logs (s .args .bytes .now) (s .args .device-rows .now) (s .args .endpoint-rows .now) (s .args .packets .now) (s .args .events .now) (s .args .transactions .now) (s .args .groups .now) (s .args .statebytes .now) (s .args .states .now) (s .args .items .now) (s .args .links .now) (s .args .requests .now))
 
 returns : tie.Need-returns
-returns c = first-refuses (begun (c .before .before .before .before .before .before .before .before .before .before .before .before .before .before .before .before)) _ 0 _ (c .before .before .before .room-of .ensures) (c .before .first-tests .ensures) (c .if1 .taken) _ _ _ _
+returns c = first-refuses (begun (returns·Start c)) _ 0 _ (returns·room-of c .room-of .ensures) (returns·first-tests c .first-tests .ensures) (c .if1 .taken) _ _ _ _
 
 finish-in-requires : tie.Need-finish-in-requires
 finish-in-requires c κs =
-    let p = first-passes (begun (c .before .before .before .before .before .before .before .before .before .before .before .before .before .before .before .before .before .before .before .before .before .before)) _ 0 _ (c .before .before .before .before .before .before .before .before .before .room-of .ensures) (c .before .before .before .before .before .before .before .first-tests .ensures) (c .before .before .before .before .before .before .if1 .left) in
+    let p = first-passes (begun (finish-in-requires·Start c)) _ 0 _ (finish-in-requires·room-of c .room-of .ensures) (finish-in-requires·first-tests c .first-tests .ensures) (finish-in-requires·Else1 c .if1 .left) in
     (p .0, p .1 .0)
 
 same-length : tie.Need-same-length
-same-length c = c .before .before .before .before .before .before .before .before .before .before .before .finish-in .kept .1 .1 .1 .1 .1 .1 .1 .1 .1 .0
+same-length c = returns-2·finish-in c .finish-in .kept .1 .1 .1 .1 .1 .1 .1 .1 .1 .0
 
 same-length-2 : tie.Need-same-length-2
-same-length-2 c = c .before .before .before .before .before .before .before .before .before .before .before .finish-in .kept .1 .1 .1 .1 .1 .1 .1 .1 .1 .1 .0
+same-length-2 c = returns-2·finish-in c .finish-in .kept .1 .1 .1 .1 .1 .1 .1 .1 .1 .1 .0
 
 same-length-3 : tie.Need-same-length-3
-same-length-3 c = c .before .before .before .before .before .before .before .before .before .before .before .finish-in .kept .1 .1 .1 .1 .1 .1 .1 .1 .1 .1 .1 .0
+same-length-3 c = returns-2·finish-in c .finish-in .kept .1 .1 .1 .1 .1 .1 .1 .1 .1 .1 .1 .0
 
 same-length-4 : tie.Need-same-length-4
-same-length-4 c = c .before .before .before .before .before .before .before .before .before .before .before .finish-in .kept .1 .1 .1 .1 .1 .1 .1 .1 .1 .1 .1 .1 .0
+same-length-4 c = returns-2·finish-in c .finish-in .kept .1 .1 .1 .1 .1 .1 .1 .1 .1 .1 .1 .1 .0
 
 same-length-5 : tie.Need-same-length-5
-same-length-5 c = c .before .before .before .before .before .before .before .before .before .before .before .finish-in .kept .1 .1 .1 .1 .1 .1 .1 .1 .1 .1 .1 .1 .1 .0
+same-length-5 c = returns-2·finish-in c .finish-in .kept .1 .1 .1 .1 .1 .1 .1 .1 .1 .1 .1 .1 .1 .0
 
 returns-2 : tie.Need-returns-2
-returns-2 c = c .before .before .before .before .before .before .before .before .before .before .before .finish-in .ensures
+returns-2 c = returns-2·finish-in c .finish-in .ensures
 
 pub finish-spec : {M : Type 1} → statement M
 finish-spec =

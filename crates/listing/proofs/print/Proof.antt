@@ -4,15 +4,17 @@ use native.Mathlib.Omega.{arith}
 use Rattle.listing.proofs.Shown.{zeros, own-room, too-long, printed}
 use Rattle.listing.proofs.print.Statement.{statement}
 use Rattle.listing.proofs.print.Tie as tie
+mod Places
+use Places.*
 
 too-long-line-requires : tie.Need-too-long-line-requires
-too-long-line-requires c κs = omega (arith, own-room, c .before .before .before .before .pre)
+too-long-line-requires c κs = omega (arith, own-room, too-long-line-requires·Start c .pre)
 
 same-length : tie.Need-same-length
-same-length c = c .before .before .too-long-line .kept .0
+same-length c = returns·too-long-line c .too-long-line .kept .0
 
 returns : tie.Need-returns
-returns c = too-long (c .before .before .before .before .if1 .taken) (c .before .before .before .before .before .before .before .pre) (c .before .before .too-long-line .ensures)
+returns c = too-long (returns·Then1 c .if1 .taken) (returns·Start c .pre) (returns·too-long-line c .too-long-line .ensures)
 
 slice-aggregate-show : tie.Need-slice-aggregate-show
 slice-aggregate-show c = zeros 8192
@@ -51,13 +53,13 @@ slice-aggregate-show-12 : tie.Need-slice-aggregate-show-12
 slice-aggregate-show-12 c = zeros 192
 
 show-requires : tie.Need-show-requires
-show-requires c κs = c .before .before .before .before .before .before .before .before .before .before .before .before .before .before .before .before .before .pre
+show-requires c κs = show-requires·Start c .pre
 
 same-length-2 : tie.Need-same-length-2
-same-length-2 c = c .before .before .before .before .before .before .before .before .before .before .before .before .before .before .show .kept .1 .1 .1 .1 .1 .1 .1 .1 .1 .1 .1 .1 .1 .1 .0
+same-length-2 c = returns-2·show c .show .kept .1 .1 .1 .1 .1 .1 .1 .1 .1 .1 .1 .1 .1 .1 .0
 
 returns-2 : tie.Need-returns-2
-returns-2 c = printed (c .before .before .before .before .before .before .before .before .before .before .before .before .before .before .before .before .before .before .before .before .before .before .before .before .before .before .before .before .before .if1 .left) (c .before .before .before .before .before .before .before .before .before .before .before .before .before .before .show .ensures)
+returns-2 c = printed (returns-2·Else1 c .if1 .left) (returns-2·show c .show .ensures)
 
 pub print-spec : {M : Type 1} → statement M
 print-spec =

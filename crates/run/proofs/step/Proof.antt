@@ -4,37 +4,39 @@ use Rattle.trace.specs.Trace.{answerOf}
 use Rattle.run.proofs.Running.{packet-bounds, packet-step, event-step, detail-step, unknown-step, cut-step, end-step}
 use Rattle.run.proofs.step.Statement.{statement}
 use Rattle.run.proofs.step.Tie as tie
+mod Places
+use Places.*
 
 sub-packet : tie.Need-sub-packet
-sub-packet c = packet-bounds (c .before .before .before .before .before .before .before .before .before .before .before .before .before .before .before .before .before .before .args .trace .now) (c .before .before .before .before .before .before .before .before .before .before .before .before .before .before .before .before .before .before .args .at) (sym (c .before .before .before .before .next-record .ensures) ∙ c .before .before .found .given .1) .0
+sub-packet c = packet-bounds (sub-packet·Start c .args .trace .now) (sub-packet·Start c .args .at) (sym (sub-packet·next-record c .next-record .ensures) ∙ sub-packet·found c .found .given .1) .0
 
 part-packet-start : tie.Need-part-packet-start
-part-packet-start c = packet-bounds (c .before .before .before .before .before .before .before .before .before .before .before .before .before .before .before .before .before .before .args .trace .now) (c .before .before .before .before .before .before .before .before .before .before .before .before .before .before .before .before .before .before .args .at) (sym (c .before .before .before .before .next-record .ensures) ∙ c .before .before .found .given .1) .0
+part-packet-start c = packet-bounds (part-packet-start·Start c .args .trace .now) (part-packet-start·Start c .args .at) (sym (part-packet-start·next-record c .next-record .ensures) ∙ part-packet-start·found c .found .given .1) .0
 
 part-packet-end : tie.Need-part-packet-end
-part-packet-end c = packet-bounds (c .before .before .before .before .before .before .before .before .before .before .before .before .before .before .before .before .before .before .args .trace .now) (c .before .before .before .before .before .before .before .before .before .before .before .before .before .before .before .before .before .before .args .at) (sym (c .before .before .before .before .next-record .ensures) ∙ c .before .before .found .given .1) .1
+part-packet-end c = packet-bounds (part-packet-end·Start c .args .trace .now) (part-packet-end·Start c .args .at) (sym (part-packet-end·next-record c .next-record .ensures) ∙ part-packet-end·found c .found .given .1) .1
 
 returns : tie.Need-returns
-returns c = packet-step (sym (c .before .before .before .before .before .before .before .before .before .before .before .before .before .before .before .before .before .before .before .before .before .before .before .before .before .before .before .before .before .before .before .before .before .before .before .before .before .before .before .before .before .before .before .before .next-record .ensures) ∙ c .before .before .before .before .before .before .before .before .before .before .before .before .before .before .before .before .before .before .before .before .before .before .before .before .before .before .before .before .before .before .before .before .before .before .before .before .before .before .before .before .before .before .found .given .1) (c .before .before .before .before .before .before .before .before .before .before .before .before .before .before .before .before .before .before .before .before .before .before .before .before .before .before .before .before .before .before .before .before .before .before .before .before .before .before .before .before .tick .ensures) (c .before .before .before .before .before .before .before .before .before .before .before .before .before .before .before .before .before .before .before .before .before .before .before .before .before .packet .ensures) (c .went .ensures)
+returns c = packet-step (sym (returns·next-record c .next-record .ensures) ∙ returns·found c .found .given .1) (returns·tick c .tick .ensures) (returns·packet c .packet .ensures) (c .went .ensures)
 
 returns-2 : tie.Need-returns-2
-returns-2 c = event-step (sym (c .before .before .before .before .before .before .before .before .before .before .before .before .before .before .before .before .before .before .before .before .before .before .before .before .before .before .before .before .before .before .before .before .before .before .before .before .before .next-record .ensures) ∙ c .before .before .before .before .before .before .before .before .before .before .before .before .before .before .before .before .before .before .before .before .before .before .before .before .before .before .before .before .before .before .before .before .before .before .before .found2 .given .1) (c .before .before .before .before .before .before .before .before .before .before .before .before .before .before .before .before .before .before .before .before .before .before .before .before .before .before .before .before .before .before .before .before .before .tick2 .ensures) (c .before .before .before .before .before .before .before .before .before .before .before .before .before .before .before .before .before .before .before .event .ensures) (c .went2 .ensures)
+returns-2 c = event-step (sym (returns-2·next-record c .next-record .ensures) ∙ returns-2·found2 c .found2 .given .1) (returns-2·tick2 c .tick2 .ensures) (returns-2·event c .event .ensures) (c .went2 .ensures)
 
 returns-3 : tie.Need-returns-3
-returns-3 c = detail-step (sym (c .before .before .before .before .before .before .before .before .before .before .before .before .before .before .before .before .before .before .before .before .next-record .ensures) ∙ c .before .before .before .before .before .before .before .before .before .before .before .before .before .before .before .before .before .before .found3 .given .1) (c .before .before .before .detail .ensures) (c .went3 .ensures)
+returns-3 c = detail-step (sym (returns-3·next-record c .next-record .ensures) ∙ returns-3·found3 c .found3 .given .1) (returns-3·detail c .detail .ensures) (c .went3 .ensures)
 
 returns-4 : tie.Need-returns-4
 returns-4 c =
-    let told = c .before .before .enum-told .given .1 in
-    unknown-step (sym (c .before .before .before .before .next-record .ensures) ∙ told) (c .before .answer .ensures ∙ ap answerOf told) (c .over .ensures)
+    let told = returns-4·After-enum-told c .enum-told .given .1 in
+    unknown-step (sym (returns-4·next-record c .next-record .ensures) ∙ told) (returns-4·answer c .answer .ensures ∙ ap answerOf told) (c .over .ensures)
 
 returns-5 : tie.Need-returns-5
 returns-5 c =
-    let told = c .before .before .enum-told2 .given .1 in
-    cut-step (sym (c .before .before .before .before .next-record .ensures) ∙ told) (c .before .answer2 .ensures ∙ ap answerOf told) (c .over2 .ensures)
+    let told = returns-5·enum-told2 c .enum-told2 .given .1 in
+    cut-step (sym (returns-5·next-record c .next-record .ensures) ∙ told) (returns-5·answer2 c .answer2 .ensures ∙ ap answerOf told) (c .over2 .ensures)
 
 returns-6 : tie.Need-returns-6
-returns-6 c = end-step (sym (c .before .before .before .before .before .before .before .before .before .before .before .before .before .before .before .before .before .before .before .before .before .before .before .before .before .before .before .before .before .next-record .ensures) ∙ c .before .before .before .before .before .before .before .before .before .before .before .before .before .before .before .before .before .before .before .before .before .before .before .before .before .before .before .enum-told3 .given .1) (c .before .before .before .before .before .before .before .before .before .before .before .before .before .finish .ensures) (c .over3 .ensures)
+returns-6 c = end-step (sym (returns-6·next-record c .next-record .ensures) ∙ returns-6·enum-told3 c .enum-told3 .given .1) (returns-6·finish c .finish .ensures) (c .over3 .ensures)
 
 pub step-spec : {M : Type 1} → statement M
 step-spec =
@@ -64,30 +66,30 @@ step-spec =
     (λ c. c .match .keys6)
     (λ c κs. tt)
     (λ c κs. tt)
-    (λ c. c .before .before .before .before .before .before .before .before .before .before .before .before .before .before .before .before .before .before .before .before .before .before .before .before .before .packet .kept .1 .1 .1 .1 .1 .0)
-    (λ c. c .before .before .before .before .before .before .before .before .before .before .before .before .before .before .before .before .before .before .before .before .before .before .before .before .before .packet .kept .1 .1 .1 .1 .1 .1 .0)
-    (λ c. c .before .before .before .before .before .before .before .before .before .before .before .before .before .before .before .before .before .before .before .before .before .before .before .before .before .packet .kept .1 .1 .1 .1 .1 .1 .1 .0)
-    (λ c. c .before .before .before .before .before .before .before .before .before .before .before .before .before .before .before .before .before .before .before .before .before .before .before .before .before .packet .kept .1 .1 .1 .1 .1 .1 .1 .1 .0)
+    (λ c. returns·packet c .packet .kept .1 .1 .1 .1 .1 .0)
+    (λ c. returns·packet c .packet .kept .1 .1 .1 .1 .1 .1 .0)
+    (λ c. returns·packet c .packet .kept .1 .1 .1 .1 .1 .1 .1 .0)
+    (λ c. returns·packet c .packet .kept .1 .1 .1 .1 .1 .1 .1 .1 .0)
     (λ c. refl)
-    (λ c. c .before .before .before .before .before .before .before .before .before .before .before .before .before .before .before .before .before .before .before .before .before .before .before .before .before .packet .kept .1 .1 .1 .1 .1 .1 .1 .1 .1 .1 .0)
-    (λ c. c .before .before .before .before .before .before .before .before .before .before .before .before .before .before .before .before .before .before .before .before .before .before .before .before .before .packet .kept .1 .1 .1 .1 .1 .1 .1 .1 .1 .1 .1 .0)
-    (λ c. c .before .before .before .before .before .before .before .before .before .before .before .before .before .before .before .before .before .before .before .before .before .before .before .before .before .packet .kept .1 .1 .1 .1 .1 .1 .1 .1 .1 .1 .1 .1 .0)
-    (λ c. c .before .before .before .before .before .before .before .before .before .before .before .before .before .before .before .before .before .before .before .before .before .before .before .before .before .packet .kept .1 .1 .1 .1 .1 .1 .1 .1 .1 .1 .1 .1 .1 .0)
-    (λ c. c .before .before .before .before .before .before .before .before .before .before .before .before .before .before .before .before .before .before .before .before .before .before .before .before .before .packet .kept .1 .1 .1 .1 .1 .1 .1 .1 .1 .1 .1 .1 .1 .1 .0)
-    (λ c. c .before .before .before .before .before .before .before .before .before .before .before .before .before .before .before .before .before .before .before .before .before .before .before .before .before .packet .kept .1 .1 .1 .1 .1 .1 .1 .1 .1 .1 .1 .1 .1 .1 .1 .0)
-    (λ c. c .before .before .before .before .before .before .before .before .before .before .before .before .before .before .before .before .before .before .before .before .before .before .before .before .before .packet .kept .1 .1 .1 .1 .1 .1 .1 .1 .1 .1 .1 .1 .1 .1 .1 .1 .0)
+    (λ c. returns·packet c .packet .kept .1 .1 .1 .1 .1 .1 .1 .1 .1 .1 .0)
+    (λ c. returns·packet c .packet .kept .1 .1 .1 .1 .1 .1 .1 .1 .1 .1 .1 .0)
+    (λ c. returns·packet c .packet .kept .1 .1 .1 .1 .1 .1 .1 .1 .1 .1 .1 .1 .0)
+    (λ c. returns·packet c .packet .kept .1 .1 .1 .1 .1 .1 .1 .1 .1 .1 .1 .1 .1 .0)
+    (λ c. returns·packet c .packet .kept .1 .1 .1 .1 .1 .1 .1 .1 .1 .1 .1 .1 .1 .1 .0)
+    (λ c. returns·packet c .packet .kept .1 .1 .1 .1 .1 .1 .1 .1 .1 .1 .1 .1 .1 .1 .1 .0)
+    (λ c. returns·packet c .packet .kept .1 .1 .1 .1 .1 .1 .1 .1 .1 .1 .1 .1 .1 .1 .1 .1 .0)
     returns
     (λ c. refl)
     (λ c. refl)
     (λ c. refl)
-    (λ c. c .before .before .before .before .before .before .before .before .before .before .before .before .before .before .before .before .before .before .before .event .kept .1 .1 .1 .1 .1 .1 .1 .1 .1 .0)
-    (λ c. c .before .before .before .before .before .before .before .before .before .before .before .before .before .before .before .before .before .before .before .event .kept .1 .1 .1 .1 .1 .1 .1 .1 .1 .1 .0)
-    (λ c. c .before .before .before .before .before .before .before .before .before .before .before .before .before .before .before .before .before .before .before .event .kept .1 .1 .1 .1 .1 .1 .1 .1 .1 .1 .1 .0)
-    (λ c. c .before .before .before .before .before .before .before .before .before .before .before .before .before .before .before .before .before .before .before .event .kept .1 .1 .1 .1 .1 .1 .1 .1 .1 .1 .1 .1 .0)
-    (λ c. c .before .before .before .before .before .before .before .before .before .before .before .before .before .before .before .before .before .before .before .event .kept .1 .1 .1 .1 .1 .1 .1 .1 .1 .1 .1 .1 .1 .0)
-    (λ c. c .before .before .before .before .before .before .before .before .before .before .before .before .before .before .before .before .before .before .before .event .kept .1 .1 .1 .1 .1 .1 .1 .1 .1 .1 .1 .1 .1 .1 .0)
-    (λ c. c .before .before .before .before .before .before .before .before .before .before .before .before .before .before .before .before .before .before .before .event .kept .1 .1 .1 .1 .1 .1 .1 .1 .1 .1 .1 .1 .1 .1 .1 .0)
-    (λ c. c .before .before .before .before .before .before .before .before .before .before .before .before .before .before .before .before .before .before .before .event .kept .1 .1 .1 .1 .1 .1 .1 .1 .1 .1 .1 .1 .1 .1 .1 .1 .0)
+    (λ c. returns-2·event c .event .kept .1 .1 .1 .1 .1 .1 .1 .1 .1 .0)
+    (λ c. returns-2·event c .event .kept .1 .1 .1 .1 .1 .1 .1 .1 .1 .1 .0)
+    (λ c. returns-2·event c .event .kept .1 .1 .1 .1 .1 .1 .1 .1 .1 .1 .1 .0)
+    (λ c. returns-2·event c .event .kept .1 .1 .1 .1 .1 .1 .1 .1 .1 .1 .1 .1 .0)
+    (λ c. returns-2·event c .event .kept .1 .1 .1 .1 .1 .1 .1 .1 .1 .1 .1 .1 .1 .0)
+    (λ c. returns-2·event c .event .kept .1 .1 .1 .1 .1 .1 .1 .1 .1 .1 .1 .1 .1 .1 .0)
+    (λ c. returns-2·event c .event .kept .1 .1 .1 .1 .1 .1 .1 .1 .1 .1 .1 .1 .1 .1 .1 .0)
+    (λ c. returns-2·event c .event .kept .1 .1 .1 .1 .1 .1 .1 .1 .1 .1 .1 .1 .1 .1 .1 .1 .0)
     (λ c. refl)
     returns-2
     (λ c. refl)
@@ -111,10 +113,10 @@ step-spec =
     (λ c. refl)
     (λ c. refl)
     (λ c. refl)
-    (λ c. c .before .before .before .before .before .before .before .before .before .before .before .before .before .finish .kept .1 .1 .1 .1 .1 .1 .1 .1 .1 .0)
-    (λ c. c .before .before .before .before .before .before .before .before .before .before .before .before .before .finish .kept .1 .1 .1 .1 .1 .1 .1 .1 .1 .1 .0)
-    (λ c. c .before .before .before .before .before .before .before .before .before .before .before .before .before .finish .kept .1 .1 .1 .1 .1 .1 .1 .1 .1 .1 .1 .0)
-    (λ c. c .before .before .before .before .before .before .before .before .before .before .before .before .before .finish .kept .1 .1 .1 .1 .1 .1 .1 .1 .1 .1 .1 .1 .0)
-    (λ c. c .before .before .before .before .before .before .before .before .before .before .before .before .before .finish .kept .1 .1 .1 .1 .1 .1 .1 .1 .1 .1 .1 .1 .1 .0)
+    (λ c. returns-6·finish c .finish .kept .1 .1 .1 .1 .1 .1 .1 .1 .1 .0)
+    (λ c. returns-6·finish c .finish .kept .1 .1 .1 .1 .1 .1 .1 .1 .1 .1 .0)
+    (λ c. returns-6·finish c .finish .kept .1 .1 .1 .1 .1 .1 .1 .1 .1 .1 .1 .0)
+    (λ c. returns-6·finish c .finish .kept .1 .1 .1 .1 .1 .1 .1 .1 .1 .1 .1 .1 .0)
+    (λ c. returns-6·finish c .finish .kept .1 .1 .1 .1 .1 .1 .1 .1 .1 .1 .1 .1 .1 .0)
     (λ c. refl)
     returns-6)

@@ -1,12 +1,14 @@
 -- `run` meets its contract: the loop's invariant is that what the rest of the input gives, all of it gives.
 use Prim.Native.Nat.{_+_, _-_, _^_, _<_}
 use native.Mathlib.Omega.{arith}
-use mathlib.Core.Path.{sym, _∙_}
+use mathlib.Core.Path.{refl, sym, _∙_}
 use borrow.Author.Needs.{needs}
 use borrow.Author.Tests.{not-true, not-false}
 use lib.ListN.{length}
+use Rattle.rows.specs.WidthsLaws.{each-log, log-number}
 use Rattle.call.specs.State.{state, Logs, logs}
-use Rattle.run_c.proofs.Running.{SameSizes, Going, going-start, going-ends, going-between, going-stops, going-more}
+use Rattle.call.specs.StateLaws.{SameSizes}
+use Rattle.run_c.proofs.Running.{Going, going-start, going-ends, going-between, going-stops, going-more}
 use Rattle.run_c.proofs.run.Statement.{statement}
 use Rattle.run_c.proofs.run.Tie as tie
 
@@ -30,19 +32,19 @@ left c =
 
 sizes : (c : tie.After-packet Inv-loop μ-loop) → SameSizes (lent (c .before .before .before .before .before .before .before .before .before .before .before .before .before .before .before)) (left c)
 sizes c =
-    record {
-      bytes = c .packet .kept .1 .1 .1 .1 .1 .0;
-      devices = c .packet .kept .1 .1 .1 .1 .1 .1 .0;
-      endpoints = c .packet .kept .1 .1 .1 .1 .1 .1 .1 .0;
-      packets = c .packet .kept .1 .1 .1 .1 .1 .1 .1 .1 .0;
-      transactions = c .packet .kept .1 .1 .1 .1 .1 .1 .1 .1 .1 .1 .0;
-      groups = c .packet .kept .1 .1 .1 .1 .1 .1 .1 .1 .1 .1 .1 .0;
-      statebytes = c .packet .kept .1 .1 .1 .1 .1 .1 .1 .1 .1 .1 .1 .1 .0;
-      states = c .packet .kept .1 .1 .1 .1 .1 .1 .1 .1 .1 .1 .1 .1 .1 .0;
-      items = c .packet .kept .1 .1 .1 .1 .1 .1 .1 .1 .1 .1 .1 .1 .1 .1 .0;
-      links = c .packet .kept .1 .1 .1 .1 .1 .1 .1 .1 .1 .1 .1 .1 .1 .1 .1 .0;
-      requests = c .packet .kept .1 .1 .1 .1 .1 .1 .1 .1 .1 .1 .1 .1 .1 .1 .1 .1 .0;
-    }
+    each-log _
+    (c .packet .kept .1 .1 .1 .1 .1 .0)
+    (c .packet .kept .1 .1 .1 .1 .1 .1 .0)
+    (c .packet .kept .1 .1 .1 .1 .1 .1 .1 .0)
+    (c .packet .kept .1 .1 .1 .1 .1 .1 .1 .1 .0)
+    refl
+    (c .packet .kept .1 .1 .1 .1 .1 .1 .1 .1 .1 .1 .0)
+    (c .packet .kept .1 .1 .1 .1 .1 .1 .1 .1 .1 .1 .1 .0)
+    (c .packet .kept .1 .1 .1 .1 .1 .1 .1 .1 .1 .1 .1 .1 .0)
+    (c .packet .kept .1 .1 .1 .1 .1 .1 .1 .1 .1 .1 .1 .1 .1 .0)
+    (c .packet .kept .1 .1 .1 .1 .1 .1 .1 .1 .1 .1 .1 .1 .1 .1 .0)
+    (c .packet .kept .1 .1 .1 .1 .1 .1 .1 .1 .1 .1 .1 .1 .1 .1 .1 .0)
+    (c .packet .kept .1 .1 .1 .1 .1 .1 .1 .1 .1 .1 .1 .1 .1 .1 .1 .1 .0)
 
 loop-holds : tie.Need-loop-holds Inv-loop μ-loop
 loop-holds c = going-start (c .record-end .ensures)
@@ -108,31 +110,31 @@ run-spec =
     part-packet-end
     (λ c κs. tt)
     (λ c κs. tt)
-    (λ c. sizes (c .before .before .before .before .before .before .before .before .before .before .before .before .before .before .before .before .before .before .before .before .before .before .before .before .before .before) .bytes ∙ c .before .before .before .before .before .before .before .before .before .before .before .before .before .before .before .before .before .before .before .before .before .before .before .before .before .before .before .before .before .before .before .before .before .before .before .before .before .before .before .before .before .loop .inv .sizes .bytes)
-    (λ c. sizes (c .before .before .before .before .before .before .before .before .before .before .before .before .before .before .before .before .before .before .before .before .before .before .before .before .before .before) .devices ∙ c .before .before .before .before .before .before .before .before .before .before .before .before .before .before .before .before .before .before .before .before .before .before .before .before .before .before .before .before .before .before .before .before .before .before .before .before .before .before .before .before .before .loop .inv .sizes .devices)
-    (λ c. sizes (c .before .before .before .before .before .before .before .before .before .before .before .before .before .before .before .before .before .before .before .before .before .before .before .before .before .before) .endpoints ∙ c .before .before .before .before .before .before .before .before .before .before .before .before .before .before .before .before .before .before .before .before .before .before .before .before .before .before .before .before .before .before .before .before .before .before .before .before .before .before .before .before .before .loop .inv .sizes .endpoints)
-    (λ c. sizes (c .before .before .before .before .before .before .before .before .before .before .before .before .before .before .before .before .before .before .before .before .before .before .before .before .before .before) .packets ∙ c .before .before .before .before .before .before .before .before .before .before .before .before .before .before .before .before .before .before .before .before .before .before .before .before .before .before .before .before .before .before .before .before .before .before .before .before .before .before .before .before .before .loop .inv .sizes .packets)
-    (λ c. sizes (c .before .before .before .before .before .before .before .before .before .before .before .before .before .before .before .before .before .before .before .before .before .before .before .before .before .before) .transactions ∙ c .before .before .before .before .before .before .before .before .before .before .before .before .before .before .before .before .before .before .before .before .before .before .before .before .before .before .before .before .before .before .before .before .before .before .before .before .before .before .before .before .before .loop .inv .sizes .transactions)
-    (λ c. sizes (c .before .before .before .before .before .before .before .before .before .before .before .before .before .before .before .before .before .before .before .before .before .before .before .before .before .before) .groups ∙ c .before .before .before .before .before .before .before .before .before .before .before .before .before .before .before .before .before .before .before .before .before .before .before .before .before .before .before .before .before .before .before .before .before .before .before .before .before .before .before .before .before .loop .inv .sizes .groups)
-    (λ c. sizes (c .before .before .before .before .before .before .before .before .before .before .before .before .before .before .before .before .before .before .before .before .before .before .before .before .before .before) .statebytes ∙ c .before .before .before .before .before .before .before .before .before .before .before .before .before .before .before .before .before .before .before .before .before .before .before .before .before .before .before .before .before .before .before .before .before .before .before .before .before .before .before .before .before .loop .inv .sizes .statebytes)
-    (λ c. sizes (c .before .before .before .before .before .before .before .before .before .before .before .before .before .before .before .before .before .before .before .before .before .before .before .before .before .before) .states ∙ c .before .before .before .before .before .before .before .before .before .before .before .before .before .before .before .before .before .before .before .before .before .before .before .before .before .before .before .before .before .before .before .before .before .before .before .before .before .before .before .before .before .loop .inv .sizes .states)
-    (λ c. sizes (c .before .before .before .before .before .before .before .before .before .before .before .before .before .before .before .before .before .before .before .before .before .before .before .before .before .before) .items ∙ c .before .before .before .before .before .before .before .before .before .before .before .before .before .before .before .before .before .before .before .before .before .before .before .before .before .before .before .before .before .before .before .before .before .before .before .before .before .before .before .before .before .loop .inv .sizes .items)
-    (λ c. sizes (c .before .before .before .before .before .before .before .before .before .before .before .before .before .before .before .before .before .before .before .before .before .before .before .before .before .before) .links ∙ c .before .before .before .before .before .before .before .before .before .before .before .before .before .before .before .before .before .before .before .before .before .before .before .before .before .before .before .before .before .before .before .before .before .before .before .before .before .before .before .before .before .loop .inv .sizes .links)
-    (λ c. sizes (c .before .before .before .before .before .before .before .before .before .before .before .before .before .before .before .before .before .before .before .before .before .before .before .before .before .before) .requests ∙ c .before .before .before .before .before .before .before .before .before .before .before .before .before .before .before .before .before .before .before .before .before .before .before .before .before .before .before .before .before .before .before .before .before .before .before .before .before .before .before .before .before .loop .inv .sizes .requests)
+    (λ c. sizes (c .before .before .before .before .before .before .before .before .before .before .before .before .before .before .before .before .before .before .before .before .before .before .before .before .before .before) 0 (log-number 0 refl) ∙ c .before .before .before .before .before .before .before .before .before .before .before .before .before .before .before .before .before .before .before .before .before .before .before .before .before .before .before .before .before .before .before .before .before .before .before .before .before .before .before .before .before .loop .inv .sizes 0 (log-number 0 refl))
+    (λ c. sizes (c .before .before .before .before .before .before .before .before .before .before .before .before .before .before .before .before .before .before .before .before .before .before .before .before .before .before) 1 (log-number 1 refl) ∙ c .before .before .before .before .before .before .before .before .before .before .before .before .before .before .before .before .before .before .before .before .before .before .before .before .before .before .before .before .before .before .before .before .before .before .before .before .before .before .before .before .before .loop .inv .sizes 1 (log-number 1 refl))
+    (λ c. sizes (c .before .before .before .before .before .before .before .before .before .before .before .before .before .before .before .before .before .before .before .before .before .before .before .before .before .before) 2 (log-number 2 refl) ∙ c .before .before .before .before .before .before .before .before .before .before .before .before .before .before .before .before .before .before .before .before .before .before .before .before .before .before .before .before .before .before .before .before .before .before .before .before .before .before .before .before .before .loop .inv .sizes 2 (log-number 2 refl))
+    (λ c. sizes (c .before .before .before .before .before .before .before .before .before .before .before .before .before .before .before .before .before .before .before .before .before .before .before .before .before .before) 3 (log-number 3 refl) ∙ c .before .before .before .before .before .before .before .before .before .before .before .before .before .before .before .before .before .before .before .before .before .before .before .before .before .before .before .before .before .before .before .before .before .before .before .before .before .before .before .before .before .loop .inv .sizes 3 (log-number 3 refl))
+    (λ c. sizes (c .before .before .before .before .before .before .before .before .before .before .before .before .before .before .before .before .before .before .before .before .before .before .before .before .before .before) 5 (log-number 5 refl) ∙ c .before .before .before .before .before .before .before .before .before .before .before .before .before .before .before .before .before .before .before .before .before .before .before .before .before .before .before .before .before .before .before .before .before .before .before .before .before .before .before .before .before .loop .inv .sizes 5 (log-number 5 refl))
+    (λ c. sizes (c .before .before .before .before .before .before .before .before .before .before .before .before .before .before .before .before .before .before .before .before .before .before .before .before .before .before) 6 (log-number 6 refl) ∙ c .before .before .before .before .before .before .before .before .before .before .before .before .before .before .before .before .before .before .before .before .before .before .before .before .before .before .before .before .before .before .before .before .before .before .before .before .before .before .before .before .before .loop .inv .sizes 6 (log-number 6 refl))
+    (λ c. sizes (c .before .before .before .before .before .before .before .before .before .before .before .before .before .before .before .before .before .before .before .before .before .before .before .before .before .before) 7 (log-number 7 refl) ∙ c .before .before .before .before .before .before .before .before .before .before .before .before .before .before .before .before .before .before .before .before .before .before .before .before .before .before .before .before .before .before .before .before .before .before .before .before .before .before .before .before .before .loop .inv .sizes 7 (log-number 7 refl))
+    (λ c. sizes (c .before .before .before .before .before .before .before .before .before .before .before .before .before .before .before .before .before .before .before .before .before .before .before .before .before .before) 8 (log-number 8 refl) ∙ c .before .before .before .before .before .before .before .before .before .before .before .before .before .before .before .before .before .before .before .before .before .before .before .before .before .before .before .before .before .before .before .before .before .before .before .before .before .before .before .before .before .loop .inv .sizes 8 (log-number 8 refl))
+    (λ c. sizes (c .before .before .before .before .before .before .before .before .before .before .before .before .before .before .before .before .before .before .before .before .before .before .before .before .before .before) 9 (log-number 9 refl) ∙ c .before .before .before .before .before .before .before .before .before .before .before .before .before .before .before .before .before .before .before .before .before .before .before .before .before .before .before .before .before .before .before .before .before .before .before .before .before .before .before .before .before .loop .inv .sizes 9 (log-number 9 refl))
+    (λ c. sizes (c .before .before .before .before .before .before .before .before .before .before .before .before .before .before .before .before .before .before .before .before .before .before .before .before .before .before) 10 (log-number 10 refl) ∙ c .before .before .before .before .before .before .before .before .before .before .before .before .before .before .before .before .before .before .before .before .before .before .before .before .before .before .before .before .before .before .before .before .before .before .before .before .before .before .before .before .before .loop .inv .sizes 10 (log-number 10 refl))
+    (λ c. sizes (c .before .before .before .before .before .before .before .before .before .before .before .before .before .before .before .before .before .before .before .before .before .before .before .before .before .before) 11 (log-number 11 refl) ∙ c .before .before .before .before .before .before .before .before .before .before .before .before .before .before .before .before .before .before .before .before .before .before .before .before .before .before .before .before .before .before .before .before .before .before .before .before .before .before .before .before .before .loop .inv .sizes 11 (log-number 11 refl))
     returns
     add-count
     record-end-requires-2
     loop-less
     loop-again
-    (λ c. c .before .loop .inv .sizes .bytes)
-    (λ c. c .before .loop .inv .sizes .devices)
-    (λ c. c .before .loop .inv .sizes .endpoints)
-    (λ c. c .before .loop .inv .sizes .packets)
-    (λ c. c .before .loop .inv .sizes .transactions)
-    (λ c. c .before .loop .inv .sizes .groups)
-    (λ c. c .before .loop .inv .sizes .statebytes)
-    (λ c. c .before .loop .inv .sizes .states)
-    (λ c. c .before .loop .inv .sizes .items)
-    (λ c. c .before .loop .inv .sizes .links)
-    (λ c. c .before .loop .inv .sizes .requests)
+    (λ c. c .before .loop .inv .sizes 0 (log-number 0 refl))
+    (λ c. c .before .loop .inv .sizes 1 (log-number 1 refl))
+    (λ c. c .before .loop .inv .sizes 2 (log-number 2 refl))
+    (λ c. c .before .loop .inv .sizes 3 (log-number 3 refl))
+    (λ c. c .before .loop .inv .sizes 5 (log-number 5 refl))
+    (λ c. c .before .loop .inv .sizes 6 (log-number 6 refl))
+    (λ c. c .before .loop .inv .sizes 7 (log-number 7 refl))
+    (λ c. c .before .loop .inv .sizes 8 (log-number 8 refl))
+    (λ c. c .before .loop .inv .sizes 9 (log-number 9 refl))
+    (λ c. c .before .loop .inv .sizes 10 (log-number 10 refl))
+    (λ c. c .before .loop .inv .sizes 11 (log-number 11 refl))
     returns-2)

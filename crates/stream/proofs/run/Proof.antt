@@ -1,15 +1,17 @@
 -- `run` meets its contract: the loop's invariant is run_c's, on a state that is sound, with the addresses of its devices.
 use Prim.Native.Nat.{_+_, _-_, _^_, _<_}
 use native.Mathlib.Omega.{arith}
-use mathlib.Core.Path.{_≡_, sym, subst, _∙_}
+use mathlib.Core.Path.{_≡_, refl, sym, subst, _∙_}
 use borrow.Author.Needs.{needs}
 use borrow.Author.Tests.{not-true, not-false}
 use lib.ListN.{length}
+use Rattle.rows.specs.WidthsLaws.{each-log, log-number}
 use Rattle.call.specs.State.{State, state, Logs, logs}
+use Rattle.call.specs.StateLaws.{SameSizes}
 use Rattle.packet.specs.Lent.{Lent}
 use Rattle.packet.proofs.Changes.{changed-by, changed-none}
 use Rattle.decide.proofs.Places.{number-small}
-use Rattle.run_c.proofs.Running.{SameSizes, going-between, partOf}
+use Rattle.run_c.proofs.Running.{going-between, partOf}
 use Rattle.stream.specs.Addresses.{Addressed}
 use Rattle.stream.proofs.Addresses.{addressed-changed}
 use Rattle.stream.proofs.Streaming.{Streaming, streaming-start, streaming-ready, streaming-ends, streaming-long, streaming-short, streaming-place, streaming-owner, streaming-lent, streaming-stops, streaming-more, streaming-with}
@@ -34,19 +36,19 @@ left c = logs (c .packet-in .last .1 .1 .1 .1 .1 .0) (c .packet-in .last .1 .1 .
 
 sizes : (c : tie.After-packet-in Inv-loop μ-loop) → SameSizes (held (c .before .before .before .before .before .before .before .before .before .before .before .before .before .before .before .before .before .before .before .before .before .before .before .before .before .before .before) .logs) (left c)
 sizes c =
-    record {
-      bytes = c .packet-in .kept .1 .1 .1 .1 .1 .0;
-      devices = c .packet-in .kept .1 .1 .1 .1 .1 .1 .0;
-      endpoints = c .packet-in .kept .1 .1 .1 .1 .1 .1 .1 .0;
-      packets = c .packet-in .kept .1 .1 .1 .1 .1 .1 .1 .1 .0;
-      transactions = c .packet-in .kept .1 .1 .1 .1 .1 .1 .1 .1 .1 .1 .0;
-      groups = c .packet-in .kept .1 .1 .1 .1 .1 .1 .1 .1 .1 .1 .1 .0;
-      statebytes = c .packet-in .kept .1 .1 .1 .1 .1 .1 .1 .1 .1 .1 .1 .1 .0;
-      states = c .packet-in .kept .1 .1 .1 .1 .1 .1 .1 .1 .1 .1 .1 .1 .1 .0;
-      items = c .packet-in .kept .1 .1 .1 .1 .1 .1 .1 .1 .1 .1 .1 .1 .1 .1 .0;
-      links = c .packet-in .kept .1 .1 .1 .1 .1 .1 .1 .1 .1 .1 .1 .1 .1 .1 .1 .0;
-      requests = c .packet-in .kept .1 .1 .1 .1 .1 .1 .1 .1 .1 .1 .1 .1 .1 .1 .1 .1 .0;
-    }
+    each-log _
+    (c .packet-in .kept .1 .1 .1 .1 .1 .0)
+    (c .packet-in .kept .1 .1 .1 .1 .1 .1 .0)
+    (c .packet-in .kept .1 .1 .1 .1 .1 .1 .1 .0)
+    (c .packet-in .kept .1 .1 .1 .1 .1 .1 .1 .1 .0)
+    refl
+    (c .packet-in .kept .1 .1 .1 .1 .1 .1 .1 .1 .1 .1 .0)
+    (c .packet-in .kept .1 .1 .1 .1 .1 .1 .1 .1 .1 .1 .1 .0)
+    (c .packet-in .kept .1 .1 .1 .1 .1 .1 .1 .1 .1 .1 .1 .1 .0)
+    (c .packet-in .kept .1 .1 .1 .1 .1 .1 .1 .1 .1 .1 .1 .1 .1 .0)
+    (c .packet-in .kept .1 .1 .1 .1 .1 .1 .1 .1 .1 .1 .1 .1 .1 .1 .0)
+    (c .packet-in .kept .1 .1 .1 .1 .1 .1 .1 .1 .1 .1 .1 .1 .1 .1 .1 .0)
+    (c .packet-in .kept .1 .1 .1 .1 .1 .1 .1 .1 .1 .1 .1 .1 .1 .1 .1 .1 .0)
 
 many : (c : tie.Start Inv-loop μ-loop) → length (c .args .devices) ≡ 64
 many c = search needs
@@ -175,17 +177,17 @@ run-spec =
     loop-holds
     add-begin
     sub-if1
-    (λ c. c .before .before .loop .inv .going .sizes .bytes)
-    (λ c. c .before .before .loop .inv .going .sizes .devices)
-    (λ c. c .before .before .loop .inv .going .sizes .endpoints)
-    (λ c. c .before .before .loop .inv .going .sizes .packets)
-    (λ c. c .before .before .loop .inv .going .sizes .transactions)
-    (λ c. c .before .before .loop .inv .going .sizes .groups)
-    (λ c. c .before .before .loop .inv .going .sizes .statebytes)
-    (λ c. c .before .before .loop .inv .going .sizes .states)
-    (λ c. c .before .before .loop .inv .going .sizes .items)
-    (λ c. c .before .before .loop .inv .going .sizes .links)
-    (λ c. c .before .before .loop .inv .going .sizes .requests)
+    (λ c. c .before .before .loop .inv .going .sizes 0 (log-number 0 refl))
+    (λ c. c .before .before .loop .inv .going .sizes 1 (log-number 1 refl))
+    (λ c. c .before .before .loop .inv .going .sizes 2 (log-number 2 refl))
+    (λ c. c .before .before .loop .inv .going .sizes 3 (log-number 3 refl))
+    (λ c. c .before .before .loop .inv .going .sizes 5 (log-number 5 refl))
+    (λ c. c .before .before .loop .inv .going .sizes 6 (log-number 6 refl))
+    (λ c. c .before .before .loop .inv .going .sizes 7 (log-number 7 refl))
+    (λ c. c .before .before .loop .inv .going .sizes 8 (log-number 8 refl))
+    (λ c. c .before .before .loop .inv .going .sizes 9 (log-number 9 refl))
+    (λ c. c .before .before .loop .inv .going .sizes 10 (log-number 10 refl))
+    (λ c. c .before .before .loop .inv .going .sizes 11 (log-number 11 refl))
     returns
     sub-token-of
     part-token-of-start
@@ -205,17 +207,17 @@ run-spec =
     part-packet-in-end
     packet-in-requires
     (λ c κs. tt)
-    (λ c. sizes (c .before .before .before .before .before .before .before .before .before .before .before .before .before .before .before .before .before .before .before .before .before .before .before .before .before) .bytes ∙ c .before .before .before .before .before .before .before .before .before .before .before .before .before .before .before .before .before .before .before .before .before .before .before .before .before .before .before .before .before .before .before .before .before .before .before .before .before .before .before .before .before .before .before .before .before .before .before .before .before .before .before .before .loop .inv .going .sizes .bytes)
-    (λ c. sizes (c .before .before .before .before .before .before .before .before .before .before .before .before .before .before .before .before .before .before .before .before .before .before .before .before .before) .devices ∙ c .before .before .before .before .before .before .before .before .before .before .before .before .before .before .before .before .before .before .before .before .before .before .before .before .before .before .before .before .before .before .before .before .before .before .before .before .before .before .before .before .before .before .before .before .before .before .before .before .before .before .before .before .loop .inv .going .sizes .devices)
-    (λ c. sizes (c .before .before .before .before .before .before .before .before .before .before .before .before .before .before .before .before .before .before .before .before .before .before .before .before .before) .endpoints ∙ c .before .before .before .before .before .before .before .before .before .before .before .before .before .before .before .before .before .before .before .before .before .before .before .before .before .before .before .before .before .before .before .before .before .before .before .before .before .before .before .before .before .before .before .before .before .before .before .before .before .before .before .before .loop .inv .going .sizes .endpoints)
-    (λ c. sizes (c .before .before .before .before .before .before .before .before .before .before .before .before .before .before .before .before .before .before .before .before .before .before .before .before .before) .packets ∙ c .before .before .before .before .before .before .before .before .before .before .before .before .before .before .before .before .before .before .before .before .before .before .before .before .before .before .before .before .before .before .before .before .before .before .before .before .before .before .before .before .before .before .before .before .before .before .before .before .before .before .before .before .loop .inv .going .sizes .packets)
-    (λ c. sizes (c .before .before .before .before .before .before .before .before .before .before .before .before .before .before .before .before .before .before .before .before .before .before .before .before .before) .transactions ∙ c .before .before .before .before .before .before .before .before .before .before .before .before .before .before .before .before .before .before .before .before .before .before .before .before .before .before .before .before .before .before .before .before .before .before .before .before .before .before .before .before .before .before .before .before .before .before .before .before .before .before .before .before .loop .inv .going .sizes .transactions)
-    (λ c. sizes (c .before .before .before .before .before .before .before .before .before .before .before .before .before .before .before .before .before .before .before .before .before .before .before .before .before) .groups ∙ c .before .before .before .before .before .before .before .before .before .before .before .before .before .before .before .before .before .before .before .before .before .before .before .before .before .before .before .before .before .before .before .before .before .before .before .before .before .before .before .before .before .before .before .before .before .before .before .before .before .before .before .before .loop .inv .going .sizes .groups)
-    (λ c. sizes (c .before .before .before .before .before .before .before .before .before .before .before .before .before .before .before .before .before .before .before .before .before .before .before .before .before) .statebytes ∙ c .before .before .before .before .before .before .before .before .before .before .before .before .before .before .before .before .before .before .before .before .before .before .before .before .before .before .before .before .before .before .before .before .before .before .before .before .before .before .before .before .before .before .before .before .before .before .before .before .before .before .before .before .loop .inv .going .sizes .statebytes)
-    (λ c. sizes (c .before .before .before .before .before .before .before .before .before .before .before .before .before .before .before .before .before .before .before .before .before .before .before .before .before) .states ∙ c .before .before .before .before .before .before .before .before .before .before .before .before .before .before .before .before .before .before .before .before .before .before .before .before .before .before .before .before .before .before .before .before .before .before .before .before .before .before .before .before .before .before .before .before .before .before .before .before .before .before .before .before .loop .inv .going .sizes .states)
-    (λ c. sizes (c .before .before .before .before .before .before .before .before .before .before .before .before .before .before .before .before .before .before .before .before .before .before .before .before .before) .items ∙ c .before .before .before .before .before .before .before .before .before .before .before .before .before .before .before .before .before .before .before .before .before .before .before .before .before .before .before .before .before .before .before .before .before .before .before .before .before .before .before .before .before .before .before .before .before .before .before .before .before .before .before .before .loop .inv .going .sizes .items)
-    (λ c. sizes (c .before .before .before .before .before .before .before .before .before .before .before .before .before .before .before .before .before .before .before .before .before .before .before .before .before) .links ∙ c .before .before .before .before .before .before .before .before .before .before .before .before .before .before .before .before .before .before .before .before .before .before .before .before .before .before .before .before .before .before .before .before .before .before .before .before .before .before .before .before .before .before .before .before .before .before .before .before .before .before .before .before .loop .inv .going .sizes .links)
-    (λ c. sizes (c .before .before .before .before .before .before .before .before .before .before .before .before .before .before .before .before .before .before .before .before .before .before .before .before .before) .requests ∙ c .before .before .before .before .before .before .before .before .before .before .before .before .before .before .before .before .before .before .before .before .before .before .before .before .before .before .before .before .before .before .before .before .before .before .before .before .before .before .before .before .before .before .before .before .before .before .before .before .before .before .before .before .loop .inv .going .sizes .requests)
+    (λ c. sizes (c .before .before .before .before .before .before .before .before .before .before .before .before .before .before .before .before .before .before .before .before .before .before .before .before .before) 0 (log-number 0 refl) ∙ c .before .before .before .before .before .before .before .before .before .before .before .before .before .before .before .before .before .before .before .before .before .before .before .before .before .before .before .before .before .before .before .before .before .before .before .before .before .before .before .before .before .before .before .before .before .before .before .before .before .before .before .before .loop .inv .going .sizes 0 (log-number 0 refl))
+    (λ c. sizes (c .before .before .before .before .before .before .before .before .before .before .before .before .before .before .before .before .before .before .before .before .before .before .before .before .before) 1 (log-number 1 refl) ∙ c .before .before .before .before .before .before .before .before .before .before .before .before .before .before .before .before .before .before .before .before .before .before .before .before .before .before .before .before .before .before .before .before .before .before .before .before .before .before .before .before .before .before .before .before .before .before .before .before .before .before .before .before .loop .inv .going .sizes 1 (log-number 1 refl))
+    (λ c. sizes (c .before .before .before .before .before .before .before .before .before .before .before .before .before .before .before .before .before .before .before .before .before .before .before .before .before) 2 (log-number 2 refl) ∙ c .before .before .before .before .before .before .before .before .before .before .before .before .before .before .before .before .before .before .before .before .before .before .before .before .before .before .before .before .before .before .before .before .before .before .before .before .before .before .before .before .before .before .before .before .before .before .before .before .before .before .before .before .loop .inv .going .sizes 2 (log-number 2 refl))
+    (λ c. sizes (c .before .before .before .before .before .before .before .before .before .before .before .before .before .before .before .before .before .before .before .before .before .before .before .before .before) 3 (log-number 3 refl) ∙ c .before .before .before .before .before .before .before .before .before .before .before .before .before .before .before .before .before .before .before .before .before .before .before .before .before .before .before .before .before .before .before .before .before .before .before .before .before .before .before .before .before .before .before .before .before .before .before .before .before .before .before .before .loop .inv .going .sizes 3 (log-number 3 refl))
+    (λ c. sizes (c .before .before .before .before .before .before .before .before .before .before .before .before .before .before .before .before .before .before .before .before .before .before .before .before .before) 5 (log-number 5 refl) ∙ c .before .before .before .before .before .before .before .before .before .before .before .before .before .before .before .before .before .before .before .before .before .before .before .before .before .before .before .before .before .before .before .before .before .before .before .before .before .before .before .before .before .before .before .before .before .before .before .before .before .before .before .before .loop .inv .going .sizes 5 (log-number 5 refl))
+    (λ c. sizes (c .before .before .before .before .before .before .before .before .before .before .before .before .before .before .before .before .before .before .before .before .before .before .before .before .before) 6 (log-number 6 refl) ∙ c .before .before .before .before .before .before .before .before .before .before .before .before .before .before .before .before .before .before .before .before .before .before .before .before .before .before .before .before .before .before .before .before .before .before .before .before .before .before .before .before .before .before .before .before .before .before .before .before .before .before .before .before .loop .inv .going .sizes 6 (log-number 6 refl))
+    (λ c. sizes (c .before .before .before .before .before .before .before .before .before .before .before .before .before .before .before .before .before .before .before .before .before .before .before .before .before) 7 (log-number 7 refl) ∙ c .before .before .before .before .before .before .before .before .before .before .before .before .before .before .before .before .before .before .before .before .before .before .before .before .before .before .before .before .before .before .before .before .before .before .before .before .before .before .before .before .before .before .before .before .before .before .before .before .before .before .before .before .loop .inv .going .sizes 7 (log-number 7 refl))
+    (λ c. sizes (c .before .before .before .before .before .before .before .before .before .before .before .before .before .before .before .before .before .before .before .before .before .before .before .before .before) 8 (log-number 8 refl) ∙ c .before .before .before .before .before .before .before .before .before .before .before .before .before .before .before .before .before .before .before .before .before .before .before .before .before .before .before .before .before .before .before .before .before .before .before .before .before .before .before .before .before .before .before .before .before .before .before .before .before .before .before .before .loop .inv .going .sizes 8 (log-number 8 refl))
+    (λ c. sizes (c .before .before .before .before .before .before .before .before .before .before .before .before .before .before .before .before .before .before .before .before .before .before .before .before .before) 9 (log-number 9 refl) ∙ c .before .before .before .before .before .before .before .before .before .before .before .before .before .before .before .before .before .before .before .before .before .before .before .before .before .before .before .before .before .before .before .before .before .before .before .before .before .before .before .before .before .before .before .before .before .before .before .before .before .before .before .before .loop .inv .going .sizes 9 (log-number 9 refl))
+    (λ c. sizes (c .before .before .before .before .before .before .before .before .before .before .before .before .before .before .before .before .before .before .before .before .before .before .before .before .before) 10 (log-number 10 refl) ∙ c .before .before .before .before .before .before .before .before .before .before .before .before .before .before .before .before .before .before .before .before .before .before .before .before .before .before .before .before .before .before .before .before .before .before .before .before .before .before .before .before .before .before .before .before .before .before .before .before .before .before .before .before .loop .inv .going .sizes 10 (log-number 10 refl))
+    (λ c. sizes (c .before .before .before .before .before .before .before .before .before .before .before .before .before .before .before .before .before .before .before .before .before .before .before .before .before) 11 (log-number 11 refl) ∙ c .before .before .before .before .before .before .before .before .before .before .before .before .before .before .before .before .before .before .before .before .before .before .before .before .before .before .before .before .before .before .before .before .before .before .before .before .before .before .before .before .before .before .before .before .before .before .before .before .before .before .before .before .loop .inv .going .sizes 11 (log-number 11 refl))
     returns-2
     add-count
     record-end-requires-2
@@ -236,15 +238,15 @@ run-spec =
     loop-again
     loop-less-2
     loop-again-2
-    (λ c. c .before .loop .inv .going .sizes .bytes)
-    (λ c. c .before .loop .inv .going .sizes .devices)
-    (λ c. c .before .loop .inv .going .sizes .endpoints)
-    (λ c. c .before .loop .inv .going .sizes .packets)
-    (λ c. c .before .loop .inv .going .sizes .transactions)
-    (λ c. c .before .loop .inv .going .sizes .groups)
-    (λ c. c .before .loop .inv .going .sizes .statebytes)
-    (λ c. c .before .loop .inv .going .sizes .states)
-    (λ c. c .before .loop .inv .going .sizes .items)
-    (λ c. c .before .loop .inv .going .sizes .links)
-    (λ c. c .before .loop .inv .going .sizes .requests)
+    (λ c. c .before .loop .inv .going .sizes 0 (log-number 0 refl))
+    (λ c. c .before .loop .inv .going .sizes 1 (log-number 1 refl))
+    (λ c. c .before .loop .inv .going .sizes 2 (log-number 2 refl))
+    (λ c. c .before .loop .inv .going .sizes 3 (log-number 3 refl))
+    (λ c. c .before .loop .inv .going .sizes 5 (log-number 5 refl))
+    (λ c. c .before .loop .inv .going .sizes 6 (log-number 6 refl))
+    (λ c. c .before .loop .inv .going .sizes 7 (log-number 7 refl))
+    (λ c. c .before .loop .inv .going .sizes 8 (log-number 8 refl))
+    (λ c. c .before .loop .inv .going .sizes 9 (log-number 9 refl))
+    (λ c. c .before .loop .inv .going .sizes 10 (log-number 10 refl))
+    (λ c. c .before .loop .inv .going .sizes 11 (log-number 11 refl))
     returns-3)

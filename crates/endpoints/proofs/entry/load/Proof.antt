@@ -5,6 +5,7 @@ use mathlib.Core.Bool.{true}
 use lib.Dec.{ltb}
 use mir.Syntax.{w64}
 use mir.Val.{Fits}
+use Rattle.endpoints.specs.Word as word
 use Rattle.endpoints.specs.declared.Phase.{Phase}
 use Rattle.endpoints.specs.Table.{wordAt, entryOf, entryAt, withPhase}
 use Rattle.endpoints.proofs.Places.{row-fits, place-fits, bytes-fit, place-inside, byte-fits}
@@ -24,7 +25,7 @@ module _ (k : ℕ) (g : ltb k 17 ≡ true) (c : tie.Start) where
   bytes : Fits w64 ((c .args .i * 17 + k) * 8)
   bytes = bytes-fit (c .args .i) (c .pre) k g
 
-  inside : c .args .i * 17 + k < 2176
+  inside : c .args .i * 17 + k < word.table
   inside = place-inside (c .args .i) (c .pre) k g
 
 pub load-spec : {M : Type 1} → statement M

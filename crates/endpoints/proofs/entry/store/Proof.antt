@@ -46,7 +46,7 @@ module _ (k : ℕ) (g : ltb k 17 ≡ true) (c : tie.Start) where
   bytes : Fits w64 ((c .args .i * 17 + k) * 8)
   bytes = bytes-fit (c .args .i) (c .pre) k g
 
-  inside : c .args .i * 17 + k < 2176
+  inside : c .args .i * 17 + k < word.table
   inside = place-inside (c .args .i) (c .pre) k g
 
 pub store-spec : {M : Type 1} → statement M

@@ -15,7 +15,7 @@ abbrev Inv-loop : tie.InvT-loop
 Inv-loop log₀ at table₀ n endpoint start i₀ log table i =
     (i ≤ n)
     × ((length log ≡ length log₀)
-    × ((length table ≡ 2176)
+    × ((length table ≡ word.table)
     × ((nextStates table₀ n endpoint start ≡ each word.state (stateWord endpoint start) table i (n - i))
     × (sets log₀ at (stateBytes (nextStates table₀ n endpoint start) 0 n) ≡ sets log (at + i) (rowFrom endpoint start table i (n - i))))))
 

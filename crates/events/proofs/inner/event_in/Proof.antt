@@ -6,16 +6,20 @@ use mathlib.Core.Bool.{true}
 use mathlib.Core.Path.{_≡_, sym, ap, _∙_}
 use Rattle.transaction.specs.Payload.{startPid}
 use Rattle.write.specs.Memory.{Memory, memory}
+use Rattle.rules.specs.declared.Stamp.{Stamp}
+use Rattle.call.specs.Share.{writtenOf}
 use Rattle.call.specs.State.{State, state, logs}
 use Rattle.events.specs.After.{resetsBy}
 use Rattle.events.specs.declared.sum.Sum.{Sum}
 use Rattle.events.proofs.Before.{memoryThen}
-use Rattle.events.proofs.Happens.{eventSum, event-full, event-ables, event-settles, event-puts, event-accepted}
+use Rattle.events.proofs.Happens.{brings, eventSum, event-full, event-ables, event-settles, event-puts, event-accepted}
 use Rattle.events.proofs.Parts.{Flags, sum-at, flags-at, settles-at, settled-at, decoder-at, puts-at, able-at, rows-at, event-returns}
 use Rattle.events.proofs.Refuses.{flipped}
 use Rattle.events.proofs.Sane.{is-ready, sum-asks}
 use Rattle.events.proofs.inner.event_in.Statement.{statement}
 use Rattle.events.proofs.inner.event_in.Tie as tie
+mod Places
+use Places.*
 
 -- the state that the call begins with
 abbrev begun : tie.Start → State
@@ -25,45 +29,57 @@ begun s =
 
 decide-requires : tie.Need-decide-requires
 decide-requires c κs =
-    let s = c .before .before .before .before .before .before .before .before .before .before .before .before .before .before .before .before .before .before in
+    let s = decide-requires·Start c in
     let a = sum-asks (begun s) (s .pre .0) in
     (is-ready (begun s) (s .pre .0), (a .0, a .1 .1))
 
 returns : tie.Need-returns
 returns c =
-    let s = c .before .before .before .before .before .before .before .before .before .before .before .before .before .before .before .before .before .before .before .before .before .before in
-    let sum = sum-at (begun s) (s .args .kind) _ _ (c .before .before .before .decide .ensures) (c .before .before .before .before .before .before .before .before .before .room-of .ensures) in
-    event-full (begun s) (s .pre .0) (c .before .before .before .before .before .before .before .known .ensures) (s .pre .1 .0) (s .args .kind) (s .args .code) (s .args .time) (s .pre .1 .1) (ap (λ (x : Sum). x .fits) (sym sum) ∙ flipped _ _ (c .if1 .taken))
+    let s = returns·Start c in
+    let sum = sum-at (begun s) (s .args .kind) _ _ (returns·decide c .decide .ensures) (returns·room-of c .room-of .ensures) in
+    event-full (begun s) (s .pre .0) (returns·known c .known .ensures) (s .pre .1 .0) (s .args .kind) (s .args .code) (s .args .time) (s .pre .1 .1) (ap (λ (x : Sum). x .fits) (sym sum) ∙ flipped _ _ (c .if1 .taken))
+
+-- the old transaction's token is a byte
+token : (c : tie.After-start-pid) → startPid (start-pid·Start c .args .d .transaction .style) < 256
+token c = let b : c .start-pid .result < 256 = omega (arith, c .start-pid .ok) in rw (c .start-pid .ensures) at b
 
 -- what is known in front of settle, where there is room
 module _ (c : tie.After-written-of) where
   abbrev first : tie.Start
-  first = c .before .before .before .before .before .before .before .before .before .before .before .before .before .before .before .before .before .before .before .before .before .before .before .before .before .before .before .before .before .before .before
+  first = written-of·Start c
 
   abbrev entry : State
   entry = begun first
 
   byte : startPid (first .args .d .transaction .style) < 256
-  byte = let b : c .before .start-pid .result < 256 = omega (arith, c .before .start-pid .ok) in rw (c .before .start-pid .ensures) at b
+  byte = token (written-of·start-pid c)
+
+  -- what it brings
+  stamp-is : written-of·stamp-of c .stamp-of .result ≡ brings (first .args .time) entry
+  stamp-is = written-of·stamp-of c .stamp-of .ensures
+
+  -- where it begins to write
+  written : c .written-of .result ≡ writtenOf (brings (first .args .time) entry) (first .args .d)
+  written = c .written-of .ensures ∙ ap (λ (x : Stamp). writtenOf x (first .args .d)) stamp-is
 
   fits : eventSum (first .args .kind) entry .fits ≡ true
-  fits = ap (λ (x : Sum). x .fits) (sym (sum-at entry (first .args .kind) _ _ (c .before .before .before .before .before .before .before .before .before .before .before .before .decide .ensures) (c .before .before .before .before .before .before .before .before .before .before .before .before .before .before .before .before .before .before .room-of .ensures))) ∙ flipped _ _ (c .before .before .before .before .before .before .before .before .before .if1 .left)
+  fits = ap (λ (x : Sum). x .fits) (sym (sum-at entry (first .args .kind) _ _ (written-of·decide c .decide .ensures) (written-of·room-of c .room-of .ensures))) ∙ flipped _ _ (written-of·Else1 c .if1 .left)
 
-  flags : Flags entry (first .args .kind) (c .before .before .before .before .before .before .adds-row .result) (c .before .before .before .adds-group .result) (c .before .before .starts-group .result)
-  flags = flags-at entry (first .args .kind) _ _ (c .before .before .before .before .before .before .before .before .before .before .before .before .decide .ensures) _ _ _ (c .before .before .before .before .before .before .adds-row .ensures) (c .before .before .before .adds-group .ensures) (c .before .before .starts-group .ensures)
+  flags : Flags entry (first .args .kind) (written-of·adds-row c .adds-row .result) (written-of·adds-group c .adds-group .result) (written-of·starts-group c .starts-group .result)
+  flags = flags-at entry (first .args .kind) _ _ (written-of·decide c .decide .ensures) _ _ _ (written-of·adds-row c .adds-row .ensures) (written-of·adds-group c .adds-group .ensures) (written-of·starts-group c .starts-group .ensures)
 
 settle-requires : tie.Need-settle-requires
 settle-requires c κs =
-    let a = c .before .before .before .before .before .before in
+    let a = settle-requires·written-of c in
     let s = first a in
-    settles-at (begun s) (s .args .kind) _ _ (a .before .before .before .before .before .before .before .before .before .before .before .before .decide .ensures) _ _ (a .before .start-pid .ensures) (a .written-of .ensures)
-    (event-settles (begun s) (s .pre .0) (a .before .before .before .before .before .before .before .before .before .before .before .before .before .before .before .before .known .ensures) (s .pre .1 .0) (s .args .kind) (s .args .code) (s .args .time) (s .pre .1 .1) (byte a) (fits a))
+    settles-at (begun s) (s .args .kind) _ _ (written-of·decide a .decide .ensures) (brings (s .args .time) (begun s)) _ _ (written-of·start-pid a .start-pid .ensures) (written a)
+    (event-settles (begun s) (s .pre .0) (written-of·known a .known .ensures) (s .pre .1 .0) (s .args .kind) (s .args .code) (s .args .time) (s .pre .1 .1) (byte a) (fits a))
 
 put-event-requires : tie.Need-put-event-requires
 put-event-requires c κs =
-    let a = c .before .before .before .before .before .before .before .before .before .before .before .before .before .before .before .before .before .before .before .before in
+    let a = put-event-requires·written-of c in
     let s = first a in
-    puts-at (begun s) (s .args .kind) (flags a) (event-puts (begun s) (s .pre .0) (a .before .before .before .before .before .before .before .before .before .before .before .before .before .before .before .before .known .ensures) (s .pre .1 .0) (s .args .kind) (s .args .code) (s .args .time) (s .pre .1 .1) (byte a) (fits a))
+    puts-at (begun s) (s .args .kind) (flags a) (written-of·stamp-of a .stamp-of .result) (ap (λ (x : Stamp). x .packet) (stamp-is a)) (event-puts (begun s) (s .pre .0) (written-of·known a .known .ensures) (s .pre .1 .0) (s .args .kind) (s .args .code) (s .args .time) (s .pre .1 .1) (byte a) (fits a))
 
 -- the memory behind settle
 module _ (c : tie.After-settle) where
@@ -72,59 +88,60 @@ module _ (c : tie.After-settle) where
       let l = c .settle .last in
       memory (c .settle .result) (l .1 .1 .1 .1 .1 .1 .0) (l .1 .1 .1 .1 .1 .1 .1 .0) (l .1 .1 .1 .1 .1 .1 .1 .1 .0) (l .1 .1 .1 .1 .1 .1 .1 .1 .1 .0) (l .1 .1 .1 .1 .1 .1 .1 .1 .1 .1 .0) (l .1 .1 .1 .1 .1 .1 .1 .1 .1 .1 .1 .0)
 
-  settled-is : settled ≡ memoryThen (resetsBy (first (c .before .before .before .before .before .before .before) .args .kind)) (begun (first (c .before .before .before .before .before .before .before)))
+  settled-is : settled ≡ memoryThen (resetsBy (first (settle·written-of c) .args .kind)) (brings (first (settle·written-of c) .args .time) (begun (first (settle·written-of c)))) (begun (first (settle·written-of c)))
   settled-is =
-      let a = c .before .before .before .before .before .before .before in
-      settled-at (begun (first a)) (first a .args .kind) _ _ (a .before .before .before .before .before .before .before .before .before .before .before .before .decide .ensures) _ _ (a .before .start-pid .ensures) (a .written-of .ensures) settled (c .settle .ensures)
+      let a = settle·written-of c in
+      settled-at (begun (first a)) (first a .args .kind) _ _ (written-of·decide a .decide .ensures) (brings (first a .args .time) (begun (first a))) _ _ (written-of·start-pid a .start-pid .ensures) (written a) settled (c .settle .ensures)
 
 event-rows-requires : tie.Need-event-rows-requires
 event-rows-requires c κs =
-    let a = c .before .before .before .before .before .before .before .before .before .before .before .before .before .before .before .before .before .before .before .before .before .before .before .before .before .before .before .before .before .before .before .before .before in
+    let a = event-rows-requires·written-of c in
     let s = first a in
-    able-at (begun s) (s .args .kind) (flags a) (settled (c .before .before .before .before .before .before .before .before .before .before .before .before .before .before .before .before .before .before .before .before .before .before .before .before .before .before)) (settled-is (c .before .before .before .before .before .before .before .before .before .before .before .before .before .before .before .before .before .before .before .before .before .before .before .before .before .before))
-    (event-ables (begun s) (s .pre .0) (a .before .before .before .before .before .before .before .before .before .before .before .before .before .before .before .before .known .ensures) (s .pre .1 .0) (s .args .kind) (s .args .code) (s .args .time) (s .pre .1 .1) (byte a) (fits a))
+    able-at (begun s) (s .args .kind) (flags a) (brings (s .args .time) (begun s)) (settled (event-rows-requires·settle c)) (settled-is (event-rows-requires·settle c))
+    (event-ables (begun s) (s .pre .0) (written-of·known a .known .ensures) (s .pre .1 .0) (s .args .kind) (s .args .code) (s .args .time) (s .pre .1 .1) (byte a) (fits a))
 
 same-length : tie.Need-same-length
-same-length c = c .before .before .before .before .before .before .before .before .before .before .before .before .before .before .before .before .before .before .before .before .before .before .before .before .put-event .kept .1 .1 .1 .1 .0
+same-length c = returns-2·put-event c .put-event .kept .1 .1 .1 .1 .0
 
 same-length-2 : tie.Need-same-length-2
-same-length-2 c = c .before .before .before .before .before .before .before .before .before .before .before .before .before .before .before .before .before .before .before .before .before .before .before .before .put-event .kept .1 .1 .1 .1 .1 .0
+same-length-2 c = returns-2·put-event c .put-event .kept .1 .1 .1 .1 .1 .0
 
 same-length-3 : tie.Need-same-length-3
-same-length-3 c = c .before .before .before .before .before .before .before .before .before .before .before .before .before .before .before .before .before .before .before .before .before .before .before .before .put-event .kept .1 .1 .1 .1 .1 .1 .0
+same-length-3 c = returns-2·put-event c .put-event .kept .1 .1 .1 .1 .1 .1 .0
 
 same-length-4 : tie.Need-same-length-4
-same-length-4 c = c .before .before .before .before .before .before .before .before .before .before .before .event-rows .kept .1 .1 .1 .1 .1 .1 .1 .0 ∙ c .before .before .before .before .before .before .before .before .before .before .before .before .before .before .before .before .before .before .before .before .before .before .before .before .before .before .before .before .before .before .before .before .before .before .before .before .before .before .settle .kept .1 .1 .1 .1 .1 .1 .1 .0
+same-length-4 c = returns-2·event-rows c .event-rows .kept .1 .1 .1 .1 .1 .1 .1 .0 ∙ returns-2·settle c .settle .kept .1 .1 .1 .1 .1 .1 .1 .0
 
 same-length-5 : tie.Need-same-length-5
-same-length-5 c = c .before .before .before .before .before .before .before .before .before .before .before .event-rows .kept .1 .1 .1 .1 .1 .1 .1 .1 .0 ∙ c .before .before .before .before .before .before .before .before .before .before .before .before .before .before .before .before .before .before .before .before .before .before .before .before .before .before .before .before .before .before .before .before .before .before .before .before .before .before .settle .kept .1 .1 .1 .1 .1 .1 .1 .1 .0
+same-length-5 c = returns-2·event-rows c .event-rows .kept .1 .1 .1 .1 .1 .1 .1 .1 .0 ∙ returns-2·settle c .settle .kept .1 .1 .1 .1 .1 .1 .1 .1 .0
 
 same-length-6 : tie.Need-same-length-6
-same-length-6 c = c .before .before .before .before .before .before .before .before .before .before .before .event-rows .kept .1 .1 .1 .1 .1 .1 .1 .1 .1 .0 ∙ c .before .before .before .before .before .before .before .before .before .before .before .before .before .before .before .before .before .before .before .before .before .before .before .before .before .before .before .before .before .before .before .before .before .before .before .before .before .before .settle .kept .1 .1 .1 .1 .1 .1 .1 .1 .1 .0
+same-length-6 c = returns-2·event-rows c .event-rows .kept .1 .1 .1 .1 .1 .1 .1 .1 .1 .0 ∙ returns-2·settle c .settle .kept .1 .1 .1 .1 .1 .1 .1 .1 .1 .0
 
 same-length-7 : tie.Need-same-length-7
-same-length-7 c = c .before .before .before .before .before .before .before .before .before .before .before .event-rows .kept .1 .1 .1 .1 .1 .1 .1 .1 .1 .1 .0 ∙ c .before .before .before .before .before .before .before .before .before .before .before .before .before .before .before .before .before .before .before .before .before .before .before .before .before .before .before .before .before .before .before .before .before .before .before .before .before .before .settle .kept .1 .1 .1 .1 .1 .1 .1 .1 .1 .1 .0
+same-length-7 c = returns-2·event-rows c .event-rows .kept .1 .1 .1 .1 .1 .1 .1 .1 .1 .1 .0 ∙ returns-2·settle c .settle .kept .1 .1 .1 .1 .1 .1 .1 .1 .1 .1 .0
 
 same-length-8 : tie.Need-same-length-8
-same-length-8 c = c .before .before .before .before .before .before .before .before .before .before .before .event-rows .kept .1 .1 .1 .1 .1 .1 .1 .1 .1 .1 .1 .0 ∙ c .before .before .before .before .before .before .before .before .before .before .before .before .before .before .before .before .before .before .before .before .before .before .before .before .before .before .before .before .before .before .before .before .before .before .before .before .before .before .settle .kept .1 .1 .1 .1 .1 .1 .1 .1 .1 .1 .1 .0
+same-length-8 c = returns-2·event-rows c .event-rows .kept .1 .1 .1 .1 .1 .1 .1 .1 .1 .1 .1 .0 ∙ returns-2·settle c .settle .kept .1 .1 .1 .1 .1 .1 .1 .1 .1 .1 .1 .0
 
 returns-2 : tie.Need-returns-2
 returns-2 c =
-    let a = c .before .before .before .before .before .before .before .before .before .before .before .before .before .before .before .before .before .before .before .before .before .before .before .before .before .before .before .before .before .before .before .before .before .before .before .before .before .before .before .before .before .before .before .before .before in
+    let a = returns-2·written-of c in
     let s = first a in
-    let l = c .before .before .before .before .before .before .before .before .before .before .before .event-rows .last in
-    let m = memory (c .before .before .before .before .before .before .before .before .before .before .before .event-rows .result) (l .1 .1 .1 .1 .1 .1 .0) (l .1 .1 .1 .1 .1 .1 .1 .0) (l .1 .1 .1 .1 .1 .1 .1 .1 .0) (l .1 .1 .1 .1 .1 .1 .1 .1 .1 .0) (l .1 .1 .1 .1 .1 .1 .1 .1 .1 .1 .0) (l .1 .1 .1 .1 .1 .1 .1 .1 .1 .1 .1 .0) in
-    let put = c .before .before .before .before .before .before .before .before .before .before .before .before .before .before .before .before .before .before .before .before .before .before .before .before .put-event .ensures in
-    event-returns (begun s) (s .args .kind) (s .args .code) (s .args .time) m _ _ _ _ _
-    (event-accepted (begun s) (s .pre .0) (a .before .before .before .before .before .before .before .before .before .before .before .before .before .before .before .before .known .ensures) (s .pre .1 .0) (s .args .kind) (s .args .code) (s .args .time) (s .pre .1 .1) (byte a) (fits a))
-    (rows-at (begun s) (s .args .kind) (flags a) (settled (c .before .before .before .before .before .before .before .before .before .before .before .before .before .before .before .before .before .before .before .before .before .before .before .before .before .before .before .before .before .before .before .before .before .before .before .before .before .before)) (settled-is (c .before .before .before .before .before .before .before .before .before .before .before .before .before .before .before .before .before .before .before .before .before .before .before .before .before .before .before .before .before .before .before .before .before .before .before .before .before .before)) m (c .before .before .before .before .before .before .before .before .before .before .before .event-rows .ensures))
-    (decoder-at (begun s) (s .args .kind) _ _ (a .before .before .before .before .before .before .before .before .before .before .before .before .decide .ensures) (a .before .before .before .before .before .before .before .before .before .before .before .before .before .before .before .before .before .before .room-of .ensures) (c .event-decoder .result) (c .before .before .before .before .before .before .before .before .before .before .before .event-rows .result) (c .event-decoder .ensures))
+    let l = returns-2·event-rows c .event-rows .last in
+    let m = memory (returns-2·event-rows c .event-rows .result) (l .1 .1 .1 .1 .1 .1 .0) (l .1 .1 .1 .1 .1 .1 .1 .0) (l .1 .1 .1 .1 .1 .1 .1 .1 .0) (l .1 .1 .1 .1 .1 .1 .1 .1 .1 .0) (l .1 .1 .1 .1 .1 .1 .1 .1 .1 .1 .0) (l .1 .1 .1 .1 .1 .1 .1 .1 .1 .1 .1 .0) in
+    let put = returns-2·put-event c .put-event .ensures in
+    event-returns (begun s) (s .args .kind) (s .args .code) (s .args .time) _ (stamp-is a) m _ _ _ _ _
+    (event-accepted (begun s) (s .pre .0) (written-of·known a .known .ensures) (s .pre .1 .0) (s .args .kind) (s .args .code) (s .args .time) (s .pre .1 .1) (byte a) (fits a))
+    (rows-at (begun s) (s .args .kind) (flags a) (brings (s .args .time) (begun s)) (settled (returns-2·settle c)) (settled-is (returns-2·settle c)) m (returns-2·event-rows c .event-rows .ensures))
+    (decoder-at (begun s) (s .args .kind) _ _ (written-of·decide a .decide .ensures) (written-of·room-of a .room-of .ensures) (c .event-decoder .result) (returns-2·event-rows c .event-rows .result) (c .event-decoder .ensures))
     (flags a .row) (put .0) (put .1 .0) (put .1 .1)
 
 pub event-in-spec : {M : Type 1} → statement M
 event-in-spec =
     tie.close
     (tie.spec
+    (λ c κs. tt)
     (λ c κs. tt)
     (λ c κs. tt)
     decide-requires

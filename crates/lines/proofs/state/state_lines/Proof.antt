@@ -13,6 +13,8 @@ use Rattle.lines.proofs.Turns.{begin, turn-room, turn, finished}
 use Rattle.lines.proofs.States.{stops-within, bytes-are}
 use Rattle.lines.proofs.state.state_lines.Statement.{statement}
 use Rattle.lines.proofs.state.state_lines.Tie as tie
+mod Places
+use Places.*
 
 abbrev lineAt : ℕ → List ℕ → ℕ → List ℕ → ℕ → List ℕ
 lineAt n states m statebytes i = stateLine i (stateBytes n states m statebytes i)
@@ -26,17 +28,17 @@ abbrev μ-loop : tie.MeasureT-loop
 
 -- where the row's bytes are known
 module _ (c : tie.After-size-of Inv-loop μ-loop) where
-  stops : c .before .before .start-of .result + c .size-of .result ≤ length (c .before .before .before .before .before .before .before .before .args .statebytes .now)
-  stops = let a = c .before .before .before .before .before .before .before .before .args in omega (arith, stops-within (a .n) (a .states .now) (a .m) (c .before .before .before .before .loop .i) (c .before .before .start-of .ensures) (c .before .end-of .ensures) (c .size-of .ensures), c .before .before .before .before .before .before .before .before .pre .1 .0)
+  stops : size-of·start-of c .start-of .result + c .size-of .result ≤ length (size-of·Start c .args .statebytes .now)
+  stops = let a = size-of·Start c .args in omega (arith, stops-within (a .n) (a .states .now) (a .m) (size-of·At-loop c .loop .i) (size-of·start-of c .start-of .ensures) (size-of·end-of c .end-of .ensures) (c .size-of .ensures), size-of·Start c .pre .1 .0)
 
   lines-are :
-      stateLine (c .before .before .before .before .loop .i) (take (c .before .before .start-of .result + c .size-of .result - c .before .before .start-of .result) (drop (c .before .before .start-of .result) (c .before .before .before .before .before .before .before .before .args .statebytes .now)))
-      ≡ lineAt (c .before .before .before .before .before .before .before .before .args .n) (c .before .before .before .before .before .before .before .before .args .states .now) (c .before .before .before .before .before .before .before .before .args .m) (c .before .before .before .before .before .before .before .before .args .statebytes .now) (c .before .before .before .before .loop .i)
-  lines-are = let a = c .before .before .before .before .before .before .before .before .args in ap (stateLine (c .before .before .before .before .loop .i)) (bytes-are (a .n) (a .states .now) (a .m) (c .before .before .before .before .loop .i) (c .before .before .start-of .ensures) (c .before .end-of .ensures) (c .size-of .ensures) (a .statebytes .now))
+      stateLine (size-of·At-loop c .loop .i) (take (size-of·start-of c .start-of .result + c .size-of .result - size-of·start-of c .start-of .result) (drop (size-of·start-of c .start-of .result) (size-of·Start c .args .statebytes .now)))
+      ≡ lineAt (size-of·Start c .args .n) (size-of·Start c .args .states .now) (size-of·Start c .args .m) (size-of·Start c .args .statebytes .now) (size-of·At-loop c .loop .i)
+  lines-are = let a = size-of·Start c .args in ap (stateLine (size-of·At-loop c .loop .i)) (bytes-are (a .n) (a .states .now) (a .m) (size-of·At-loop c .loop .i) (size-of·start-of c .start-of .ensures) (size-of·end-of c .end-of .ensures) (c .size-of .ensures) (a .statebytes .now))
 
 loop-holds : tie.Need-loop-holds Inv-loop μ-loop
 unfolding stateLines
-loop-holds c = let a = c .before .before .before .args in (search needs, begin (lineAt (a .n) (a .states .now) (a .m) (a .statebytes .now)) (a .n))
+loop-holds c = let a = loop-holds·Start c .args in (search needs, begin (lineAt (a .n) (a .states .now) (a .m) (a .statebytes .now)) (a .n))
 
 start-of-requires : tie.Need-start-of-requires Inv-loop μ-loop
 start-of-requires c κs = search needs
@@ -57,10 +59,10 @@ part-state-line-start : tie.Need-part-state-line-start Inv-loop μ-loop
 part-state-line-start c = search needs
 
 part-state-line-end : tie.Need-part-state-line-end Inv-loop μ-loop
-part-state-line-end c = omega (arith, stops (c .before))
+part-state-line-end c = omega (arith, stops (part-state-line-end·size-of c))
 
 state-line-requires : tie.Need-state-line-requires Inv-loop μ-loop
-state-line-requires c κs = let l = c .before .before .before .before .before .before in let s = l .before .before .before .before in let a = s .args in turn-room (lineAt (a .n) (a .states .now) (a .m) (a .statebytes .now)) (l .loop .i) (a .n) (l .loop .inv .1) (c .before .before .before .before .before .loop-test .taken) (lines-are (c .before .before)) (s .pre .1 .1)
+state-line-requires c κs = let l = state-line-requires·At-loop c in let s = At-loop·Start l in let a = s .args in turn-room (lineAt (a .n) (a .states .now) (a .m) (a .statebytes .now)) (l .loop .i) (a .n) (l .loop .inv .1) (state-line-requires·In-loop c .loop-test .taken) (lines-are (state-line-requires·size-of c)) (s .pre .1 .1)
 
 add-i : tie.Need-add-i Inv-loop μ-loop
 add-i c = search needs
@@ -69,13 +71,13 @@ loop-less : tie.Need-loop-less Inv-loop μ-loop
 loop-less c = search needs
 
 loop-again : tie.Need-loop-again Inv-loop μ-loop
-loop-again c = let l = c .before .before .before .before .before .before .before .before .before in let a = l .before .before .before .before .args in (search needs, turn (lineAt (a .n) (a .states .now) (a .m) (a .statebytes .now)) (l .loop .i) (a .n) (l .loop .inv .1) (c .before .before .before .before .before .before .before .before .loop-test .taken) (lines-are (c .before .before .before .before .before)) (c .before .before .state-line .ensures))
+loop-again c = let l = loop-again·At-loop c in let a = At-loop·Start l .args in (search needs, turn (lineAt (a .n) (a .states .now) (a .m) (a .statebytes .now)) (l .loop .i) (a .n) (l .loop .inv .1) (loop-again·In-loop c .loop-test .taken) (lines-are (loop-again·size-of c)) (loop-again·state-line c .state-line .ensures))
 
 same-length : tie.Need-same-length Inv-loop μ-loop
-same-length c = c .before .loop .inv .1 .kept
+same-length c = returns·At-loop c .loop .inv .1 .kept
 
 returns : tie.Need-returns Inv-loop μ-loop
-returns c = let a = c .before .before .before .before .before .args in finished (lineAt (a .n) (a .states .now) (a .m) (a .statebytes .now)) (c .before .loop .i) (a .n) (c .before .loop .inv .1) (c .loop-test .left)
+returns c = let a = returns·Start c .args in finished (lineAt (a .n) (a .states .now) (a .m) (a .statebytes .now)) (returns·At-loop c .loop .i) (a .n) (returns·At-loop c .loop .inv .1) (c .loop-test .left)
 
 pub state-lines-spec : {M : Type 1} → statement M
 state-lines-spec =

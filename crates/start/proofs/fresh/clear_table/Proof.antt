@@ -4,6 +4,7 @@ use native.Mathlib.Omega.{arith}
 use mathlib.Core.Path.{_≡_}
 use borrow.Author.Needs.{needs}
 use lib.ListN.{length, getD, length-set}
+use Rattle.endpoints.specs.Word as word
 use Rattle.start.proofs.Making.{cleared-next, cleared-all}
 use Rattle.start.proofs.fresh.clear_table.Statement.{statement}
 use Rattle.start.proofs.fresh.clear_table.Tie as tie
@@ -11,10 +12,10 @@ mod Places
 use Places.*
 
 abbrev Inv-loop : tie.InvT-loop
-Inv-loop table₀ i₀ table i = (i ≤ 2176) × ((length table ≡ length table₀) × ((k : ℕ) → k < i → getD table k 0 ≡ 0))
+Inv-loop table₀ i₀ table i = (i ≤ word.table) × ((length table ≡ length table₀) × ((k : ℕ) → k < i → getD table k 0 ≡ 0))
 
 abbrev μ-loop : tie.MeasureT-loop
-μ-loop table₀ i₀ table i = 2176 - i
+μ-loop table₀ i₀ table i = word.table - i
 
 loop-holds : tie.Need-loop-holds Inv-loop μ-loop
 loop-holds c = (search needs, (search needs, λ k l. absurd (omega arith)))

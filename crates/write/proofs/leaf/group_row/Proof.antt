@@ -29,7 +29,7 @@ add-d : tie.Need-add-d
 add-d c = search needs
 
 add-d-2 : tie.Need-add-d-2
-add-d-2 c = let s = add-d-2·Start c in search (needs, s .pre .1 .1 .1, s .good, s .fits)
+add-d-2 c = let s = add-d-2·Start c in record { fits = omega (arith, s .pre .1 .1 .1, s .fits) }
 
 same-length : tie.Need-same-length
 same-length c = search needs

@@ -12,10 +12,10 @@ use Rattle.write_packet.proofs.leaf.open_rows.Statement.{statement}
 use Rattle.write_packet.proofs.leaf.open_rows.Tie as tie
 
 opened-hand-requires : tie.Need-opened-hand-requires
-opened-hand-requires c κs = (omega (arith, c .before .before .before .pre .1 .transactions, length-sets (c .before .before .before .args .transactions .now) (c .before .before .before .args .h .transactions * transactionWidth) (transactionWordsIf (c .before .before .before .args .id) (c .before .before .before .args .s))), (omega (arith, c .before .before .before .pre .1 .devices, length-sets (c .before .before .before .args .devices .now) (c .before .before .before .args .h .devices) (deviceWords (c .before .before .before .args .s))), omega (arith, c .before .before .before .pre .0)))
+opened-hand-requires c κs = (omega (arith, c .before .before .before .pre .1 .transactions, length-sets (c .before .before .before .args .transactions .now) (c .before .before .before .args .h .transactions * transactionWidth) (transactionWordsIf (c .before .before .before .args .h .written .stamp) (c .before .before .before .args .s))), (omega (arith, c .before .before .before .pre .1 .devices, length-sets (c .before .before .before .args .devices .now) (c .before .before .before .args .h .devices) (deviceWords (c .before .before .before .args .s))), omega (arith, c .before .before .before .pre .0)))
 
 put-transaction-requires : tie.Need-put-transaction-requires
-put-transaction-requires c κs = row-fits (c .before .before .before .before .before .args .s .row) (c .before .before .before .before .before .args .id) (c .before .before .before .before .before .args .h .transactions) (c .before .before .before .before .before .args .transactions .now) (c .before .before .before .before .before .pre .1 .transactions)
+put-transaction-requires c κs = row-fits (c .before .before .before .before .before .args .s .row) (c .before .before .before .before .before .args .h .written .stamp .packet) (c .before .before .before .before .before .args .h .transactions) (c .before .before .before .before .before .args .transactions .now) (c .before .before .before .before .before .pre .1 .transactions)
 
 cast-put1-if : tie.Need-cast-put1-if
 cast-put1-if c = search needs
