@@ -9,7 +9,7 @@ use lib.Dec.{ltb}
 use lib.ListN.{length}
 use borrow.Author.Tests.{leb-true, ltb-true, eq-eqb, le-leb, lt-ltb}
 use Rattle.pcap.specs.Numbers.{numberAt}
-use Rattle.pcap.specs.Pcap.{captured, original, complete, below, judged, bodyAt, nextAt}
+use Rattle.pcap.specs.Pcap.{captured, original, complete, below, judged, bodyAt, nextAt, timeOf}
 use Rattle.pcap.specs.declared.Format.{Format}
 use Rattle.pcap.specs.declared.Next.{Next}
 use Rattle.pcap.specs.declared.Next.the-variants.{Packet, Cut, Fraction, End}
@@ -68,3 +68,7 @@ module _ (f : Format) (t : List ℕ) (at : ℕ) where
   unfolding bodyAt
   packet-of n m fraction seconds en em ef es h d l =
       rw (← en, ← em, ← ef, ← es, le-leb _ _ h, eq-eqb _ _ d, lt-ltb _ _ l)
+
+-- the time of such a packet is a word, so that `time` tells it as it is
+pub time-fits : (f : Format) (seconds fraction : ℕ) → seconds < 2 ^ 32 → fraction * f .unit < 10 ^ 9 → timeOf f seconds fraction < 2 ^ 64
+time-fits f seconds fraction h g = omega arith

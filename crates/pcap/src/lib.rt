@@ -1,7 +1,7 @@
 // A classic pcap file of USB packets (link type 288): its head, and its records taken one at a time. Both byte orders, and times in
 // microseconds or nanoseconds.
 ghost use mathlib.Core.Path.{_≡_};
-ghost use Prim.Native.Nat.{_+_, _*_, _^_, _≤_, _<_};
+ghost use Prim.Native.Nat.{_+_, _*_, _%_, _^_, _≤_, _<_};
 ghost use mathlib.Core.List.{[], _∷_};
 ghost use lib.ListN.{length};
 ghost use Rattle.usb.specs.Bits.{number};
@@ -201,11 +201,12 @@ pub fn answer(n: Next) -> u8
     }
 }
 
-// A packet's time in nanoseconds.
+// A packet's time in nanoseconds. Of a packet that `next_record` gave it is far below 2^64; of any other numbers it is told modulo that.
 pub fn time(f: Format, seconds: u32, fraction: u32) -> u64
-    requires { ⌜ fraction * f .unit < 10 ^ 9 ⌝ }
-    ensures { λ r. ⌜ r ≡ timeOf f seconds fraction ⌝ }
+    ensures { λ r. ⌜ r ≡ timeOf f seconds fraction % 2 ^ 64 ⌝ }
 {
     let unit = f.unit;
-    seconds as u64 * SECOND + fraction as u64 * unit as u64
+    let whole = seconds as u64 * SECOND;
+    let part = fraction as u64 * unit as u64;
+    std::num::wrapping_add_u64(whole, part)
 }
