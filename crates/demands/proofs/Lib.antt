@@ -3,3 +3,4 @@ pub mod Told
 pub mod Kept
 pub mod Never
 pub mod Meets
+pub mod Blocks

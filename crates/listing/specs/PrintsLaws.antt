@@ -2,7 +2,7 @@
 -- Assumes nothing.
 use Prim.Native.Nat.{ℕ, zero, suc, _+_, _*_, _≤_, _<_}
 use native.Mathlib.Omega.{arith}
-use mathlib.Core.Bool.{Bool, true, false, not, true≢false}
+use mathlib.Core.Bool.{Bool, true, false, not}
 use mathlib.Core.List.{List}
 use mathlib.Core.Path.{_≡_, refl, sym, ap, _∙_}
 use lib.ListN.{length}
@@ -44,9 +44,8 @@ finish-within {a} {s} {s′} f e =
     rw (left .decoder, same-room w (s .decoder .counts) (s .logs) (s′ .logs) (left .logs)) h
 
 runs-within : {trace : List ℕ} {at a p : ℕ} {c : Clock} {s s′ : State} → Runs trace at c s a p s′ → a ≡ 0 → Within (s′ .decoder .counts) (roomOf (s′ .logs))
-runs-within (Runs.ends k f) e = finish-within f e
-runs-within (Runs.stops g h) e = absurd (true≢false (ap accepts (sym e) ∙ h))
-runs-within (Runs.goes a g h r) e = runs-within r e
+runs-within (Runs.ends x f) e = finish-within f e
+runs-within (Runs.stops x h) e = absurd (h e)
 
 pub ran-within : {trace t : List ℕ} {l : Logs} {a p : ℕ} {s : State} → Ran trace t l a p s → a ≡ 0 → Within (s .decoder .counts) (roomOf (s .logs))
 ran-within (Ran.wrong h) e = absurd (h e)

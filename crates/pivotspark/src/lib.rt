@@ -1,4 +1,5 @@
-// What C and Rust programs call, under names that begin with the project's: the packet check and the CRC16, group_status in words, whole traces.
+// What C and Rust programs call, under names that begin with the project's: the packet check and the CRC16, group_status in words, whole traces, blocks of records.
+pub mod blocks;
 pub mod groups;
 pub mod packets;
 pub mod traces;

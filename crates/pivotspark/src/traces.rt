@@ -7,14 +7,14 @@ ghost use Rattle.call.specs.State.{logs};
 ghost use Rattle.pivotspark.specs.Told.{told, counted, Told};
 
 // The answer in the top byte, the place below it.
-fn tell(answer: u8, place: usize) -> u64
+pub fn tell(answer: u8, place: usize) -> u64
     ensures { λ r. ⌜ r ≡ told answer place ⌝ }
 {
     72057594037927936 * (answer as u64) + place as u64 % 72057594037927936
 }
 
 // Twelve counts, one behind the other, where there are words for all of them.
-fn put_counts(counts: &mut [u64], n: Counts)
+pub fn put_counts(counts: &mut [u64], n: Counts)
     ensures { λ r. ⌜ now (counts .exit) ≡ counted (now (counts .entry)) n ⌝ }
 {
     if counts.len() < 12 {

@@ -6,22 +6,19 @@ use mathlib.Core.Path.{_≡_, refl, sym, ap, subst}
 use lib.ListN.{length, take}
 use Rattle.endpoints.specs.Word as word
 use Rattle.rows.specs.WidthsLaws.{log-number}
-use Rattle.rules.specs.Demand.{packet, event, detail, finishing}
+use Rattle.rules.specs.Demand.{finishing}
 use Rattle.rules.specs.Rows.{Row, log}
 use Rattle.text.specs.Lines.{stateLine}
-use Rattle.trace.specs.Clock.{tickOf}
-use Rattle.trace.specs.Trace.{nextAt}
-use Rattle.trace.specs.declared.Next.{Next}
-use Rattle.trace.specs.declared.Next.the-variants.{Packet, Event, Detail, Unknown, Cut, End}
 use Rattle.trace.specs.declared.clock.Clock.{Clock}
 use Rattle.record.specs.RoomLaws.{Within}
 use Rattle.call.specs.OutcomeLaws.{sound}
 use Rattle.call.specs.State.{Logs, State, roomBy, roomOf}
 use Rattle.lines.specs.Listing.{stateBytes, stateLines}
-use Rattle.run.specs.Run.{Gives, Runs, Ran}
-use Rattle.run.specs.Run.Runs.{ends, stops, goes}
+use Rattle.run.specs.Run.{Runs, Ran}
+use Rattle.run.specs.Run.Runs.{ends, stops}
 use Rattle.run.specs.Run.Ran.{wrong, refused, runs}
 use Rattle.demands.specs.Sequence.{Sequence, made, then, Meets}
+use Rattle.demands.proofs.Blocks.{block-sequence}
 use Rattle.demands.proofs.Meets.{meets}
 use Rattle.states.specs.Whole.{rows, bytesAt, Whole, Comes, ListedWhole}
 use Rattle.states.proofs.Tiled.{Stepped, wider, stepped}
@@ -54,19 +51,10 @@ whole {js} {s} q =
 
 -- ---- a run
 
--- a record is a call, or none
-one : (trace : List ℕ) (n : Next) (c : Clock) {s : State} (a : ℕ) (s′ : State) → Comes s → Gives trace n c s a s′ → Comes s′
-one trace (Packet ticks start end next) c a s′ q g = record { history = _; sequence = then (packet _ _) a s′ (q .sequence) g }
-one trace (Event ticks kind code next) c a s′ q g = record { history = _; sequence = then (event kind code (tickOf c ticks .time)) a s′ (q .sequence) g }
-one trace (Detail address number direction kind max next) c a s′ q g = record { history = _; sequence = then (detail address number direction kind max) a s′ (q .sequence) g }
-one trace Unknown c a s′ q g = subst Comes (sym (g .1)) q
-one trace Cut c a s′ q g = subst Comes (sym (g .1)) q
-one trace End c a s′ q g = absurd g
-
+-- its records are a block, and finish is one call more
 records : {trace : List ℕ} {at a p : ℕ} {c : Clock} {s s′ : State} → Comes s → Runs trace at c s a p s′ → Comes s′
-records q (ends e f) = record { history = _; sequence = then finishing _ _ (q .sequence) f }
-records {trace} {at} {c = c} q (stops g h) = one trace (nextAt trace at) c _ _ q g
-records {trace} {at} {c = c} q (goes a g h r) = records (one trace (nextAt trace at) c a _ q g) r
+records q (ends x f) = let b = block-sequence (q .sequence) x in record { history = _; sequence = then finishing _ _ (b .sequence) f }
+records q (stops x h) = let b = block-sequence (q .sequence) x in record { history = _; sequence = b .sequence }
 
 pub comes : {trace t : List ℕ} {l : Logs} {a p : ℕ} {s : State} → length t ≡ word.table → Ran trace t l a p s → a ≡ 0 → Comes s
 comes ht (wrong h) e = absurd (h e)

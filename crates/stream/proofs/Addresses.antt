@@ -15,7 +15,16 @@ use Rattle.details.specs.declared.Found.the-variants.{At}
 use Rattle.packet.specs.After.{rowBy, addedBy, changed, Placed}
 use Rattle.packet.specs.declared.change.Change.{Change}
 use Rattle.packet.proofs.Changes.{changed-by}
-use Rattle.stream.specs.Addresses.{Addressed, isAddress, foundAddress}
+use Rattle.usb.specs.Fields.{tokenOf}
+use Rattle.usb.specs.declared.fields.Token.{Token}
+use Rattle.details.specs.declared.Found.{Found}
+use Rattle.endpoints.specs.Table.{entryAt}
+use Rattle.endpoints.specs.declared.Endpoint.{Endpoint}
+use Rattle.record.specs.declared.Decoder.{Decoder}
+use Rattle.plan.specs.Packet.{oldEndpoint}
+use Rattle.decide.specs.Near.{placeIn}
+use Rattle.stream.specs.Addresses.{Addressed, isAddress, foundAddress, sightOf}
+use Rattle.stream.specs.declared.sight.Sight.{Sight}
 
 -- what is found by the addresses is what is found in the devices
 pub found-same : {a : List ℕ} {v : List Device} → Addressed 64 a v → (n x : ℕ) → n ≤ 64 → foundAddress a n x ≡ foundDevice v n x
@@ -69,3 +78,11 @@ pub addressed-changed : {a : List ℕ} {v : List Device} → Addressed 64 a v �
 addressed-changed {a} {v} h many c p {x} {y} e f =
     subst (λ (u : List Device). Addressed 64 (set (set a (c .place) (x .address)) (c .at) (y .address)) u) (changed-by c v e f)
     (addressed-set (addressed-set h many (c .place) (p .place) x) (length-set v (c .place) x ∙ many) (c .at) (p .at) y)
+
+-- where a packet's details are looked for, as the code finds it
+pub sight-by : (a : List ℕ) (d : Decoder) (table packet : List ℕ) {t : Token} {f : Found} {p : ℕ} {e : Endpoint}
+    → t ≡ tokenOf packet → f ≡ foundAddress a (d .counts .devices) (t .address) → p ≡ placeIn f → e ≡ entryAt table (oldEndpoint (d .slot) (d .transaction))
+    → record { found = f; place = p; number = t .number; owner = e .device; address = e .address } ≡ sightOf a d table packet
+sight-by a d table packet {t} {f} {p} {e} q r h k =
+    let g = r ∙ ap (λ (x : Token). foundAddress a (d .counts .devices) (x .address)) q in
+    λ i. record { found = g i; place = (h ∙ ap placeIn g) i; number = q i .number; owner = k i .device; address = k i .address }

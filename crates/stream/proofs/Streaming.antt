@@ -1,158 +1,208 @@
--- The laws of the loop: what holds before each packet, that it lets packet_in be called, and how one packet more carries it on.
+-- The laws of the loop over packets: what holds before each of them, that it lets packet_in be called, and how one packet more carries it on.
 use Prim.Native.Nat.{ℕ, _+_, _-_, _<_, _≤_}
 use native.Mathlib.Omega.{arith}
-use mathlib.Core.Bool.{Bool, true, false}
+use mathlib.Core.Bool.{Bool, true, false, _&&_, cond, true≢false}
 use mathlib.Core.List.{List}
 use mathlib.Core.Path.{_≡_, refl, sym, ap, subst, _∙_}
-use borrow.Author.Tests.{lt-ltb}
-use lib.ListN.{length, getD, length-drop}
+use borrow.Author.Tests.{leb-true}
+use lib.Dec.{eqb, leb, ltb}
+use lib.ListN.{length, getD, take, drop, length-drop}
 use lib.Seq.{length-take-le}
-use Rattle.endpoints.specs.Word as word
+use Rattle.rows.specs.One.{one}
 use Rattle.usb.specs.Fields.{tokenOf}
-use Rattle.usb.specs.declared.fields.Token.{Token}
 use Rattle.details.specs.Details.{detailsOf}
 use Rattle.details.specs.Search.{blank}
 use Rattle.details.specs.Lookup.{foundDevice}
-use Rattle.endpoints.specs.Table.{entryAt}
-use Rattle.details.specs.declared.Detail.{Detail}
 use Rattle.details.specs.declared.Device.{Device}
-use Rattle.endpoints.specs.declared.Endpoint.{Endpoint}
 use Rattle.details.specs.declared.Found.{Found}
-use Rattle.record.specs.Answers.{firstOf, packetTests}
+use Rattle.endpoints.specs.Table.{entryAt}
+use Rattle.endpoints.specs.declared.Endpoint.{Endpoint}
+use Rattle.record.specs.Bools.{both}
 use Rattle.plan.specs.Packet.{oldEndpoint}
-use Rattle.call.specs.Outcome.{isIll, accepts, decoderOf}
-use Rattle.call.specs.OutcomeLaws.{sound, refused}
-use Rattle.call.specs.State.{Logs, State, state, roomOf}
+use Rattle.trace.specs.Clock.{tickOf}
+use Rattle.trace.specs.Laws.{packet-inside}
+use Rattle.trace.specs.Trace.{nextAt}
+use Rattle.trace.specs.declared.Cursor.{Cursor}
+use Rattle.trace.specs.declared.Next.{Next}
+use Rattle.trace.specs.declared.Next.the-variants.{Packet, Event, Detail, Unknown, Cut, End}
+use Rattle.trace.specs.declared.clock.Clock.{Clock}
+use Rattle.call.specs.Outcome.{isIll, accepts}
+use Rattle.call.specs.OutcomeLaws.{sound}
+use Rattle.call.specs.State.{State, state, roomOf}
 use Rattle.call.specs.StateLaws.{SameSizes}
-use Rattle.start.specs.Fresh.{Makes, made}
 use Rattle.decide.specs.Near.{placeIn, nearBy}
-use Rattle.decide.specs.declared.near.Near.{Near}
 use Rattle.decide.specs.Ready.{Ready, ready}
+use Rattle.decide.specs.declared.near.Near.{Near}
 use Rattle.decide.proofs.Bounds.{old-there}
-use Rattle.decide.proofs.Places.{place-few, seen-by}
-use Rattle.packet.specs.Call.{testsOf, PacketCall}
+use Rattle.decide.proofs.Places.{number-small, place-few, seen-by}
+use Rattle.packet.specs.Call.{PacketCall}
 use Rattle.packet.specs.Lent.{Lent}
 use Rattle.sound.specs.Sound.{isSound}
 use Rattle.sound.proofs.Keeps.{kept}
-use Rattle.run_c.specs.Run.{endOf, Runs}
-use Rattle.run_c.proofs.Running.{Going, going-start, going-ends, going-between, going-stops, going-more, partOf}
-use Rattle.stream.specs.Addresses.{Addressed, foundAddress}
+use Rattle.stream.specs.Addresses.{Addressed, foundAddress, sightOf}
+use Rattle.step.specs.Block.{clockAfter, behind, Gives, Takes}
+use Rattle.step.specs.Block.Takes.{stops}
+use Rattle.stream.specs.Part.{isShort, partOf}
+use Rattle.step.specs.Step.{Goes}
+use Rattle.stream.specs.Leads.{Fits, Leads, Runs}
+use Rattle.stream.specs.declared.part.Part.{Part}
+use Rattle.stream.specs.declared.sight.Sight.{Sight}
 use Rattle.stream.proofs.Addresses.{found-same}
+use Rattle.stream.proofs.Leading.{leads-start, leads-one, leads-then, leads-over}
+use Rattle.step.proofs.Stepping.{here}
+
+-- ---- a packet that is taken
+
+pub record IsPart (b : Bool) (n : Next) (p : Part) : Type 0 where
+  pub ready : b ≡ true
+  pub next : Cursor
+  pub found : n ≡ Packet (p .ticks) (p .start) (p .end) next
+  pub place : p .next ≡ next .at
+  pub short : p .end - p .start ≤ 4096
+
+short-by : (start end : ℕ) (b : Bool) → cond b false (leb (end - start) 4096) ≡ true → end - start ≤ 4096
+short-by start end true h = absurd (true≢false (sym h))
+short-by start end false h = leb-true _ _ h
+
+part-by : (b : Bool) (n : Next) → partOf b n .taken ≡ true → IsPart b n (partOf b n)
+part-by b (Packet ticks start end next) h =
+    let g = both b (isShort start end) h in
+    record { ready = g .0; next = next; found = refl; place = refl; short = short-by start end (ltb end start) (g .1) }
+part-by b (Event ticks kind code next) h = absurd (true≢false (sym h))
+part-by b (Detail address number direction kind max next) h = absurd (true≢false (sym h))
+part-by b Unknown h = absurd (true≢false (sym h))
+part-by b Cut h = absurd (true≢false (sym h))
+part-by b End h = absurd (true≢false (sym h))
+
+pub part-is : (b : Bool) {n : Next} (n′ : Next) {p : Part} → n ≡ n′ → p ≡ partOf b n → p .taken ≡ true → IsPart b n′ p
+part-is b {n} n′ {p} q e h =
+    subst (λ (x : Next). IsPart b x p) q (subst (λ (x : Part). IsPart b n x) (sym e) (part-by b n (sym (ap (λ (x : Part). x .taken) e) ∙ h)))
 
 -- ---- the loop's invariant
 
--- the run goes on (run_c, Going) from a state that no packet finds ill or finished, and a has the addresses of its devices
-pub record Streaming (input : List ℕ) (s₀ : State) (at n end : ℕ) (s : State) (a : List ℕ) : Type 0 where
-  pub going : Going input s₀ at n end s
-  pub sound : isSound s ≡ true
-  pub unfinished : s .decoder .finished ≡ false
+-- the packets so far lead from s₀ to s, which no packet finds ill or finished where the loop is ready, and a has the addresses of its devices
+pub record Streaming (b : Bool) (t : List ℕ) (at₀ : ℕ) (c₀ : Clock) (s₀ : State) (n e at : ℕ) (c : Clock) (s : State) (a : List ℕ) : Type 0 where
+  pub leads : Leads t at₀ c₀ s₀ n e at c s
+  pub sizes : SameSizes (s₀ .logs) (s .logs)
+  pub fits : Fits b s
   pub many : length (s .devices) ≡ 64
   pub addressed : Addressed 64 a (s .devices)
 
-pub streaming-start : {input a : List ℕ} {s₀ : State} {end : ℕ} → isSound s₀ ≡ true → s₀ .decoder .finished ≡ false → length (s₀ .devices) ≡ 64 → Addressed 64 a (s₀ .devices) → end ≡ endOf input 0
-    → Streaming input s₀ 0 0 end s₀ a
-streaming-start h f m d e = record { going = going-start e; sound = h; unfinished = f; many = m; addressed = d }
+pub streaming-start : {b : Bool} (t : List ℕ) (at : ℕ) (c : Clock) {s : State} {a : List ℕ} → Fits b s → length (s .devices) ≡ 64 → Addressed 64 a (s .devices) → Streaming b t at c s 0 0 at c s a
+streaming-start t at c {s} f m d = record { leads = leads-start t at c s; sizes = λ k u. refl; fits = f; many = m; addressed = d }
 
--- ---- a packet that is too long
+-- a record that the loop does not take
+pub streaming-ends : {b : Bool} {t a : List ℕ} {at₀ n e at : ℕ} {c₀ c : Clock} {s₀ s : State} → Streaming b t at₀ c₀ s₀ n e at c s a
+    → Runs t at₀ c₀ s₀ (record { going = true; answer = 0; taken = n; eights = e; place = at; clock = c; decoder = s .decoder; devices = s .devices }) (s .table) (s .logs)
+streaming-ends g = record { leads = λ z. g .leads; over = λ z. absurd (true≢false z); counted = (g .leads .few, g .leads .eights) }
 
-long-first : (ill finished full over dropped : Bool) (len : ℕ) → ill ≡ false → finished ≡ false → 4096 < len → 3 ≡ firstOf (packetTests ill finished len full over dropped)
-unfolding firstOf
-long-first ill finished full over dropped len i f l = let e = lt-ltb 4096 len l in rw (i, f, e)
+-- with these devices
+pub streaming-with : {b : Bool} {t a : List ℕ} {at₀ n e at : ℕ} {c₀ c : Clock} {s₀ s : State} → Streaming b t at₀ c₀ s₀ n e at c s a → (v : List Device) → v ≡ s .devices
+    → Streaming b t at₀ c₀ s₀ n e at c (state (s .decoder) v (s .table) (s .logs)) a
+streaming-with {b} {t} {a} {at₀} {n} {e} {at} {c₀} {c} {s₀} {s} g v q = subst (λ (u : List Device). Streaming b t at₀ c₀ s₀ n e at c (state (s .decoder) u (s .table) (s .logs)) a) (sym q) g
 
-part-length : (input : List ℕ) (at end : ℕ) → at + 2 ≤ end → end ≤ length input → length (partOf input at end) ≡ end - (at + 2)
-part-length input at end h k = length-take-le (end - (at + 2)) _ (rw (length-drop) (omega arith))
+abbrev pub bytesOf : List ℕ → Part → List ℕ
+bytesOf t p = take (p .end - p .start) (drop (p .start) t)
 
-module _ {input a : List ℕ} {s₀ s : State} {at n end : ℕ} (g : Streaming input s₀ at n end s a) where
+module _ {b : Bool} {t a : List ℕ} {at₀ n e at : ℕ} {c₀ c : Clock} {s₀ s : State} {p : Part} (g : Streaming b t at₀ c₀ s₀ n e at c s a) (k : IsPart b (nextAt t at) p) where
+  pub streaming-unfinished : s .decoder .finished ≡ false
+  streaming-unfinished = g .fits .unfinished (k .ready)
+
   well : isIll s ≡ false
-  well = kept .well s (g .sound)
+  well = kept .well s (g .fits .sound (k .ready))
 
   pub streaming-ready : Ready (s .decoder) (s .table)
   streaming-ready = let w = sound s well in ready (s .decoder) (s .devices) (s .table) (roomOf (s .logs)) (w .0) (w .1)
 
-  pub streaming-ends : end ≡ 0 → Runs input 0 0 s₀ n 0 s
-  streaming-ends h = going-ends (g .going) h
+  pub streaming-bounds : (p .start ≤ p .end) × (p .end ≤ length t)
+  streaming-bounds =
+      let i = packet-inside t at (p .ticks) (p .start) (p .end) (k .next) (sym (k .found)) in
+      let last = i .last in
+      let stays = i .whole .stays in
+      (i .part, omega arith)
 
-  pub streaming-long : (end ≡ 0 → ⊥) → 4096 < end - (at + 2) → Runs input 0 0 s₀ n 3 s
-  streaming-long h l =
-      let b = going-between (g .going) h in
-      let e = part-length input at end (b .0) (b .1) in
-      going-stops (g .going) h (refused 3 (long-first (isIll s) (s .decoder .finished) _ _ _ (length (partOf input at end)) well (g .unfinished) (omega arith)) refl) refl
+  pub streaming-further : (at < p .next) × (p .next ≤ length t)
+  streaming-further =
+      let i = packet-inside t at (p .ticks) (p .start) (p .end) (k .next) (sym (k .found)) .whole in
+      let h = k .place in
+      (omega (arith, i .grows), omega (arith, i .stays))
 
-  -- ---- what packet_in asks
+  -- the counts stay below the place
+  pub streaming-counts : (n + 1 ≤ length t) × (e + 1 ≤ length t)
+  streaming-counts =
+      let f = streaming-further in
+      (omega (arith, g .leads .few), omega (arith, g .leads .few, g .leads .eights))
 
-  pub streaming-short : (end ≡ 0 → ⊥) → end - (at + 2) ≤ 4096 → length (partOf input at end) ≤ 4096
-  streaming-short h l =
-      let b = going-between (g .going) h in
-      let e = part-length input at end (b .0) (b .1) in
-      omega arith
-
-  found-is : (x : ℕ) {f : Found} → f ≡ foundAddress a (s .decoder .counts .devices) x → f ≡ foundDevice (s .devices) (s .decoder .counts .devices) x
-  found-is x e = e ∙ found-same (g .addressed) (s .decoder .counts .devices) x (streaming-ready .devices)
-
-  pub streaming-place : (x : ℕ) {f : Found} {p : ℕ} → f ≡ foundAddress a (s .decoder .counts .devices) x → p ≡ placeIn f → p < 64
-  streaming-place x {f} e k =
-      subst (λ (q : ℕ). q < 64) (sym k) (place-few (s .devices) (s .decoder .counts .devices) x f (found-is x e) (streaming-ready .devices))
+  pub streaming-short : length (bytesOf t p) ≤ 4096
+  streaming-short =
+      let h = streaming-bounds in
+      let e : length (bytesOf t p) ≡ p .end - p .start = length-take-le (p .end - p .start) _ (rw (length-drop) (omega arith)) in
+      omega (arith, k .short)
 
   abbrev old : Endpoint
   old = entryAt (s .table) (oldEndpoint (s .decoder .slot) (s .decoder .transaction))
 
-  pub streaming-owner : {e : Endpoint} → e ≡ old → e .device < 64
-  streaming-owner {e} q =
-      let r = streaming-ready in
-      let k = r .entries _ (old-there (s .decoder .transaction) (r .three) (s .decoder .slot) (r .held)) in
-      subst (λ (x : Endpoint). x .device < 64) (sym q) (omega (arith, k .device, r .devices))
-
   -- what packet_in goes by, as the loop takes it
-  module _ {packet : List ℕ} {t : Token} {f : Found} {p : ℕ} {e : Endpoint} {d : Detail} {near : Near} (token : t ≡ tokenOf packet) (search : f ≡ foundAddress a (s .decoder .counts .devices) (t .address)) (place : p ≡ placeIn f)
-      (entry : e ≡ old) (detail : d ≡ detailsOf (getD (s .devices) (e .device) blank) (e .address)) (taken : near ≡ nearBy f (t .number) (getD (s .devices) p blank) d) where
-    pub streaming-lent : Lent near packet (s .decoder) (s .devices) (s .table) (s .logs)
+  module _ {q : Sight} (seen : q ≡ sightOf a (s .decoder) (s .table) (bytesOf t p)) where
+    found-is : q .found ≡ foundDevice (s .devices) (s .decoder .counts .devices) (tokenOf (bytesOf t p) .address)
+    found-is = ap (λ (x : Sight). x .found) seen ∙ found-same (g .addressed) (s .decoder .counts .devices) _ (streaming-ready .devices)
+
+    place-is : q .place ≡ placeIn (q .found)
+    place-is = ap (λ (x : Sight). x .place) seen ∙ ap placeIn (sym (ap (λ (x : Sight). x .found) seen))
+
+    pub streaming-place : q .place < 64
+    streaming-place = subst (λ (i : ℕ). i < 64) (sym place-is) (place-few (s .devices) (s .decoder .counts .devices) _ (q .found) found-is (streaming-ready .devices))
+
+    pub streaming-owner : q .owner < 64
+    streaming-owner =
+        let r = streaming-ready in
+        let k = r .entries _ (old-there (s .decoder .transaction) (r .three) (s .decoder .slot) (r .held)) in
+        subst (λ (i : ℕ). i < 64) (sym (ap (λ (x : Sight). x .owner) seen)) (omega (arith, k .device, r .devices))
+
+    pub streaming-number : q .number < 16
+    streaming-number = subst (λ (i : ℕ). i < 16) (sym (ap (λ (x : Sight). x .number) seen)) (number-small (bytesOf t p) refl)
+
+    pub streaming-lent : {near : Near} → near ≡ nearBy (q .found) (q .number) (getD (s .devices) (q .place) blank) (detailsOf (getD (s .devices) (q .owner) blank) (q .address))
+        → Lent near (bytesOf t p) (s .decoder) (s .devices) (s .table) (s .logs)
     unfolding foundDevice
-    streaming-lent =
+    streaming-lent taken =
         record {
           ill = well;
           many = g .many;
-          seen = seen-by taken (found-is (t .address) search ∙ ap (λ (x : Token). foundDevice (s .devices) (s .decoder .counts .devices) (x .address)) token) (ap (λ (x : Token). x .number) token)
-              (ap (λ (i : ℕ). getD (s .devices) i blank) place) (detail ∙ ap (λ (x : Endpoint). detailsOf (getD (s .devices) (x .device) blank) (x .address)) entry);
+          seen = seen-by taken found-is (ap (λ (x : Sight). x .number) seen) (ap (λ (i : ℕ). getD (s .devices) i blank) place-is)
+              (ap (λ (x : Sight). detailsOf (getD (s .devices) (x .owner) blank) (x .address)) seen);
         }
 
   -- ---- what a packet leaves
 
-  module _ {answer : ℕ} {s′ : State} (h : end ≡ 0 → ⊥) (p : PacketCall (partOf input at end) n s answer s′) where
+  module _ {answer : ℕ} {s′ : State} {c′ : Clock} (tick : c′ ≡ tickOf c (p .ticks)) (x : PacketCall (bytesOf t p) (c′ .time) s answer s′) where
+    gives : Gives t (nextAt t at) c s answer s′
+    gives =
+        here t at c s (Packet (p .ticks) (p .start) (p .end) (k .next)) answer s′ (k .found)
+        (subst (λ (u : Clock). PacketCall (bytesOf t p) (u .time) s answer s′) tick x)
+
     -- a refused packet leaves the devices, too, as they were
-    pub streaming-stops : accepts answer ≡ false → Runs input 0 0 s₀ n answer (state (s′ .decoder) (s .devices) (s′ .table) (s′ .logs))
-    streaming-stops e =
-        let same = p .kept (ap accepts (sym (p .answer)) ∙ e) in
-        subst (λ (v : List Device). Runs input 0 0 s₀ n answer (state (s′ .decoder) v (s′ .table) (s′ .logs))) (ap (λ (x : State). x .devices) same) (going-stops (g .going) h p e)
+    left : accepts answer ≡ false → Takes t at₀ c₀ s₀ n e answer at c (state (s′ .decoder) (s .devices) (s′ .table) (s′ .logs))
+    left h =
+        let same = x .kept (ap accepts (sym (x .answer)) ∙ h) in
+        subst (λ (v : List Device). Takes t at₀ c₀ s₀ n e answer at c (state (s′ .decoder) v (s′ .table) (s′ .logs))) (ap (λ (u : State). u .devices) same)
+        (leads-over (g .leads) (stops gives h))
 
-    -- it leaves what the rules leave
-    module _ (e : accepts answer ≡ true) where
-      accepted : accepts (firstOf (testsOf (partOf input at end) n s)) ≡ true
-      accepted = ap accepts (sym (p .answer)) ∙ e
+    pub streaming-stops : accepts answer ≡ false → Runs t at₀ c₀ s₀ (record { going = false; answer = answer; taken = n; eights = e; place = at; clock = c; decoder = s′ .decoder; devices = s .devices }) (s′ .table) (s′ .logs)
+    streaming-stops h = record { leads = λ z. absurd (true≢false (sym z)); over = λ z. left h; counted = (g .leads .few, g .leads .eights) }
 
-      unfinished : s′ .decoder .finished ≡ false
-      unfolding decoderOf
-      unfinished = ap (λ d. d .finished) (p .left accepted .decoder) ∙ g .unfinished
+    goes : accepts answer ≡ true → Goes t at c s answer (p .next) c′ s′
+    goes h =
+        record {
+          gives = gives;
+          accepted = h;
+          place = k .place ∙ ap (λ (m : Next). behind m at) (sym (k .found));
+          clock = tick ∙ ap (λ (m : Next). clockAfter m c) (sym (k .found));
+          further = streaming-further;
+        }
 
-      pub streaming-more : {b : List ℕ} {end′ : ℕ} → Addressed 64 b (s′ .devices) → SameSizes (s .logs) (s′ .logs) → end′ ≡ endOf input end → Streaming input s₀ end (n + 1) end′ s′ b
-      streaming-more d z f =
-          record {
-            going = going-more (g .going) h p e z f;
-            sound = kept .packet (partOf input at end) n s answer s′ p (g .sound);
-            unfinished = unfinished;
-            many = p .left accepted .devices .size ∙ g .many;
-            addressed = d;
-          }
-
--- with these devices
-pub streaming-with : {input b : List ℕ} {s₀ s : State} {at n end : ℕ} → Streaming input s₀ at n end s b → (v : List Device) → v ≡ s .devices → Streaming input s₀ at n end (state (s .decoder) v (s .table) (s .logs)) b
-streaming-with {input} {b} {s₀} {s} {at} {n} {end} g v e = subst (λ (u : List Device). Streaming input s₀ at n end (state (s .decoder) u (s .table) (s .logs)) b) (sym e) g
-
--- ---- a fresh decoder
-
-module _ {v : List Device} {t : List ℕ} {l : Logs} {s : State} {a : ℕ} (m : Makes v t l a s) (z : a ≡ 0) where
-  pub made-unfinished : s .decoder .finished ≡ false
-  unfolding made
-  made-unfinished = ap (λ (x : State). x .decoder .finished) (m .accepted z)
-
-  pub made-sound : length t ≡ word.table → 0 < length v → isSound s ≡ true
-  made-sound ht hv = kept .fresh v t l s (subst (λ (k : ℕ). Makes v t l k s) z m) ht hv
+    pub streaming-more : {a′ : List ℕ} {u : ℕ} → accepts answer ≡ true → u ≡ one (eqb answer 8) → Addressed 64 a′ (s′ .devices) → SameSizes (s .logs) (s′ .logs)
+        → Streaming b t at₀ c₀ s₀ (n + 1) (e + u) (p .next) c′ s′ a′
+    streaming-more h q d z =
+        let l = leads-one (goes h) in
+        record { leads = leads-then (g .leads) (subst (λ (f : ℕ). Leads t at c s 1 f (p .next) c′ s′) (sym q) l); sizes = λ j u. z j u ∙ g .sizes j u; fits = l .fits b (g .fits); many = l .many ∙ g .many; addressed = d }

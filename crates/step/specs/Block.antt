@@ -1,0 +1,64 @@
+-- To be believed: a block of records in one call (02, change request 3): what the same records give one by one. Words in quotation marks are those of 02,
+-- or where it is said of 01.
+-- Hold it to: 02, "A block of records in one call"; 01, "Trace and listing": "Records are taken one at a time .."
+use Prim.Native.Nat.{ℕ, suc, _+_, _-_}
+use mathlib.Core.Bool.{true, false}
+use mathlib.Core.List.{List}
+use mathlib.Core.Path.{_≡_}
+use lib.Dec.{eqb}
+use lib.ListN.{take, drop}
+use Rattle.rows.specs.One.{one}
+use Rattle.trace.specs.Clock.{tickOf}
+use Rattle.trace.specs.Trace.{nextAt, answerOf}
+use Rattle.trace.specs.declared.Next.{Next}
+use Rattle.trace.specs.declared.Next.the-variants.{Packet, Event, Detail, Unknown, Cut, End}
+use Rattle.trace.specs.declared.clock.Clock.{Clock}
+use Rattle.call.specs.Outcome.{accepts}
+use Rattle.call.specs.State.{State}
+use Rattle.start.specs.Detail.{Details}
+use Rattle.packet.specs.Call.{PacketCall}
+use Rattle.events.specs.Call.{EventCall}
+
+-- ---- one record
+
+-- the clock behind a record: packets and events have ticks, details none
+abbrev pub clockAfter : Next → Clock → Clock
+clockAfter (Packet ticks start end next) c = tickOf c ticks
+clockAfter (Event ticks kind code next) c = tickOf c ticks
+clockAfter (Detail address number direction kind max next) c = c
+clockAfter Unknown c = c
+clockAfter Cut c = c
+clockAfter End c = c
+
+-- the place behind the record at `at`; where there is no whole record, `at`
+abbrev pub behind : Next → ℕ → ℕ
+behind (Packet ticks start end next) at = next .at
+behind (Event ticks kind code next) at = next .at
+behind (Detail address number direction kind max next) at = next .at
+behind Unknown at = at
+behind Cut at = at
+behind End at = at
+
+-- a record, with the clock as it stands in front of it, on the state s: it answers a and leaves s′. 01: "Wrong or missing .. tag 12, cut record 13" by
+-- the numbers of trace, Trace, "tested for each record before its call", so whatever the state is; the end is no record
+abbrev pub Gives : List ℕ → Next → Clock → State → ℕ → State → Type 0
+Gives t (Packet ticks start end next) c s a s′ = PacketCall (take (end - start) (drop start t)) (tickOf c ticks .time) s a s′
+Gives t (Event ticks kind code next) c s a s′ = EventCall kind code (tickOf c ticks .time) s a s′
+Gives t (Detail address number direction kind max next) c s a s′ = Details address number direction kind max s a s′
+Gives t Unknown c s a s′ = (a ≡ answerOf Unknown) × (s′ ≡ s)
+Gives t Cut c s a s′ = (a ≡ answerOf Cut) × (s′ ≡ s)
+Gives t End c s a s′ = ⊥
+
+-- ---- the records from a place on
+
+-- from the place `at` on, "starting tick state passed in", on the state s: n is "the records taken", e "the 8s among them", a the answer, p the place where
+-- it stops, c′ "the tick state after those", s′ what is left. "It stops at the first answer other than 0 or 8, returns that answer or else 0"; "what they wrote
+-- remains"; "An empty block takes none and answers 0"
+pub data Takes (t : List ℕ) : (at : ℕ) → Clock → State → (n e a p : ℕ) → Clock → State → Type 0 where
+  done : {at : ℕ} {c : Clock} {s : State} → nextAt t at ≡ End → Takes t at c s 0 0 0 at c s
+  stops : {at a : ℕ} {c : Clock} {s s′ : State} → Gives t (nextAt t at) c s a s′ → accepts a ≡ false → Takes t at c s 0 0 a at c s′
+  goes : {at n e b p : ℕ} {c c′ : Clock} {s s′ s″ : State} (a : ℕ)
+      → Gives t (nextAt t at) c s a s′
+      → accepts a ≡ true
+      → Takes t (behind (nextAt t at) at) (clockAfter (nextAt t at) c) s′ n e b p c′ s″
+      → Takes t at c s (suc n) (one (eqb a 8) + e) b p c′ s″

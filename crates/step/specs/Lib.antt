@@ -1,0 +1,4 @@
+pub mod Block
+pub mod CutLaws
+pub mod BlockLaws
+pub mod Step

@@ -1,0 +1,248 @@
+-- `run_packets` meets its contract: the loop's invariant is that the packets so far lead to a state that is sound, with the addresses of its devices.
+use Prim.Native.Nat.{_+_, _-_, _^_, _<_, _≤_}
+use native.Mathlib.Omega.{arith}
+use mathlib.Core.Path.{_≡_, refl, sym, subst, _∙_}
+use borrow.Author.Needs.{needs}
+use borrow.Author.Tests.{not-true, not-false}
+use lib.ListN.{length}
+use Rattle.rows.specs.WidthsLaws.{each-log, log-number}
+use Rattle.trace.specs.Trace.{nextAt}
+use Rattle.call.specs.State.{State, state, Logs, logs}
+use Rattle.call.specs.StateLaws.{SameSizes}
+use Rattle.packet.specs.Lent.{Lent}
+use Rattle.packet.proofs.Changes.{changed-by, changed-none}
+use Rattle.stream.specs.Addresses.{Addressed}
+use Rattle.stream.proofs.Addresses.{addressed-changed}
+use Rattle.stream.proofs.Leading.{eight-small}
+use Rattle.stream.proofs.Streaming.{Streaming, IsPart, bytesOf, part-is, streaming-start, streaming-ends, streaming-unfinished, streaming-ready, streaming-bounds, streaming-further, streaming-counts, streaming-short, streaming-place, streaming-owner, streaming-number, streaming-lent, streaming-stops, streaming-more, streaming-with}
+use Rattle.stream.proofs.run_packets.Statement.{statement}
+use Rattle.stream.proofs.run_packets.Tie as tie
+mod Places
+use Places.*
+
+abbrev Inv-loop : tie.InvT-loop
+Inv-loop ready records start table₀ bytes₀ device-rows₀ endpoint-rows₀ packets₀ events transactions₀ groups₀ statebytes₀ states₀ items₀ links₀ requests₀ decoder₀ addresses₀ devices₀ clock₀ at₀ taken₀ eights₀ table bytes device-rows endpoint-rows packets transactions groups statebytes states items links requests decoder addresses devices clock at taken eights =
+    Streaming ready records at₀ clock₀ (state decoder₀ devices₀ table₀ (logs bytes₀ device-rows₀ endpoint-rows₀ packets₀ events transactions₀ groups₀ statebytes₀ states₀ items₀ links₀ requests₀)) taken eights at clock
+    (state decoder devices table (logs bytes device-rows endpoint-rows packets events transactions groups statebytes states items links requests)) addresses
+
+abbrev μ-loop : tie.MeasureT-loop
+μ-loop ready records start table₀ bytes₀ device-rows₀ endpoint-rows₀ packets₀ events transactions₀ groups₀ statebytes₀ states₀ items₀ links₀ requests₀ decoder₀ addresses₀ devices₀ clock₀ at₀ taken₀ eights₀ table bytes device-rows endpoint-rows packets transactions groups statebytes states items links requests decoder addresses devices clock at taken eights =
+    length records - at
+
+-- the state that the loop begins with
+abbrev begun : tie.Start Inv-loop μ-loop → State
+begun s = state (s .args .d) (s .args .devices) (s .args .table .now) (logs (s .args .bytes .now) (s .args .device-rows .now) (s .args .endpoint-rows .now) (s .args .packets .now) (s .args .events .now) (s .args .transactions .now) (s .args .groups .now) (s .args .statebytes .now) (s .args .states .now) (s .args .items .now) (s .args .links .now) (s .args .requests .now))
+
+-- the state before a packet, and the logs behind it
+abbrev held : tie.At-loop Inv-loop μ-loop → State
+held c = state (c .loop .decoder) (c .loop .devices) (c .loop .table) (logs (c .loop .bytes) (c .loop .device-rows) (c .loop .endpoint-rows) (c .loop .packets) (At-loop·Start c .args .events .now) (c .loop .transactions) (c .loop .groups) (c .loop .statebytes) (c .loop .states) (c .loop .items) (c .loop .links) (c .loop .requests))
+
+abbrev left : tie.After-packet-in Inv-loop μ-loop → Logs
+left c = logs (c .packet-in .last .1 .1 .1 .1 .1 .0) (c .packet-in .last .1 .1 .1 .1 .1 .1 .0) (c .packet-in .last .1 .1 .1 .1 .1 .1 .1 .0) (c .packet-in .last .1 .1 .1 .1 .1 .1 .1 .1 .0) (packet-in·Start c .args .events .now) (c .packet-in .last .1 .1 .1 .1 .1 .1 .1 .1 .1 .1 .0) (c .packet-in .last .1 .1 .1 .1 .1 .1 .1 .1 .1 .1 .1 .0) (c .packet-in .last .1 .1 .1 .1 .1 .1 .1 .1 .1 .1 .1 .1 .0) (c .packet-in .last .1 .1 .1 .1 .1 .1 .1 .1 .1 .1 .1 .1 .1 .0) (c .packet-in .last .1 .1 .1 .1 .1 .1 .1 .1 .1 .1 .1 .1 .1 .1 .0) (c .packet-in .last .1 .1 .1 .1 .1 .1 .1 .1 .1 .1 .1 .1 .1 .1 .1 .0) (c .packet-in .last .1 .1 .1 .1 .1 .1 .1 .1 .1 .1 .1 .1 .1 .1 .1 .1 .0)
+
+sizes : (c : tie.After-packet-in Inv-loop μ-loop) → SameSizes (held (packet-in·At-loop c) .logs) (left c)
+sizes c =
+    each-log _
+    (c .packet-in .kept .1 .1 .1 .1 .1 .0)
+    (c .packet-in .kept .1 .1 .1 .1 .1 .1 .0)
+    (c .packet-in .kept .1 .1 .1 .1 .1 .1 .1 .0)
+    (c .packet-in .kept .1 .1 .1 .1 .1 .1 .1 .1 .0)
+    refl
+    (c .packet-in .kept .1 .1 .1 .1 .1 .1 .1 .1 .1 .1 .0)
+    (c .packet-in .kept .1 .1 .1 .1 .1 .1 .1 .1 .1 .1 .1 .0)
+    (c .packet-in .kept .1 .1 .1 .1 .1 .1 .1 .1 .1 .1 .1 .1 .0)
+    (c .packet-in .kept .1 .1 .1 .1 .1 .1 .1 .1 .1 .1 .1 .1 .1 .0)
+    (c .packet-in .kept .1 .1 .1 .1 .1 .1 .1 .1 .1 .1 .1 .1 .1 .1 .0)
+    (c .packet-in .kept .1 .1 .1 .1 .1 .1 .1 .1 .1 .1 .1 .1 .1 .1 .1 .0)
+    (c .packet-in .kept .1 .1 .1 .1 .1 .1 .1 .1 .1 .1 .1 .1 .1 .1 .1 .1 .0)
+
+many : (c : tie.Start Inv-loop μ-loop) → length (c .args .devices) ≡ 64
+many c = search needs
+
+long : (c : tie.Start Inv-loop μ-loop) → length (c .args .records .now) < 2 ^ 64
+long c = search needs
+
+loop-holds : tie.Need-loop-holds Inv-loop μ-loop
+loop-holds c =
+    let s = loop-holds·Start c in
+    streaming-start (s .args .records .now) (s .args .at) (s .args .clock) {s = begun s} (s .pre) (many s) (c .addresses-of .ensures)
+
+returns : tie.Need-returns Inv-loop μ-loop
+returns c = streaming-ends (returns·At-loop c .loop .inv)
+
+-- ---- before the call
+
+-- what was found is a packet that may be called
+part : (c : tie.Else1 Inv-loop μ-loop) → IsPart (Else1·Start c .args .ready) (nextAt (Else1·Start c .args .records .now) (Else1·At-loop c .loop .at)) (Else1·part-of c .part-of .result)
+part c = part-is (Else1·Start c .args .ready) _ (Else1·record-at c .record-at .ensures) (Else1·part-of c .part-of .ensures) (not-false _ (c .if1 .left))
+
+sub-sight-of : tie.Need-sub-sight-of Inv-loop μ-loop
+sub-sight-of c = streaming-bounds (sub-sight-of·At-loop c .loop .inv) (part (sub-sight-of·Else1 c)) .0
+
+part-sight-of-start : tie.Need-part-sight-of-start Inv-loop μ-loop
+part-sight-of-start c = streaming-bounds (part-sight-of-start·At-loop c .loop .inv) (part (part-sight-of-start·Else1 c)) .0
+
+part-sight-of-end : tie.Need-part-sight-of-end Inv-loop μ-loop
+part-sight-of-end c = streaming-bounds (part-sight-of-end·At-loop c .loop .inv) (part (part-sight-of-end·Else1 c)) .1
+
+sight-of-requires : tie.Need-sight-of-requires Inv-loop μ-loop
+sight-of-requires c κs = streaming-ready (sight-of-requires·At-loop c .loop .inv) (part (sight-of-requires·Else1 c))
+
+-- the places are places
+place-small : (c : tie.After-sight-of Inv-loop μ-loop) → c .sight-of .result .place < 64
+place-small c = streaming-place (sight-of·At-loop c .loop .inv) (part (sight-of·Else1 c)) (c .sight-of .ensures)
+
+owner-small : (c : tie.After-sight-of Inv-loop μ-loop) → c .sight-of .result .owner < 64
+owner-small c = streaming-owner (sight-of·At-loop c .loop .inv) (part (sight-of·Else1 c)) (c .sight-of .ensures)
+
+-- what packet_in goes by is taken from the devices
+lends : (c : tie.After-near-by Inv-loop μ-loop)
+    → Lent (c .near-by .result) (bytesOf (near-by·Start c .args .records .now) (near-by·part-of c .part-of .result)) (near-by·At-loop c .loop .decoder) (near-by·At-loop c .loop .devices) (near-by·At-loop c .loop .table) (held (near-by·At-loop c) .logs)
+lends c = streaming-lent (near-by·At-loop c .loop .inv) (part (near-by·Else1 c)) (near-by·sight-of c .sight-of .ensures) (c .near-by .ensures)
+
+sub-packet-in : tie.Need-sub-packet-in Inv-loop μ-loop
+sub-packet-in c = streaming-bounds (sub-packet-in·At-loop c .loop .inv) (part (sub-packet-in·Else1 c)) .0
+
+part-packet-in-start : tie.Need-part-packet-in-start Inv-loop μ-loop
+part-packet-in-start c = streaming-bounds (part-packet-in-start·At-loop c .loop .inv) (part (part-packet-in-start·Else1 c)) .0
+
+part-packet-in-end : tie.Need-part-packet-in-end Inv-loop μ-loop
+part-packet-in-end c = streaming-bounds (part-packet-in-end·At-loop c .loop .inv) (part (part-packet-in-end·Else1 c)) .1
+
+packet-in-requires : tie.Need-packet-in-requires Inv-loop μ-loop
+packet-in-requires c κs =
+    let g = packet-in-requires·At-loop c .loop in
+    let k = part (packet-in-requires·Else1 c) in
+    (record { devices = g .devices; lent = lends (packet-in-requires·near-by c) }, (streaming-unfinished (g .inv) k, streaming-short (g .inv) k))
+
+-- ---- behind it
+
+returns-2 : tie.Need-returns-2 Inv-loop μ-loop
+returns-2 c =
+    let g = returns-2·At-loop c .loop in
+    streaming-stops (g .inv) (part (returns-2·Else1 c)) (returns-2·tick c .tick .ensures) (returns-2·packet-in c .packet-in .ensures .1 (g .devices) (lends (returns-2·near-by c)))
+    (sym (returns-2·goes-on c .goes-on .ensures) ∙ not-true _ (c .if2 .taken))
+
+-- a packet's number is below its byte
+counted : (c : tie.Else1 Inv-loop μ-loop) → (Else1·At-loop c .loop .taken + 1 < 2 ^ 64) × (Else1·At-loop c .loop .eights + 1 < 2 ^ 64)
+counted c =
+    let k = streaming-counts (Else1·At-loop c .loop .inv) (part c) in
+    let l = long (Else1·Start c) in
+    (omega (arith, k .0, l), omega (arith, k .1, l))
+
+add-taken : tie.Need-add-taken Inv-loop μ-loop
+add-taken c = let k = counted (add-taken·Else1 c) in omega arith
+
+add-eights : tie.Need-add-eights Inv-loop μ-loop
+add-eights c =
+    let k = counted (add-eights·Else1 c) in
+    let h = eight-small (add-eights·packet-in c .packet-in .result .answer) (c .eight .ensures) in
+    omega (arith, k, h)
+
+-- with a change, and without
+loop-less : tie.Need-loop-less Inv-loop μ-loop
+loop-less c =
+    let f = streaming-further (loop-less·At-loop c .loop .inv) (part (loop-less·Else1 c)) in
+    omega arith
+
+loop-again : tie.Need-loop-again Inv-loop μ-loop
+loop-again c =
+    let g = loop-again·At-loop c .loop in
+    let m = loop-again·packet-in c in
+    let e = loop-again·row-by c .row-by .ensures in
+    let f = c .added-by .ensures in
+    streaming-with
+    (streaming-more (g .inv) (part (loop-again·Else1 c)) (loop-again·tick c .tick .ensures) (m .packet-in .ensures .1 (g .devices) (lends (loop-again·near-by c)))
+    (sym (loop-again·goes-on c .goes-on .ensures) ∙ not-false _ (loop-again·Else2 c .if2 .left))
+    (loop-again·eight c .eight .ensures)
+    (addressed-changed (g .inv .addressed) (g .inv .many) (m .packet-in .result .change) (m .packet-in .ensures .0) e f)
+    (sizes m))
+    _ (changed-by (m .packet-in .result .change) (g .devices) e f)
+
+loop-less-2 : tie.Need-loop-less-2 Inv-loop μ-loop
+loop-less-2 c =
+    let f = streaming-further (loop-less-2·At-loop c .loop .inv) (part (loop-less-2·Else1 c)) in
+    omega arith
+
+loop-again-2 : tie.Need-loop-again-2 Inv-loop μ-loop
+loop-again-2 c =
+    let g = loop-again-2·At-loop c .loop in
+    let m = loop-again-2·packet-in c in
+    let same = changed-none (m .packet-in .result .change) (g .devices) (sym (loop-again-2·is-change c .is-change .ensures) ∙ c .if3 .left) in
+    streaming-with
+    (streaming-more (g .inv) (part (loop-again-2·Else1 c)) (loop-again-2·tick c .tick .ensures) (m .packet-in .ensures .1 (g .devices) (lends (loop-again-2·near-by c)))
+    (sym (loop-again-2·goes-on c .goes-on .ensures) ∙ not-false _ (loop-again-2·Else2 c .if2 .left))
+    (loop-again-2·eight c .eight .ensures)
+    (subst (Addressed 64 (g .addresses)) (sym same) (g .inv .addressed))
+    (sizes m))
+    (g .devices) (sym same)
+
+pub run-packets-spec : {M : Type 1} → statement M
+run-packets-spec =
+    tie.close
+    (tie.spec
+    Inv-loop
+    μ-loop
+    (λ c κs. tt)
+    loop-holds
+    (λ c κs. tt)
+    (λ c κs. tt)
+    (λ c. returns·At-loop c .loop .inv .sizes 0 (log-number 0 refl))
+    (λ c. returns·At-loop c .loop .inv .sizes 1 (log-number 1 refl))
+    (λ c. returns·At-loop c .loop .inv .sizes 2 (log-number 2 refl))
+    (λ c. returns·At-loop c .loop .inv .sizes 3 (log-number 3 refl))
+    (λ c. returns·At-loop c .loop .inv .sizes 5 (log-number 5 refl))
+    (λ c. returns·At-loop c .loop .inv .sizes 6 (log-number 6 refl))
+    (λ c. returns·At-loop c .loop .inv .sizes 7 (log-number 7 refl))
+    (λ c. returns·At-loop c .loop .inv .sizes 8 (log-number 8 refl))
+    (λ c. returns·At-loop c .loop .inv .sizes 9 (log-number 9 refl))
+    (λ c. returns·At-loop c .loop .inv .sizes 10 (log-number 10 refl))
+    (λ c. returns·At-loop c .loop .inv .sizes 11 (log-number 11 refl))
+    returns
+    sub-sight-of
+    part-sight-of-start
+    part-sight-of-end
+    sight-of-requires
+    (λ c. let h = place-small c in omega arith)
+    place-small
+    (λ c. let h = owner-small (mul-held·sight-of c) in omega arith)
+    (λ c. owner-small (array-copy-out-held·sight-of c))
+    (λ c κs. streaming-number (near-by-requires·At-loop c .loop .inv) (part (near-by-requires·Else1 c)) (near-by-requires·sight-of c .sight-of .ensures))
+    (λ c κs. tt)
+    sub-packet-in
+    part-packet-in-start
+    part-packet-in-end
+    packet-in-requires
+    (λ c κs. tt)
+    (λ c. sizes (returns-2·packet-in c) 0 (log-number 0 refl) ∙ returns-2·At-loop c .loop .inv .sizes 0 (log-number 0 refl))
+    (λ c. sizes (returns-2·packet-in c) 1 (log-number 1 refl) ∙ returns-2·At-loop c .loop .inv .sizes 1 (log-number 1 refl))
+    (λ c. sizes (returns-2·packet-in c) 2 (log-number 2 refl) ∙ returns-2·At-loop c .loop .inv .sizes 2 (log-number 2 refl))
+    (λ c. sizes (returns-2·packet-in c) 3 (log-number 3 refl) ∙ returns-2·At-loop c .loop .inv .sizes 3 (log-number 3 refl))
+    (λ c. sizes (returns-2·packet-in c) 5 (log-number 5 refl) ∙ returns-2·At-loop c .loop .inv .sizes 5 (log-number 5 refl))
+    (λ c. sizes (returns-2·packet-in c) 6 (log-number 6 refl) ∙ returns-2·At-loop c .loop .inv .sizes 6 (log-number 6 refl))
+    (λ c. sizes (returns-2·packet-in c) 7 (log-number 7 refl) ∙ returns-2·At-loop c .loop .inv .sizes 7 (log-number 7 refl))
+    (λ c. sizes (returns-2·packet-in c) 8 (log-number 8 refl) ∙ returns-2·At-loop c .loop .inv .sizes 8 (log-number 8 refl))
+    (λ c. sizes (returns-2·packet-in c) 9 (log-number 9 refl) ∙ returns-2·At-loop c .loop .inv .sizes 9 (log-number 9 refl))
+    (λ c. sizes (returns-2·packet-in c) 10 (log-number 10 refl) ∙ returns-2·At-loop c .loop .inv .sizes 10 (log-number 10 refl))
+    (λ c. sizes (returns-2·packet-in c) 11 (log-number 11 refl) ∙ returns-2·At-loop c .loop .inv .sizes 11 (log-number 11 refl))
+    returns-2
+    add-taken
+    (λ c κs. tt)
+    add-eights
+    (λ c κs. tt)
+    (λ c. let h = mul-row-by·packet-in c .packet-in .ensures .0 .place in omega arith)
+    (λ c. array-copy-out-row-by·packet-in c .packet-in .ensures .0 .place)
+    (λ c κs. tt)
+    (λ c. let h = mul-devices·packet-in c .packet-in .ensures .0 .place in omega arith)
+    (λ c. array-set-from-devices·packet-in c .packet-in .ensures .0 .place)
+    (λ c. array-write-addresses·packet-in c .packet-in .ensures .0 .place)
+    (λ c. let h = mul-added-by·packet-in c .packet-in .ensures .0 .at in omega arith)
+    (λ c. array-copy-out-added-by·packet-in c .packet-in .ensures .0 .at)
+    (λ c κs. tt)
+    (λ c. let h = mul-devices-2·packet-in c .packet-in .ensures .0 .at in omega arith)
+    (λ c. array-set-from-devices-2·packet-in c .packet-in .ensures .0 .at)
+    (λ c. array-write-addresses-2·packet-in c .packet-in .ensures .0 .at)
+    loop-less
+    loop-again
+    loop-less-2
+    loop-again-2)
