@@ -92,7 +92,7 @@ fn update_for(status: Status, pid: u8, t: Transaction, e: Endpoint) -> Update
 }
 
 // A kind that is none of the four types is unknown.
-fn type_by(kind: u8) -> u8
+pub fn type_by(kind: u8) -> u8
     ensures { λ r. ⌜ r ≡ typeBy kind ⌝ }
 {
     if kind < kind::UNKNOWN {
@@ -190,7 +190,7 @@ fn transaction_start(
     }
 }
 
-fn with_pid(pid: u8, t: Transaction) -> Transaction
+pub fn with_pid(pid: u8, t: Transaction) -> Transaction
     ensures { λ r. ⌜ r ≡ withPid pid t ⌝ }
 {
     let mut t = t;

@@ -46,7 +46,7 @@ pub fn end_of(
 }
 
 // Where it does not end, its entry stays, and nothing is done.
-fn resting_end(e: Endpoint) -> End
+pub fn resting_end(e: Endpoint) -> End
     ensures { λ r. ⌜ r ≡ resting e ⌝ }
 {
     End {

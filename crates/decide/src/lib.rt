@@ -1,10 +1,10 @@
 // The steps of a call, decided from values alone before anything is written: nothing here writes.
-mod begin;
-mod end;
+pub mod begin;
+pub mod end;
 pub mod near;
-mod place;
-mod slot;
-mod status;
+pub mod place;
+pub mod slot;
+pub mod status;
 
 use crate::begin::go_on;
 use crate::begin::middle_of;

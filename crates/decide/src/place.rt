@@ -68,7 +68,7 @@ fn endpoint_lookup(device: Found, address: u8, d: Decoder, table: &Table) -> Fou
 }
 
 // packet_endpoint of capture.rs.
-fn find_place(pid: u8, packet: &[u8], d: Decoder, near: Near, table: &Table) -> Found
+pub fn find_place(pid: u8, packet: &[u8], d: Decoder, near: Near, table: &Table) -> Found
     requires { ⌜ d .counts .endpoints ≤ 128 ⌝ }
     ensures { λ r. ⌜ r ≡ foundOn (near .found) pid (now (packet .entry)) (worldOf d [] (now (table .entry))) ⌝ }
 {
@@ -149,7 +149,7 @@ fn new_on(owner: u8, address: u8, d: Decoder, found: Found, detail: Detail) -> P
 }
 
 // The details of a packet's endpoint: a special one has a kind of its own.
-fn detail_by(pid: u8, near: Near) -> Detail
+pub fn detail_by(pid: u8, near: Near) -> Detail
     ensures { λ r. ⌜ r ≡ detailBy pid near ⌝ }
 {
     if pid == SOF {

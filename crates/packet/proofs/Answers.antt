@@ -120,7 +120,7 @@ module _ (packet : List ℕ) (time : ℕ) (s : State) (h : Passes packet s) (kno
 
 -- ---- the same, of what the code has: each part with its equation
 
-none-placed : {c : Change} → c ≡ keeping → Placed c
+pub none-placed : {c : Change} → c ≡ keeping → Placed c
 none-placed e = subst Placed (sym e) (record { place = omega arith; at = omega arith })
 
 -- the desk at the call's entry, with this hand

@@ -14,17 +14,17 @@ ghost use Rattle.packet.specs.After.{keeping, changeBy, rowBy, addedBy, 
 
 // First row `place`, then row `at`; where neither changes, both are 0.
 pub struct Change {
-    // It becomes that of a new device at the address `owner`.
+    pub place: usize,
+    pub at: usize,
+    // Row `place` becomes that of a new device at the address `owner`.
     pub device: bool,
     // A split's type, `kind`, is stored in it for the endpoint `number`.
     pub types: bool,
-    pub place: usize,
     pub owner: u8,
     pub number: u8,
     pub kind: u8,
-    // It becomes that of a new device at this address.
+    // Row `at` becomes that of a new device at this address.
     pub adds: bool,
-    pub at: usize,
     pub address: u8,
 }
 
@@ -44,7 +44,7 @@ pub fn no_change() -> Change
     }
 }
 
-fn adds_device(effect: Effect) -> bool
+pub fn adds_device(effect: Effect) -> bool
     ensures { λ r. ⌜ r ≡ addsDevice effect ⌝ }
 {
     match effect {

@@ -58,7 +58,7 @@ fn is_dropped(slot: Slot, t: Transaction) -> bool
 }
 
 // Where the call begins to write, and what it brings.
-fn hand_of(d: Decoder, time: u64) -> Hand
+pub fn hand_of(d: Decoder, time: u64) -> Hand
     ensures { λ r. ⌜ r ≡ handOf time d ⌝ }
 {
     let n = d.counts;
@@ -111,7 +111,7 @@ fn decoder_by(d: Decoder, plan: Plan, sum: Sum, h: Hand) -> Decoder
 }
 
 // The packet's bytes, and its row.
-fn put_packet(n: Counts, packet: &[u8], time: u64, bytes: &mut [u8], packets: &mut [u64])
+pub fn put_packet(n: Counts, packet: &[u8], time: u64, bytes: &mut [u8], packets: &mut [u64])
     requires { ⌜ n .bytes + length (now packet) ≤ length (now bytes) ⌝ }
     requires { ⌜ (n .packets + 1) * packetWidth ≤ length (now packets) ⌝ }
     ensures { λ r. ⌜ now (bytes .exit) ≡ sets (now (bytes .entry)) (n .bytes) (now (packet .entry)) ⌝ }

@@ -41,17 +41,17 @@ pub const NO_ITEM: usize = 128;
 // Decoder of the Rust. Beside it stand the devices, and the endpoint table with endpoint_data and last_endpoint_state.
 pub struct Decoder {
     pub counts: Counts,
-    // transaction_state or suspended_transaction, as the slot says; in an empty slot it is not read.
-    pub slot: Slot,
     pub transaction: Transaction,
     // last_item_endpoint; NO_ITEM where there is none.
     pub last: usize,
+    // How many endpoints have an ended group that no item has closed.
+    pub waiting: usize,
+    // transaction_state or suspended_transaction, as the slot says; in an empty slot it is not read.
+    pub slot: Slot,
     // event_state.
     pub event: EventState,
     // ls_keepalive_item: whether there is one.
     pub keepalive: bool,
-    // How many endpoints have an ended group that no item has closed.
-    pub waiting: usize,
     // Whether finish was called.
     pub finished: bool,
 }

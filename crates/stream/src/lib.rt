@@ -12,7 +12,7 @@ use endpoints::Table;
 use packet::change::added_by;
 use packet::change::is_change;
 use packet::change::row_by;
-use packet::inner::packet_in;
+use quick::quick_in;
 use record::Decoder;
 use step::eight;
 use step::goes_on;
@@ -91,7 +91,7 @@ pub fn run_packets(
         let held = devices[owner];
         let near = near_by(sight, row, held);
         let ticked = tick(clock, part.ticks);
-        let r = packet_in(
+        let r = quick_in(
             decoder,
             near,
             &records[begin..end],

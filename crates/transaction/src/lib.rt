@@ -30,26 +30,27 @@ pub enum Style {
     Token(u8, u8, u8),
 }
 
-// TransactionState of the Rust.
+// TransactionState of the Rust. Bytes and flags stand together: a byte that stands alone before a word has seven bytes of padding, which are copied by two moves that
+// overlap, and the next copy waits for both (docs/SPEED.md).
 pub struct Transaction {
     // style.
     pub style: Style,
-    // id: the transaction row.
-    pub id: u64,
     // last: the PID of the last packet.
     pub last: u8,
+    // id: the transaction row.
+    pub id: u64,
     // endpoint_id; where there is none 0, the event endpoint, on which no transaction is.
     pub endpoint: usize,
     // endpoint_type, as it was known when the transaction began; 4 where it was not.
     pub kind: u8,
     // ep_transaction_id: link, where linked.
     pub linked: bool,
-    pub link: u64,
     // setup: the 8 setup bytes, first byte lowest, where ready.
     pub ready: bool,
-    pub setup: u64,
     // payload: its length, where filled.
     pub filled: bool,
+    pub link: u64,
+    pub setup: u64,
     pub payload: u64,
 }
 

@@ -37,24 +37,24 @@ begun s = state (s .args .d) (s .args .devices) (s .args .table .now) (logs (s .
 abbrev held : tie.At-loop Inv-loop μ-loop → State
 held c = state (c .loop .decoder) (c .loop .devices) (c .loop .table) (logs (c .loop .bytes) (c .loop .device-rows) (c .loop .endpoint-rows) (c .loop .packets) (At-loop·Start c .args .events .now) (c .loop .transactions) (c .loop .groups) (c .loop .statebytes) (c .loop .states) (c .loop .items) (c .loop .links) (c .loop .requests))
 
-abbrev left : tie.After-packet-in Inv-loop μ-loop → Logs
-left c = logs (c .packet-in .last .1 .1 .1 .1 .1 .0) (c .packet-in .last .1 .1 .1 .1 .1 .1 .0) (c .packet-in .last .1 .1 .1 .1 .1 .1 .1 .0) (c .packet-in .last .1 .1 .1 .1 .1 .1 .1 .1 .0) (packet-in·Start c .args .events .now) (c .packet-in .last .1 .1 .1 .1 .1 .1 .1 .1 .1 .1 .0) (c .packet-in .last .1 .1 .1 .1 .1 .1 .1 .1 .1 .1 .1 .0) (c .packet-in .last .1 .1 .1 .1 .1 .1 .1 .1 .1 .1 .1 .1 .0) (c .packet-in .last .1 .1 .1 .1 .1 .1 .1 .1 .1 .1 .1 .1 .1 .0) (c .packet-in .last .1 .1 .1 .1 .1 .1 .1 .1 .1 .1 .1 .1 .1 .1 .0) (c .packet-in .last .1 .1 .1 .1 .1 .1 .1 .1 .1 .1 .1 .1 .1 .1 .1 .0) (c .packet-in .last .1 .1 .1 .1 .1 .1 .1 .1 .1 .1 .1 .1 .1 .1 .1 .1 .0)
+abbrev left : tie.After-quick-in Inv-loop μ-loop → Logs
+left c = logs (c .quick-in .last .1 .1 .1 .1 .1 .0) (c .quick-in .last .1 .1 .1 .1 .1 .1 .0) (c .quick-in .last .1 .1 .1 .1 .1 .1 .1 .0) (c .quick-in .last .1 .1 .1 .1 .1 .1 .1 .1 .0) (quick-in·Start c .args .events .now) (c .quick-in .last .1 .1 .1 .1 .1 .1 .1 .1 .1 .1 .0) (c .quick-in .last .1 .1 .1 .1 .1 .1 .1 .1 .1 .1 .1 .0) (c .quick-in .last .1 .1 .1 .1 .1 .1 .1 .1 .1 .1 .1 .1 .0) (c .quick-in .last .1 .1 .1 .1 .1 .1 .1 .1 .1 .1 .1 .1 .1 .0) (c .quick-in .last .1 .1 .1 .1 .1 .1 .1 .1 .1 .1 .1 .1 .1 .1 .0) (c .quick-in .last .1 .1 .1 .1 .1 .1 .1 .1 .1 .1 .1 .1 .1 .1 .1 .0) (c .quick-in .last .1 .1 .1 .1 .1 .1 .1 .1 .1 .1 .1 .1 .1 .1 .1 .1 .0)
 
-sizes : (c : tie.After-packet-in Inv-loop μ-loop) → SameSizes (held (packet-in·At-loop c) .logs) (left c)
+sizes : (c : tie.After-quick-in Inv-loop μ-loop) → SameSizes (held (quick-in·At-loop c) .logs) (left c)
 sizes c =
     each-log _
-    (c .packet-in .kept .1 .1 .1 .1 .1 .0)
-    (c .packet-in .kept .1 .1 .1 .1 .1 .1 .0)
-    (c .packet-in .kept .1 .1 .1 .1 .1 .1 .1 .0)
-    (c .packet-in .kept .1 .1 .1 .1 .1 .1 .1 .1 .0)
+    (c .quick-in .kept .1 .1 .1 .1 .1 .0)
+    (c .quick-in .kept .1 .1 .1 .1 .1 .1 .0)
+    (c .quick-in .kept .1 .1 .1 .1 .1 .1 .1 .0)
+    (c .quick-in .kept .1 .1 .1 .1 .1 .1 .1 .1 .0)
     refl
-    (c .packet-in .kept .1 .1 .1 .1 .1 .1 .1 .1 .1 .1 .0)
-    (c .packet-in .kept .1 .1 .1 .1 .1 .1 .1 .1 .1 .1 .1 .0)
-    (c .packet-in .kept .1 .1 .1 .1 .1 .1 .1 .1 .1 .1 .1 .1 .0)
-    (c .packet-in .kept .1 .1 .1 .1 .1 .1 .1 .1 .1 .1 .1 .1 .1 .0)
-    (c .packet-in .kept .1 .1 .1 .1 .1 .1 .1 .1 .1 .1 .1 .1 .1 .1 .0)
-    (c .packet-in .kept .1 .1 .1 .1 .1 .1 .1 .1 .1 .1 .1 .1 .1 .1 .1 .0)
-    (c .packet-in .kept .1 .1 .1 .1 .1 .1 .1 .1 .1 .1 .1 .1 .1 .1 .1 .1 .0)
+    (c .quick-in .kept .1 .1 .1 .1 .1 .1 .1 .1 .1 .1 .0)
+    (c .quick-in .kept .1 .1 .1 .1 .1 .1 .1 .1 .1 .1 .1 .0)
+    (c .quick-in .kept .1 .1 .1 .1 .1 .1 .1 .1 .1 .1 .1 .1 .0)
+    (c .quick-in .kept .1 .1 .1 .1 .1 .1 .1 .1 .1 .1 .1 .1 .1 .0)
+    (c .quick-in .kept .1 .1 .1 .1 .1 .1 .1 .1 .1 .1 .1 .1 .1 .1 .0)
+    (c .quick-in .kept .1 .1 .1 .1 .1 .1 .1 .1 .1 .1 .1 .1 .1 .1 .1 .0)
+    (c .quick-in .kept .1 .1 .1 .1 .1 .1 .1 .1 .1 .1 .1 .1 .1 .1 .1 .1 .0)
 
 many : (c : tie.Start Inv-loop μ-loop) → length (c .args .devices) ≡ 64
 many c = search needs
@@ -95,32 +95,32 @@ place-small c = streaming-place (sight-of·At-loop c .loop .inv) (part (sight-of
 owner-small : (c : tie.After-sight-of Inv-loop μ-loop) → c .sight-of .result .owner < 64
 owner-small c = streaming-owner (sight-of·At-loop c .loop .inv) (part (sight-of·Else1 c)) (c .sight-of .ensures)
 
--- what packet_in goes by is taken from the devices
+-- what quick_in goes by is taken from the devices
 lends : (c : tie.After-near-by Inv-loop μ-loop)
     → Lent (c .near-by .result) (bytesOf (near-by·Start c .args .records .now) (near-by·part-of c .part-of .result)) (near-by·At-loop c .loop .decoder) (near-by·At-loop c .loop .devices) (near-by·At-loop c .loop .table) (held (near-by·At-loop c) .logs)
 lends c = streaming-lent (near-by·At-loop c .loop .inv) (part (near-by·Else1 c)) (near-by·sight-of c .sight-of .ensures) (c .near-by .ensures)
 
-sub-packet-in : tie.Need-sub-packet-in Inv-loop μ-loop
-sub-packet-in c = streaming-bounds (sub-packet-in·At-loop c .loop .inv) (part (sub-packet-in·Else1 c)) .0
+sub-quick-in : tie.Need-sub-quick-in Inv-loop μ-loop
+sub-quick-in c = streaming-bounds (sub-quick-in·At-loop c .loop .inv) (part (sub-quick-in·Else1 c)) .0
 
-part-packet-in-start : tie.Need-part-packet-in-start Inv-loop μ-loop
-part-packet-in-start c = streaming-bounds (part-packet-in-start·At-loop c .loop .inv) (part (part-packet-in-start·Else1 c)) .0
+part-quick-in-start : tie.Need-part-quick-in-start Inv-loop μ-loop
+part-quick-in-start c = streaming-bounds (part-quick-in-start·At-loop c .loop .inv) (part (part-quick-in-start·Else1 c)) .0
 
-part-packet-in-end : tie.Need-part-packet-in-end Inv-loop μ-loop
-part-packet-in-end c = streaming-bounds (part-packet-in-end·At-loop c .loop .inv) (part (part-packet-in-end·Else1 c)) .1
+part-quick-in-end : tie.Need-part-quick-in-end Inv-loop μ-loop
+part-quick-in-end c = streaming-bounds (part-quick-in-end·At-loop c .loop .inv) (part (part-quick-in-end·Else1 c)) .1
 
-packet-in-requires : tie.Need-packet-in-requires Inv-loop μ-loop
-packet-in-requires c κs =
-    let g = packet-in-requires·At-loop c .loop in
-    let k = part (packet-in-requires·Else1 c) in
-    (record { devices = g .devices; lent = lends (packet-in-requires·near-by c) }, (streaming-unfinished (g .inv) k, streaming-short (g .inv) k))
+quick-in-requires : tie.Need-quick-in-requires Inv-loop μ-loop
+quick-in-requires c κs =
+    let g = quick-in-requires·At-loop c .loop in
+    let k = part (quick-in-requires·Else1 c) in
+    (record { devices = g .devices; lent = lends (quick-in-requires·near-by c) }, (streaming-unfinished (g .inv) k, streaming-short (g .inv) k))
 
 -- ---- behind it
 
 returns-2 : tie.Need-returns-2 Inv-loop μ-loop
 returns-2 c =
     let g = returns-2·At-loop c .loop in
-    streaming-stops (g .inv) (part (returns-2·Else1 c)) (returns-2·tick c .tick .ensures) (returns-2·packet-in c .packet-in .ensures .1 (g .devices) (lends (returns-2·near-by c)))
+    streaming-stops (g .inv) (part (returns-2·Else1 c)) (returns-2·tick c .tick .ensures) (returns-2·quick-in c .quick-in .ensures .1 (g .devices) (lends (returns-2·near-by c)))
     (sym (returns-2·goes-on c .goes-on .ensures) ∙ not-true _ (c .if2 .taken))
 
 -- a packet's number is below its byte
@@ -136,7 +136,7 @@ add-taken c = let k = counted (add-taken·Else1 c) in omega arith
 add-eights : tie.Need-add-eights Inv-loop μ-loop
 add-eights c =
     let k = counted (add-eights·Else1 c) in
-    let h = eight-small (add-eights·packet-in c .packet-in .result .answer) (c .eight .ensures) in
+    let h = eight-small (add-eights·quick-in c .quick-in .result .answer) (c .eight .ensures) in
     omega (arith, k, h)
 
 -- with a change, and without
@@ -148,16 +148,16 @@ loop-less c =
 loop-again : tie.Need-loop-again Inv-loop μ-loop
 loop-again c =
     let g = loop-again·At-loop c .loop in
-    let m = loop-again·packet-in c in
+    let m = loop-again·quick-in c in
     let e = loop-again·row-by c .row-by .ensures in
     let f = c .added-by .ensures in
     streaming-with
-    (streaming-more (g .inv) (part (loop-again·Else1 c)) (loop-again·tick c .tick .ensures) (m .packet-in .ensures .1 (g .devices) (lends (loop-again·near-by c)))
+    (streaming-more (g .inv) (part (loop-again·Else1 c)) (loop-again·tick c .tick .ensures) (m .quick-in .ensures .1 (g .devices) (lends (loop-again·near-by c)))
     (sym (loop-again·goes-on c .goes-on .ensures) ∙ not-false _ (loop-again·Else2 c .if2 .left))
     (loop-again·eight c .eight .ensures)
-    (addressed-changed (g .inv .addressed) (g .inv .many) (m .packet-in .result .change) (m .packet-in .ensures .0) e f)
+    (addressed-changed (g .inv .addressed) (g .inv .many) (m .quick-in .result .change) (m .quick-in .ensures .0) e f)
     (sizes m))
-    _ (changed-by (m .packet-in .result .change) (g .devices) e f)
+    _ (changed-by (m .quick-in .result .change) (g .devices) e f)
 
 loop-less-2 : tie.Need-loop-less-2 Inv-loop μ-loop
 loop-less-2 c =
@@ -167,10 +167,10 @@ loop-less-2 c =
 loop-again-2 : tie.Need-loop-again-2 Inv-loop μ-loop
 loop-again-2 c =
     let g = loop-again-2·At-loop c .loop in
-    let m = loop-again-2·packet-in c in
-    let same = changed-none (m .packet-in .result .change) (g .devices) (sym (loop-again-2·is-change c .is-change .ensures) ∙ c .if3 .left) in
+    let m = loop-again-2·quick-in c in
+    let same = changed-none (m .quick-in .result .change) (g .devices) (sym (loop-again-2·is-change c .is-change .ensures) ∙ c .if3 .left) in
     streaming-with
-    (streaming-more (g .inv) (part (loop-again-2·Else1 c)) (loop-again-2·tick c .tick .ensures) (m .packet-in .ensures .1 (g .devices) (lends (loop-again-2·near-by c)))
+    (streaming-more (g .inv) (part (loop-again-2·Else1 c)) (loop-again-2·tick c .tick .ensures) (m .quick-in .ensures .1 (g .devices) (lends (loop-again-2·near-by c)))
     (sym (loop-again-2·goes-on c .goes-on .ensures) ∙ not-false _ (loop-again-2·Else2 c .if2 .left))
     (loop-again-2·eight c .eight .ensures)
     (subst (Addressed 64 (g .addresses)) (sym same) (g .inv .addressed))
@@ -209,39 +209,39 @@ run-packets-spec =
     (λ c. owner-small (array-copy-out-held·sight-of c))
     (λ c κs. streaming-number (near-by-requires·At-loop c .loop .inv) (part (near-by-requires·Else1 c)) (near-by-requires·sight-of c .sight-of .ensures))
     (λ c κs. tt)
-    sub-packet-in
-    part-packet-in-start
-    part-packet-in-end
-    packet-in-requires
+    sub-quick-in
+    part-quick-in-start
+    part-quick-in-end
+    quick-in-requires
     (λ c κs. tt)
-    (λ c. sizes (returns-2·packet-in c) 0 (log-number 0 refl) ∙ returns-2·At-loop c .loop .inv .sizes 0 (log-number 0 refl))
-    (λ c. sizes (returns-2·packet-in c) 1 (log-number 1 refl) ∙ returns-2·At-loop c .loop .inv .sizes 1 (log-number 1 refl))
-    (λ c. sizes (returns-2·packet-in c) 2 (log-number 2 refl) ∙ returns-2·At-loop c .loop .inv .sizes 2 (log-number 2 refl))
-    (λ c. sizes (returns-2·packet-in c) 3 (log-number 3 refl) ∙ returns-2·At-loop c .loop .inv .sizes 3 (log-number 3 refl))
-    (λ c. sizes (returns-2·packet-in c) 5 (log-number 5 refl) ∙ returns-2·At-loop c .loop .inv .sizes 5 (log-number 5 refl))
-    (λ c. sizes (returns-2·packet-in c) 6 (log-number 6 refl) ∙ returns-2·At-loop c .loop .inv .sizes 6 (log-number 6 refl))
-    (λ c. sizes (returns-2·packet-in c) 7 (log-number 7 refl) ∙ returns-2·At-loop c .loop .inv .sizes 7 (log-number 7 refl))
-    (λ c. sizes (returns-2·packet-in c) 8 (log-number 8 refl) ∙ returns-2·At-loop c .loop .inv .sizes 8 (log-number 8 refl))
-    (λ c. sizes (returns-2·packet-in c) 9 (log-number 9 refl) ∙ returns-2·At-loop c .loop .inv .sizes 9 (log-number 9 refl))
-    (λ c. sizes (returns-2·packet-in c) 10 (log-number 10 refl) ∙ returns-2·At-loop c .loop .inv .sizes 10 (log-number 10 refl))
-    (λ c. sizes (returns-2·packet-in c) 11 (log-number 11 refl) ∙ returns-2·At-loop c .loop .inv .sizes 11 (log-number 11 refl))
+    (λ c. sizes (returns-2·quick-in c) 0 (log-number 0 refl) ∙ returns-2·At-loop c .loop .inv .sizes 0 (log-number 0 refl))
+    (λ c. sizes (returns-2·quick-in c) 1 (log-number 1 refl) ∙ returns-2·At-loop c .loop .inv .sizes 1 (log-number 1 refl))
+    (λ c. sizes (returns-2·quick-in c) 2 (log-number 2 refl) ∙ returns-2·At-loop c .loop .inv .sizes 2 (log-number 2 refl))
+    (λ c. sizes (returns-2·quick-in c) 3 (log-number 3 refl) ∙ returns-2·At-loop c .loop .inv .sizes 3 (log-number 3 refl))
+    (λ c. sizes (returns-2·quick-in c) 5 (log-number 5 refl) ∙ returns-2·At-loop c .loop .inv .sizes 5 (log-number 5 refl))
+    (λ c. sizes (returns-2·quick-in c) 6 (log-number 6 refl) ∙ returns-2·At-loop c .loop .inv .sizes 6 (log-number 6 refl))
+    (λ c. sizes (returns-2·quick-in c) 7 (log-number 7 refl) ∙ returns-2·At-loop c .loop .inv .sizes 7 (log-number 7 refl))
+    (λ c. sizes (returns-2·quick-in c) 8 (log-number 8 refl) ∙ returns-2·At-loop c .loop .inv .sizes 8 (log-number 8 refl))
+    (λ c. sizes (returns-2·quick-in c) 9 (log-number 9 refl) ∙ returns-2·At-loop c .loop .inv .sizes 9 (log-number 9 refl))
+    (λ c. sizes (returns-2·quick-in c) 10 (log-number 10 refl) ∙ returns-2·At-loop c .loop .inv .sizes 10 (log-number 10 refl))
+    (λ c. sizes (returns-2·quick-in c) 11 (log-number 11 refl) ∙ returns-2·At-loop c .loop .inv .sizes 11 (log-number 11 refl))
     returns-2
     add-taken
     (λ c κs. tt)
     add-eights
     (λ c κs. tt)
-    (λ c. let h = mul-row-by·packet-in c .packet-in .ensures .0 .place in omega arith)
-    (λ c. array-copy-out-row-by·packet-in c .packet-in .ensures .0 .place)
+    (λ c. let h = mul-row-by·quick-in c .quick-in .ensures .0 .place in omega arith)
+    (λ c. array-copy-out-row-by·quick-in c .quick-in .ensures .0 .place)
     (λ c κs. tt)
-    (λ c. let h = mul-devices·packet-in c .packet-in .ensures .0 .place in omega arith)
-    (λ c. array-set-from-devices·packet-in c .packet-in .ensures .0 .place)
-    (λ c. array-write-addresses·packet-in c .packet-in .ensures .0 .place)
-    (λ c. let h = mul-added-by·packet-in c .packet-in .ensures .0 .at in omega arith)
-    (λ c. array-copy-out-added-by·packet-in c .packet-in .ensures .0 .at)
+    (λ c. let h = mul-devices·quick-in c .quick-in .ensures .0 .place in omega arith)
+    (λ c. array-set-from-devices·quick-in c .quick-in .ensures .0 .place)
+    (λ c. array-write-addresses·quick-in c .quick-in .ensures .0 .place)
+    (λ c. let h = mul-added-by·quick-in c .quick-in .ensures .0 .at in omega arith)
+    (λ c. array-copy-out-added-by·quick-in c .quick-in .ensures .0 .at)
     (λ c κs. tt)
-    (λ c. let h = mul-devices-2·packet-in c .packet-in .ensures .0 .at in omega arith)
-    (λ c. array-set-from-devices-2·packet-in c .packet-in .ensures .0 .at)
-    (λ c. array-write-addresses-2·packet-in c .packet-in .ensures .0 .at)
+    (λ c. let h = mul-devices-2·quick-in c .quick-in .ensures .0 .at in omega arith)
+    (λ c. array-set-from-devices-2·quick-in c .quick-in .ensures .0 .at)
+    (λ c. array-write-addresses-2·quick-in c .quick-in .ensures .0 .at)
     loop-less
     loop-again
     loop-less-2

@@ -4,11 +4,11 @@ use Rattle.stream.proofs.run_packets.Tie as tie
 abbrev pub At-loop·Start : {Inv : tie.InvT-loop} {μ : tie.MeasureT-loop} → tie.At-loop Inv μ → tie.Start Inv μ
 At-loop·Start c = c .before .before .before .before .before .before .before .before .before .before .before .before .before .before .before
 
-abbrev pub packet-in·Start : {Inv : tie.InvT-loop} {μ : tie.MeasureT-loop} → tie.After-packet-in Inv μ → tie.Start Inv μ
-packet-in·Start c = c .before .before .before .before .before .before .before .before .before .before .before .before .before .before .before .before .before .before .before .before .before .before .before .before .before .before .before .before .before .before .before .before .before .before .before .before .before .before .before .before
+abbrev pub quick-in·Start : {Inv : tie.InvT-loop} {μ : tie.MeasureT-loop} → tie.After-quick-in Inv μ → tie.Start Inv μ
+quick-in·Start c = c .before .before .before .before .before .before .before .before .before .before .before .before .before .before .before .before .before .before .before .before .before .before .before .before .before .before .before .before .before .before .before .before .before .before .before .before .before .before .before .before
 
-abbrev pub packet-in·At-loop : {Inv : tie.InvT-loop} {μ : tie.MeasureT-loop} → tie.After-packet-in Inv μ → tie.At-loop Inv μ
-packet-in·At-loop c = c .before .before .before .before .before .before .before .before .before .before .before .before .before .before .before .before .before .before .before .before .before .before .before .before .before
+abbrev pub quick-in·At-loop : {Inv : tie.InvT-loop} {μ : tie.MeasureT-loop} → tie.After-quick-in Inv μ → tie.At-loop Inv μ
+quick-in·At-loop c = c .before .before .before .before .before .before .before .before .before .before .before .before .before .before .before .before .before .before .before .before .before .before .before .before .before
 
 abbrev pub loop-holds·Start : {Inv : tie.InvT-loop} {μ : tie.MeasureT-loop} → tie.After-addresses-of Inv μ → tie.Start Inv μ
 loop-holds·Start c = c .before .before .before .before .before .before .before .before .before .before .before .before .before .before
@@ -73,32 +73,32 @@ near-by·Else1 c = c .before .before .before .before .before .before
 abbrev pub near-by·sight-of : {Inv : tie.InvT-loop} {μ : tie.MeasureT-loop} → tie.After-near-by Inv μ → tie.After-sight-of Inv μ
 near-by·sight-of c = c .before .before .before
 
-abbrev pub sub-packet-in·At-loop : {Inv : tie.InvT-loop} {μ : tie.MeasureT-loop} → tie.After-tick Inv μ → tie.At-loop Inv μ
-sub-packet-in·At-loop c = c .before .before .before .before .before .before .before .before .before .before .before
+abbrev pub sub-quick-in·At-loop : {Inv : tie.InvT-loop} {μ : tie.MeasureT-loop} → tie.After-tick Inv μ → tie.At-loop Inv μ
+sub-quick-in·At-loop c = c .before .before .before .before .before .before .before .before .before .before .before
 
-abbrev pub sub-packet-in·Else1 : {Inv : tie.InvT-loop} {μ : tie.MeasureT-loop} → tie.After-tick Inv μ → tie.Else1 Inv μ
-sub-packet-in·Else1 c = c .before .before .before .before .before .before .before
+abbrev pub sub-quick-in·Else1 : {Inv : tie.InvT-loop} {μ : tie.MeasureT-loop} → tie.After-tick Inv μ → tie.Else1 Inv μ
+sub-quick-in·Else1 c = c .before .before .before .before .before .before .before
 
-abbrev pub part-packet-in-start·At-loop : {Inv : tie.InvT-loop} {μ : tie.MeasureT-loop} → tie.After-tick Inv μ → tie.At-loop Inv μ
-part-packet-in-start·At-loop c = c .before .before .before .before .before .before .before .before .before .before .before
+abbrev pub part-quick-in-start·At-loop : {Inv : tie.InvT-loop} {μ : tie.MeasureT-loop} → tie.After-tick Inv μ → tie.At-loop Inv μ
+part-quick-in-start·At-loop c = c .before .before .before .before .before .before .before .before .before .before .before
 
-abbrev pub part-packet-in-start·Else1 : {Inv : tie.InvT-loop} {μ : tie.MeasureT-loop} → tie.After-tick Inv μ → tie.Else1 Inv μ
-part-packet-in-start·Else1 c = c .before .before .before .before .before .before .before
+abbrev pub part-quick-in-start·Else1 : {Inv : tie.InvT-loop} {μ : tie.MeasureT-loop} → tie.After-tick Inv μ → tie.Else1 Inv μ
+part-quick-in-start·Else1 c = c .before .before .before .before .before .before .before
 
-abbrev pub part-packet-in-end·At-loop : {Inv : tie.InvT-loop} {μ : tie.MeasureT-loop} → tie.After-tick Inv μ → tie.At-loop Inv μ
-part-packet-in-end·At-loop c = c .before .before .before .before .before .before .before .before .before .before .before
+abbrev pub part-quick-in-end·At-loop : {Inv : tie.InvT-loop} {μ : tie.MeasureT-loop} → tie.After-tick Inv μ → tie.At-loop Inv μ
+part-quick-in-end·At-loop c = c .before .before .before .before .before .before .before .before .before .before .before
 
-abbrev pub part-packet-in-end·Else1 : {Inv : tie.InvT-loop} {μ : tie.MeasureT-loop} → tie.After-tick Inv μ → tie.Else1 Inv μ
-part-packet-in-end·Else1 c = c .before .before .before .before .before .before .before
+abbrev pub part-quick-in-end·Else1 : {Inv : tie.InvT-loop} {μ : tie.MeasureT-loop} → tie.After-tick Inv μ → tie.Else1 Inv μ
+part-quick-in-end·Else1 c = c .before .before .before .before .before .before .before
 
-abbrev pub packet-in-requires·At-loop : {Inv : tie.InvT-loop} {μ : tie.MeasureT-loop} → tie.After-packet-in-arg13 Inv μ → tie.At-loop Inv μ
-packet-in-requires·At-loop c = c .before .before .before .before .before .before .before .before .before .before .before .before .before .before .before .before .before .before .before .before .before .before .before .before
+abbrev pub quick-in-requires·At-loop : {Inv : tie.InvT-loop} {μ : tie.MeasureT-loop} → tie.After-quick-in-arg13 Inv μ → tie.At-loop Inv μ
+quick-in-requires·At-loop c = c .before .before .before .before .before .before .before .before .before .before .before .before .before .before .before .before .before .before .before .before .before .before .before .before
 
-abbrev pub packet-in-requires·Else1 : {Inv : tie.InvT-loop} {μ : tie.MeasureT-loop} → tie.After-packet-in-arg13 Inv μ → tie.Else1 Inv μ
-packet-in-requires·Else1 c = c .before .before .before .before .before .before .before .before .before .before .before .before .before .before .before .before .before .before .before .before
+abbrev pub quick-in-requires·Else1 : {Inv : tie.InvT-loop} {μ : tie.MeasureT-loop} → tie.After-quick-in-arg13 Inv μ → tie.Else1 Inv μ
+quick-in-requires·Else1 c = c .before .before .before .before .before .before .before .before .before .before .before .before .before .before .before .before .before .before .before .before
 
-abbrev pub packet-in-requires·near-by : {Inv : tie.InvT-loop} {μ : tie.MeasureT-loop} → tie.After-packet-in-arg13 Inv μ → tie.After-near-by Inv μ
-packet-in-requires·near-by c = c .before .before .before .before .before .before .before .before .before .before .before .before .before .before
+abbrev pub quick-in-requires·near-by : {Inv : tie.InvT-loop} {μ : tie.MeasureT-loop} → tie.After-quick-in-arg13 Inv μ → tie.After-near-by Inv μ
+quick-in-requires·near-by c = c .before .before .before .before .before .before .before .before .before .before .before .before .before .before
 
 abbrev pub returns-2·At-loop : {Inv : tie.InvT-loop} {μ : tie.MeasureT-loop} → tie.Then2 Inv μ → tie.At-loop Inv μ
 returns-2·At-loop c = c .before .before .before .before .before .before .before .before .before .before .before .before .before .before .before .before .before .before .before .before .before .before .before .before .before .before .before .before .before .before .before .before .before .before .before .before .before .before .before .before .before .before .before .before .before .before .before .before .before .before
@@ -109,8 +109,8 @@ returns-2·Else1 c = c .before .before .before .before .before .before .before .
 abbrev pub returns-2·tick : {Inv : tie.InvT-loop} {μ : tie.MeasureT-loop} → tie.Then2 Inv μ → tie.After-tick Inv μ
 returns-2·tick c = c .before .before .before .before .before .before .before .before .before .before .before .before .before .before .before .before .before .before .before .before .before .before .before .before .before .before .before .before .before .before .before .before .before .before .before .before .before .before .before
 
-abbrev pub returns-2·packet-in : {Inv : tie.InvT-loop} {μ : tie.MeasureT-loop} → tie.Then2 Inv μ → tie.After-packet-in Inv μ
-returns-2·packet-in c = c .before .before .before .before .before .before .before .before .before .before .before .before .before .before .before .before .before .before .before .before .before .before .before .before .before
+abbrev pub returns-2·quick-in : {Inv : tie.InvT-loop} {μ : tie.MeasureT-loop} → tie.Then2 Inv μ → tie.After-quick-in Inv μ
+returns-2·quick-in c = c .before .before .before .before .before .before .before .before .before .before .before .before .before .before .before .before .before .before .before .before .before .before .before .before .before
 
 abbrev pub returns-2·near-by : {Inv : tie.InvT-loop} {μ : tie.MeasureT-loop} → tie.Then2 Inv μ → tie.After-near-by Inv μ
 returns-2·near-by c = c .before .before .before .before .before .before .before .before .before .before .before .before .before .before .before .before .before .before .before .before .before .before .before .before .before .before .before .before .before .before .before .before .before .before .before .before .before .before .before .before
@@ -124,8 +124,8 @@ add-taken·Else1 c = c .before .before .before .before .before .before .before .
 abbrev pub add-eights·Else1 : {Inv : tie.InvT-loop} {μ : tie.MeasureT-loop} → tie.After-eight Inv μ → tie.Else1 Inv μ
 add-eights·Else1 c = c .before .before .before .before .before .before .before .before .before .before .before .before .before .before .before .before .before .before .before .before .before .before .before .before .before .before .before .before .before .before .before .before .before .before .before .before .before .before .before .before .before .before .before .before .before .before .before
 
-abbrev pub add-eights·packet-in : {Inv : tie.InvT-loop} {μ : tie.MeasureT-loop} → tie.After-eight Inv μ → tie.After-packet-in Inv μ
-add-eights·packet-in c = c .before .before .before .before .before .before .before .before .before .before .before .before .before .before .before .before .before .before .before .before .before .before .before .before .before .before
+abbrev pub add-eights·quick-in : {Inv : tie.InvT-loop} {μ : tie.MeasureT-loop} → tie.After-eight Inv μ → tie.After-quick-in Inv μ
+add-eights·quick-in c = c .before .before .before .before .before .before .before .before .before .before .before .before .before .before .before .before .before .before .before .before .before .before .before .before .before .before
 
 abbrev pub loop-less·At-loop : {Inv : tie.InvT-loop} {μ : tie.MeasureT-loop} → tie.After-added-by Inv μ → tie.At-loop Inv μ
 loop-less·At-loop c = c .before .before .before .before .before .before .before .before .before .before .before .before .before .before .before .before .before .before .before .before .before .before .before .before .before .before .before .before .before .before .before .before .before .before .before .before .before .before .before .before .before .before .before .before .before .before .before .before .before .before .before .before .before .before .before .before .before .before
@@ -136,8 +136,8 @@ loop-less·Else1 c = c .before .before .before .before .before .before .before .
 abbrev pub loop-again·At-loop : {Inv : tie.InvT-loop} {μ : tie.MeasureT-loop} → tie.After-added-by Inv μ → tie.At-loop Inv μ
 loop-again·At-loop c = c .before .before .before .before .before .before .before .before .before .before .before .before .before .before .before .before .before .before .before .before .before .before .before .before .before .before .before .before .before .before .before .before .before .before .before .before .before .before .before .before .before .before .before .before .before .before .before .before .before .before .before .before .before .before .before .before .before .before
 
-abbrev pub loop-again·packet-in : {Inv : tie.InvT-loop} {μ : tie.MeasureT-loop} → tie.After-added-by Inv μ → tie.After-packet-in Inv μ
-loop-again·packet-in c = c .before .before .before .before .before .before .before .before .before .before .before .before .before .before .before .before .before .before .before .before .before .before .before .before .before .before .before .before .before .before .before .before .before
+abbrev pub loop-again·quick-in : {Inv : tie.InvT-loop} {μ : tie.MeasureT-loop} → tie.After-added-by Inv μ → tie.After-quick-in Inv μ
+loop-again·quick-in c = c .before .before .before .before .before .before .before .before .before .before .before .before .before .before .before .before .before .before .before .before .before .before .before .before .before .before .before .before .before .before .before .before .before
 
 abbrev pub loop-again·row-by : {Inv : tie.InvT-loop} {μ : tie.MeasureT-loop} → tie.After-added-by Inv μ → tie.After-row-by Inv μ
 loop-again·row-by c = c .before .before
@@ -169,8 +169,8 @@ loop-less-2·Else1 c = c .before .before .before .before .before .before .before
 abbrev pub loop-again-2·At-loop : {Inv : tie.InvT-loop} {μ : tie.MeasureT-loop} → tie.Else3 Inv μ → tie.At-loop Inv μ
 loop-again-2·At-loop c = c .before .before .before .before .before .before .before .before .before .before .before .before .before .before .before .before .before .before .before .before .before .before .before .before .before .before .before .before .before .before .before .before .before .before .before .before .before .before .before .before .before .before .before .before .before .before .before .before .before .before .before .before .before .before
 
-abbrev pub loop-again-2·packet-in : {Inv : tie.InvT-loop} {μ : tie.MeasureT-loop} → tie.Else3 Inv μ → tie.After-packet-in Inv μ
-loop-again-2·packet-in c = c .before .before .before .before .before .before .before .before .before .before .before .before .before .before .before .before .before .before .before .before .before .before .before .before .before .before .before .before .before
+abbrev pub loop-again-2·quick-in : {Inv : tie.InvT-loop} {μ : tie.MeasureT-loop} → tie.Else3 Inv μ → tie.After-quick-in Inv μ
+loop-again-2·quick-in c = c .before .before .before .before .before .before .before .before .before .before .before .before .before .before .before .before .before .before .before .before .before .before .before .before .before .before .before .before .before
 
 abbrev pub loop-again-2·is-change : {Inv : tie.InvT-loop} {μ : tie.MeasureT-loop} → tie.Else3 Inv μ → tie.After-is-change Inv μ
 loop-again-2·is-change c = c .before
@@ -208,32 +208,32 @@ near-by-requires·Else1 c = c .before .before .before .before .before
 abbrev pub near-by-requires·sight-of : {Inv : tie.InvT-loop} {μ : tie.MeasureT-loop} → tie.After-held Inv μ → tie.After-sight-of Inv μ
 near-by-requires·sight-of c = c .before .before
 
-abbrev pub mul-row-by·packet-in : {Inv : tie.InvT-loop} {μ : tie.MeasureT-loop} → tie.Then3 Inv μ → tie.After-packet-in Inv μ
-mul-row-by·packet-in c = c .before .before .before .before .before .before .before .before .before .before .before .before .before .before .before .before .before .before .before .before .before .before .before .before .before .before .before .before .before
+abbrev pub mul-row-by·quick-in : {Inv : tie.InvT-loop} {μ : tie.MeasureT-loop} → tie.Then3 Inv μ → tie.After-quick-in Inv μ
+mul-row-by·quick-in c = c .before .before .before .before .before .before .before .before .before .before .before .before .before .before .before .before .before .before .before .before .before .before .before .before .before .before .before .before .before
 
-abbrev pub array-copy-out-row-by·packet-in : {Inv : tie.InvT-loop} {μ : tie.MeasureT-loop} → tie.Then3 Inv μ → tie.After-packet-in Inv μ
-array-copy-out-row-by·packet-in c = c .before .before .before .before .before .before .before .before .before .before .before .before .before .before .before .before .before .before .before .before .before .before .before .before .before .before .before .before .before
+abbrev pub array-copy-out-row-by·quick-in : {Inv : tie.InvT-loop} {μ : tie.MeasureT-loop} → tie.Then3 Inv μ → tie.After-quick-in Inv μ
+array-copy-out-row-by·quick-in c = c .before .before .before .before .before .before .before .before .before .before .before .before .before .before .before .before .before .before .before .before .before .before .before .before .before .before .before .before .before
 
-abbrev pub mul-devices·packet-in : {Inv : tie.InvT-loop} {μ : tie.MeasureT-loop} → tie.After-row-by Inv μ → tie.After-packet-in Inv μ
-mul-devices·packet-in c = c .before .before .before .before .before .before .before .before .before .before .before .before .before .before .before .before .before .before .before .before .before .before .before .before .before .before .before .before .before .before .before
+abbrev pub mul-devices·quick-in : {Inv : tie.InvT-loop} {μ : tie.MeasureT-loop} → tie.After-row-by Inv μ → tie.After-quick-in Inv μ
+mul-devices·quick-in c = c .before .before .before .before .before .before .before .before .before .before .before .before .before .before .before .before .before .before .before .before .before .before .before .before .before .before .before .before .before .before .before
 
-abbrev pub array-set-from-devices·packet-in : {Inv : tie.InvT-loop} {μ : tie.MeasureT-loop} → tie.After-row-by Inv μ → tie.After-packet-in Inv μ
-array-set-from-devices·packet-in c = c .before .before .before .before .before .before .before .before .before .before .before .before .before .before .before .before .before .before .before .before .before .before .before .before .before .before .before .before .before .before .before
+abbrev pub array-set-from-devices·quick-in : {Inv : tie.InvT-loop} {μ : tie.MeasureT-loop} → tie.After-row-by Inv μ → tie.After-quick-in Inv μ
+array-set-from-devices·quick-in c = c .before .before .before .before .before .before .before .before .before .before .before .before .before .before .before .before .before .before .before .before .before .before .before .before .before .before .before .before .before .before .before
 
-abbrev pub array-write-addresses·packet-in : {Inv : tie.InvT-loop} {μ : tie.MeasureT-loop} → tie.After-row-by Inv μ → tie.After-packet-in Inv μ
-array-write-addresses·packet-in c = c .before .before .before .before .before .before .before .before .before .before .before .before .before .before .before .before .before .before .before .before .before .before .before .before .before .before .before .before .before .before .before
+abbrev pub array-write-addresses·quick-in : {Inv : tie.InvT-loop} {μ : tie.MeasureT-loop} → tie.After-row-by Inv μ → tie.After-quick-in Inv μ
+array-write-addresses·quick-in c = c .before .before .before .before .before .before .before .before .before .before .before .before .before .before .before .before .before .before .before .before .before .before .before .before .before .before .before .before .before .before .before
 
-abbrev pub mul-added-by·packet-in : {Inv : tie.InvT-loop} {μ : tie.MeasureT-loop} → tie.After-row-by Inv μ → tie.After-packet-in Inv μ
-mul-added-by·packet-in c = c .before .before .before .before .before .before .before .before .before .before .before .before .before .before .before .before .before .before .before .before .before .before .before .before .before .before .before .before .before .before .before
+abbrev pub mul-added-by·quick-in : {Inv : tie.InvT-loop} {μ : tie.MeasureT-loop} → tie.After-row-by Inv μ → tie.After-quick-in Inv μ
+mul-added-by·quick-in c = c .before .before .before .before .before .before .before .before .before .before .before .before .before .before .before .before .before .before .before .before .before .before .before .before .before .before .before .before .before .before .before
 
-abbrev pub array-copy-out-added-by·packet-in : {Inv : tie.InvT-loop} {μ : tie.MeasureT-loop} → tie.After-row-by Inv μ → tie.After-packet-in Inv μ
-array-copy-out-added-by·packet-in c = c .before .before .before .before .before .before .before .before .before .before .before .before .before .before .before .before .before .before .before .before .before .before .before .before .before .before .before .before .before .before .before
+abbrev pub array-copy-out-added-by·quick-in : {Inv : tie.InvT-loop} {μ : tie.MeasureT-loop} → tie.After-row-by Inv μ → tie.After-quick-in Inv μ
+array-copy-out-added-by·quick-in c = c .before .before .before .before .before .before .before .before .before .before .before .before .before .before .before .before .before .before .before .before .before .before .before .before .before .before .before .before .before .before .before
 
-abbrev pub mul-devices-2·packet-in : {Inv : tie.InvT-loop} {μ : tie.MeasureT-loop} → tie.After-added-by Inv μ → tie.After-packet-in Inv μ
-mul-devices-2·packet-in c = c .before .before .before .before .before .before .before .before .before .before .before .before .before .before .before .before .before .before .before .before .before .before .before .before .before .before .before .before .before .before .before .before .before
+abbrev pub mul-devices-2·quick-in : {Inv : tie.InvT-loop} {μ : tie.MeasureT-loop} → tie.After-added-by Inv μ → tie.After-quick-in Inv μ
+mul-devices-2·quick-in c = c .before .before .before .before .before .before .before .before .before .before .before .before .before .before .before .before .before .before .before .before .before .before .before .before .before .before .before .before .before .before .before .before .before
 
-abbrev pub array-set-from-devices-2·packet-in : {Inv : tie.InvT-loop} {μ : tie.MeasureT-loop} → tie.After-added-by Inv μ → tie.After-packet-in Inv μ
-array-set-from-devices-2·packet-in c = c .before .before .before .before .before .before .before .before .before .before .before .before .before .before .before .before .before .before .before .before .before .before .before .before .before .before .before .before .before .before .before .before .before
+abbrev pub array-set-from-devices-2·quick-in : {Inv : tie.InvT-loop} {μ : tie.MeasureT-loop} → tie.After-added-by Inv μ → tie.After-quick-in Inv μ
+array-set-from-devices-2·quick-in c = c .before .before .before .before .before .before .before .before .before .before .before .before .before .before .before .before .before .before .before .before .before .before .before .before .before .before .before .before .before .before .before .before .before
 
-abbrev pub array-write-addresses-2·packet-in : {Inv : tie.InvT-loop} {μ : tie.MeasureT-loop} → tie.After-added-by Inv μ → tie.After-packet-in Inv μ
-array-write-addresses-2·packet-in c = c .before .before .before .before .before .before .before .before .before .before .before .before .before .before .before .before .before .before .before .before .before .before .before .before .before .before .before .before .before .before .before .before .before
+abbrev pub array-write-addresses-2·quick-in : {Inv : tie.InvT-loop} {μ : tie.MeasureT-loop} → tie.After-added-by Inv μ → tie.After-quick-in Inv μ
+array-write-addresses-2·quick-in c = c .before .before .before .before .before .before .before .before .before .before .before .before .before .before .before .before .before .before .before .before .before .before .before .before .before .before .before .before .before .before .before .before .before

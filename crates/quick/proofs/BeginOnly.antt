@@ -1,0 +1,200 @@
+-- A begin-only packet leaves what specs/Begin.antt says: `begin-only-call`.
+use mathlib.Core.Path.{_≡_, refl, sym, ap, subst, _∙_}
+use mathlib.Core.Bool.{Bool, true, false, _&&_}
+use mathlib.Core.List.{List, [], _∷_}
+use Prim.Native.Nat.{ℕ, _+_, _*_, _/_, _^_, _<_, _≤_}
+use native.Mathlib.Omega.{arith}
+use borrow.Author.Tests.{leb-true}
+use lib.Dec.{leb}
+use lib.ListN.{length}
+use lib.Seq.{sets}
+use Rattle.rows.specs.One.{one}
+use Rattle.rows.specs.Sets.{opt}
+use Rattle.rows.specs.Widths.{packetWidth, transactionWidth, linkWidth}
+use Rattle.rules.specs.Rows.{naming, transactionWords}
+use Rattle.transaction.specs.declared.Transaction.{Transaction}
+use Rattle.endpoints.specs.Table.{entryAt}
+use Rattle.rules.specs.declared.Slot.{Slot}
+use Rattle.rules.specs.declared.Slot.the-variants.{Current}
+use Rattle.tally.specs.Tally.{tallyUpdate}
+use Rattle.write_update.specs.Carried.{opened, closed}
+use Rattle.record.specs.Bools.{both}
+use Rattle.record.specs.Room.{fitting}
+use Rattle.record.specs.RoomLaws.{Within, fitting-within}
+use Rattle.record.specs.declared.Counts.{Counts}
+use Rattle.record.specs.declared.Decoder.{Decoder}
+use Rattle.plan.specs.Packet.{planOf}
+use Rattle.plan.specs.declared.Plan.{Plan}
+use Rattle.call.specs.Outcome.{worldAt}
+use Rattle.call.specs.State.{State, state, logs, roomBy, roomOf}
+use Rattle.endpoints.specs.Link.{T}
+use Rattle.tally.specs.Passes.{planPasses}
+use Rattle.tally.specs.Tallies.{tallyPlan, tallyBegin, addCounts}
+use Rattle.write_packet.specs.Desk.{begunDesk}
+use Rattle.write_packet.specs.Asked.{PlanAsks}
+use Rattle.packet.specs.After.{sumBy, sumPlan, tallyOf, handOf, changeBy, isChange}
+use Rattle.packet.proofs.Answers.{deskBy}
+use Rattle.packet.specs.Call.{PacketCall}
+use Rattle.packet.specs.declared.sum.Sum.{Sum}
+use Rattle.quick.specs.Begin.{onlyBegin, BeginOnly, beginCounts, beginRoom, beginDecoder, beginTable, beginState, BeginFits}
+use Rattle.quick.proofs.Calls.{Enters, well, leftWith, shape-asks, shape-rows, shape-call}
+
+-- ---- the shape
+
+pub shape : {p : Plan} {row : Bool} {t : Transaction} {l : Bool} {slot : Slot} → BeginOnly p row t l slot → p ≡ onlyBegin p row t l slot
+shape {p} h =
+    λ i. record {
+      resumes = h .resumes i;
+      resume = p .resume;
+      ends = h .ends i;
+      old = p .old;
+      brought = p .brought;
+      end = p .end;
+      begin = record {
+        row = h .begins i;
+        device = h .device i;
+        endpoint = h .endpoint i;
+        types = h .types i;
+        owner = p .begin .owner;
+        place = p .begin .place;
+        number = p .begin .number;
+        kind = p .begin .kind;
+        transaction = h .transaction i;
+        update = h .update i;
+      };
+      closes = h .closes i;
+      close = p .close;
+      slot = h .slot i;
+    }
+
+-- ---- the sum
+
+-- nothing more of the other kinds
+plain : (n : Counts) (len a b : ℕ) → _≡_ {A = Counts}
+    (record { bytes = n .bytes + (0 + len); devices = n .devices + 0; endpoints = n .endpoints + 0; packets = n .packets + 1; events = n .events + 0; transactions = n .transactions + a; groups = n .groups + 0; statebytes = n .statebytes + 0; states = n .states + 0; items = n .items + 0; links = n .links + b; requests = n .requests + 0 })
+    (record { bytes = n .bytes + len; devices = n .devices; endpoints = n .endpoints; packets = n .packets + 1; events = n .events; transactions = n .transactions + a; groups = n .groups; statebytes = n .statebytes; states = n .states; items = n .items; links = n .links + b; requests = n .requests })
+plain n len a b =
+    let same : (m : ℕ) → m + 0 ≡ m = λ m. omega arith in
+    let long : n .bytes + (0 + len) ≡ n .bytes + len = omega arith in
+    λ i. record { bytes = long i; devices = same (n .devices) i; endpoints = same (n .endpoints) i; packets = n .packets + 1; events = same (n .events) i; transactions = n .transactions + a; groups = same (n .groups) i; statebytes = same (n .statebytes) i; states = same (n .states) i; items = same (n .items) i; links = n .links + b; requests = same (n .requests) i }
+
+abbrev pub beginSum : Bool → Bool → ℕ → Decoder → Sum
+beginSum row l len d = record { answer = 0; counts = beginCounts row l len (d .counts); waiting = d .waiting }
+
+module _ (p : Plan) (t : Transaction) (slot : Slot) (d : Decoder) (len : ℕ) where
+  counts-by : (row l : Bool) → addCounts (d .counts) (tallyOf d (onlyBegin p row t l slot) len) ≡ beginCounts row l len (d .counts)
+  unfolding addCounts tallyPlan tallyBegin tallyUpdate
+  counts-by true true = plain (d .counts) len 1 1
+  counts-by true false = plain (d .counts) len 1 0
+  counts-by false true = plain (d .counts) len 0 1
+  counts-by false false = plain (d .counts) len 0 0
+
+  waiting-by : (row l : Bool) → tallyOf d (onlyBegin p row t l slot) len .waiting ≡ d .waiting
+  unfolding tallyPlan tallyBegin tallyUpdate
+  waiting-by true true = refl
+  waiting-by true false = refl
+  waiting-by false true = refl
+  waiting-by false false = refl
+
+  pub sum-by : (row l : Bool) (room : Counts) → fitting (beginCounts row l len (d .counts)) room ≡ true
+      → sumPlan d (onlyBegin p row t l slot) len room ≡ beginSum row l len d
+  unfolding sumPlan planPasses
+  sum-by row l room e =
+      ap (λ (b : Bool). sumBy b false d (tallyOf d (onlyBegin p row t l slot) len)) (ap (λ (n : Counts). fitting n room) (counts-by row l) ∙ e)
+      ∙ λ i. record { answer = 0; counts = counts-by row l i; waiting = waiting-by row l i }
+
+-- the room, of counts that fitted before
+pub fits-by : (row l : Bool) (len : ℕ) (n room : Counts) → Within n room → BeginFits row l len n room → fitting (beginCounts row l len n) room ≡ true
+fits-by row l len n room w f =
+    fitting-within (beginCounts row l len n) room
+    (record {
+      bytes = f .bytes;
+      devices = w .devices;
+      fewDevices = w .fewDevices;
+      endpoints = w .endpoints;
+      fewEndpoints = w .fewEndpoints;
+      packets = f .packets;
+      events = w .events;
+      transactions = f .transactions;
+      groups = w .groups;
+      statebytes = w .statebytes;
+      states = w .states;
+      items = w .items;
+      links = f .links;
+      requests = w .requests;
+    })
+
+-- ---- the steps
+
+pub left-by : (p : Plan) (t : Transaction) (packet : List ℕ) (time : ℕ) (s : State) (row l : Bool)
+    → leftWith (onlyBegin p row t l Current) (beginSum row l (length packet) (s .decoder)) packet time s ≡ beginState row t l packet time s
+unfolding begunDesk opened closed
+left-by p t packet time s true true = refl
+left-by p t packet time s true false = refl
+left-by p t packet time s false true = refl
+left-by p t packet time s false false = refl
+
+-- ---- a plan that comes to it
+
+abbrev pub BeginWants : State → Transaction → Type 0
+BeginWants s t = (t .endpoint < s .decoder .counts .endpoints) × ((s .decoder .counts .endpoints ≤ 128) × (entryAt (s .table) (t .endpoint) .transactions + 1 < 2 ^ 64))
+
+pub record BeginPlan (packet : List ℕ) (time : ℕ) (s : State) (row : Bool) (t : Transaction) (l : Bool) : Type 0 where
+  pub plan : Plan
+  pub is : planOf packet (worldAt s) ≡ plan
+  pub summed : sumPlan (s .decoder) plan (length packet) (roomOf (s .logs)) ≡ beginSum row l (length packet) (s .decoder)
+  pub left : leftWith plan (beginSum row l (length packet) (s .decoder)) packet time s ≡ beginState row t l packet time s
+  pub kept : isChange (changeBy plan (s .decoder .counts .devices)) ≡ false
+  -- what the code asks before it writes: the endpoint is there, and its count has room for one more
+  pub wants : PlanAsks plan (deskBy (handOf time (s .decoder)) s) → BeginWants s t
+
+module _ (packet : List ℕ) (time : ℕ) (s : State) (h : Enters packet s) where
+  pub only-plan : {row : Bool} {t : Transaction} {l : Bool} → BeginOnly (planOf packet (worldAt s)) row t l Current → BeginFits row l (length packet) (s .decoder .counts) (roomOf (s .logs)) → BeginPlan packet time s row t l
+  only-plan {row} {t} {l} q f =
+      record {
+        plan = onlyBegin (planOf packet (worldAt s)) row t l Current;
+        is = shape q;
+        summed = sum-by (planOf packet (worldAt s)) t Current (s .decoder) (length packet) row l (roomOf (s .logs))
+            (fits-by row l (length packet) (s .decoder .counts) (roomOf (s .logs)) (well packet time s h .counts) f);
+        left = left-by (planOf packet (worldAt s)) t packet time s row l;
+        kept = refl;
+        wants = λ a. (a .begin .there, (a .begin .few, a .begin .transactions));
+      }
+
+  -- ---- the call
+
+  module _ {row : Bool} {t : Transaction} {l : Bool} (q : BeginPlan packet time s row t l) where
+    pub begin-call : {s′ : State} → s′ ≡ beginState row t l packet time s → PacketCall packet time s 0 s′
+    begin-call e = subst (PacketCall packet time s 0) (q .left ∙ sym e) (shape-call packet time s h (q .is) (q .summed) refl (q .kept))
+
+    pub begin-asks : BeginWants s t
+    begin-asks = q .wants (shape-asks packet time s h (q .is) (q .summed) refl)
+
+    pub begin-rows : (s .decoder .counts .bytes + length packet ≤ length (s .logs .bytes)) × ((s .decoder .counts .packets + 1) * packetWidth ≤ length (s .logs .packets))
+    begin-rows = shape-rows packet time s h (q .is) (q .summed) refl
+
+    -- of what the code has: each part with its equation (begin_only)
+    pub begin-by : {r : Decoder} {table bytes packets transactions rows : List ℕ}
+        → r ≡ beginDecoder (beginCounts row l (length packet) (s .decoder .counts)) t l (s .table) (s .decoder)
+        → table ≡ beginTable l (t .endpoint) (s .table)
+        → bytes ≡ sets (s .logs .bytes) (s .decoder .counts .bytes) packet
+        → packets ≡ sets (s .logs .packets) (s .decoder .counts .packets * packetWidth) (s .decoder .counts .bytes ∷ time ∷ [])
+        → transactions ≡ sets (s .logs .transactions) (s .decoder .counts .transactions * transactionWidth) (opt row (transactionWords (naming (s .decoder .counts .packets))))
+        → rows ≡ sets (s .logs .links) (s .decoder .counts .links * linkWidth) (opt l (T ∷ t .endpoint ∷ t .id ∷ 0 ∷ []))
+        → PacketCall packet time s 0 (state r (s .devices) table (logs bytes (s .logs .devices) (s .logs .endpoints) packets (s .logs .events) transactions (s .logs .groups) (s .logs .statebytes) (s .logs .states) (s .logs .items) rows (s .logs .requests)))
+    begin-by p1 p2 p3 p4 p5 p6 =
+        begin-call (λ i. state (p1 i) (s .devices) (p2 i) (logs (p3 i) (s .logs .devices) (s .logs .endpoints) (p4 i) (s .logs .events) (p5 i) (s .logs .groups) (s .logs .statebytes) (s .logs .states) (s .logs .items) (p6 i) (s .logs .requests)))
+
+pub begin-more : (s : State) (row l : Bool) (len : ℕ) → BeginFits row l len (s .decoder .counts) (roomOf (s .logs))
+    → ((s .decoder .counts .transactions + one row) * transactionWidth ≤ length (s .logs .transactions)) × ((s .decoder .counts .links + one l) * linkWidth ≤ length (s .logs .links))
+unfolding roomBy
+begin-more s row l len f = let a = f .transactions in let b = f .links in (omega (arith, a), omega (arith, b))
+
+-- the four comparisons that begin_fits has made
+pub room-fits : (row l : Bool) (len : ℕ) (n room : Counts) → beginRoom (beginCounts row l len n) room ≡ true → BeginFits row l len n room
+room-fits row l len n room h =
+    let m = beginCounts row l len n in
+    let a = both ((leb (m .bytes) (room .bytes) && leb (m .packets) (room .packets)) && leb (m .transactions) (room .transactions)) _ h in
+    let b = both (leb (m .bytes) (room .bytes) && leb (m .packets) (room .packets)) _ (a .0) in
+    let c = both (leb (m .bytes) (room .bytes)) _ (b .0) in
+    record { bytes = leb-true _ _ (c .0); packets = leb-true _ _ (c .1); transactions = leb-true _ _ (b .1); links = leb-true _ _ (a .1) }

@@ -1,0 +1,75 @@
+-- A packet whose plan is of a given shape, and whose sum is known: what it leaves, and what carrying it out asks.
+use mathlib.Core.Path.{_≡_, refl, sym, ap, subst, _∙_}
+use mathlib.Core.Bool.{Bool, true, false}
+use mathlib.Core.List.{List, [], _∷_}
+use Prim.Native.Nat.{ℕ, _+_, _*_, _<_, _≤_}
+use lib.ListN.{length, getD}
+use lib.Seq.{sets}
+use Rattle.rows.specs.Widths.{packetWidth}
+use Rattle.transaction.specs.Payload.{startPid}
+use Rattle.details.specs.declared.Device.{Device}
+use Rattle.rules.specs.Transactions.{isDropped}
+use Rattle.record.specs.FormedLaws.{WellFormed}
+use Rattle.plan.specs.Packet.{planOf}
+use Rattle.plan.specs.declared.Plan.{Plan}
+use Rattle.call.specs.Outcome.{isIll, worldAt}
+use Rattle.call.specs.OutcomeLaws.{sound}
+use Rattle.call.specs.Share.{Known}
+use Rattle.call.specs.State.{State, state, logs, roomOf}
+use Rattle.write_packet.specs.Asked.{PlanAsks}
+use Rattle.write_packet.specs.Desk.{Desk, performed}
+use Rattle.packet.specs.After.{sumPlan, handOf, decoderBy, changeBy, changed, isChange}
+use Rattle.packet.specs.Call.{PacketCall}
+use Rattle.packet.specs.declared.sum.Sum.{Sum}
+use Rattle.packet.proofs.Answers.{Passes, Decided, deskBy, accepted-by, asks-by, rows-fit}
+use Rattle.packet.proofs.Changes.{changed-none}
+
+-- the tests that were passed, and what is known of the arguments
+pub record Enters (packet : List ℕ) (s : State) : Type 0 where
+  pub ill : isIll s ≡ false
+  pub finished : s .decoder .finished ≡ false
+  pub short : length packet ≤ 4096
+  pub live : isDropped (s .decoder .slot) (s .decoder .transaction) ≡ false
+  pub known : Known (s .table)
+  pub many : length (s .devices) ≡ 64
+  pub token : startPid (s .decoder .transaction .style) < 256
+  pub first : getD packet 0 0 < 256
+
+-- what the plan q with the sum z leaves, where it changes no device
+abbrev pub leftWith : Plan → Sum → List ℕ → ℕ → State → State
+leftWith q z packet time s =
+    let k = performed q (deskBy (handOf time (s .decoder)) s) in
+    state (decoderBy (s .decoder) q z (k .hand)) (s .devices) (k .table)
+    (logs (sets (s .logs .bytes) (s .decoder .counts .bytes) packet) (k .devices) (k .endpoints) (sets (s .logs .packets) (s .decoder .counts .packets * packetWidth) (s .decoder .counts .bytes ∷ time ∷ [])) (s .logs .events) (k .transactions) (k .groups) (k .statebytes) (k .states) (k .items) (k .links) (k .requests))
+
+module _ (packet : List ℕ) (time : ℕ) (s : State) (h : Enters packet s) where
+  pub well : WellFormed (s .decoder) (s .devices) (s .table) (roomOf (s .logs))
+  well = sound s (h .ill) .0
+
+  module _ {q : Plan} {z : Sum} (e : planOf packet (worldAt s) ≡ q) (f : sumPlan (s .decoder) q (length packet) (roomOf (s .logs)) ≡ z) (ok : z .answer ≡ 0) where
+    decided : Decided packet s q (roomOf (s .logs)) z
+    decided =
+        record {
+          passes = record { ill = h .ill; finished = h .finished; short = h .short };
+          known = h .known;
+          live = h .live;
+          many = h .many;
+          token = h .token;
+          first = h .first;
+          plan = sym e;
+          room = refl;
+          sum = sym f;
+        }
+
+    pub shape-asks : PlanAsks q (deskBy (handOf time (s .decoder)) s)
+    shape-asks = asks-by packet time s decided ok refl
+
+    pub shape-rows : (s .decoder .counts .bytes + length packet ≤ length (s .logs .bytes)) × ((s .decoder .counts .packets + 1) * packetWidth ≤ length (s .logs .packets))
+    shape-rows = rows-fit packet time s decided ok
+
+    pub shape-call : isChange (changeBy q (s .decoder .counts .devices)) ≡ false → PacketCall packet time s 0 (leftWith q z packet time s)
+    shape-call c =
+        let k = performed q (deskBy (handOf time (s .decoder)) s) in
+        subst (λ (v : List Device). PacketCall packet time s 0 (state (decoderBy (s .decoder) q z (k .hand)) v (k .table) (leftWith q z packet time s .logs)))
+        (changed-none (changeBy q (s .decoder .counts .devices)) (s .devices) c)
+        (accepted-by packet time s decided ok {h = handOf time (s .decoder)} {k = k} {x = decoderBy (s .decoder) q z (k .hand)} {c = changeBy q (s .decoder .counts .devices)} refl refl refl refl refl refl)

@@ -1,0 +1,105 @@
+-- What quick_in has decided, of each of the two shapes: the tests that were passed, and the plan.
+use mathlib.Core.Path.{_≡_, refl, sym, ap, subst, _∙_}
+use mathlib.Core.Bool.{Bool, true, false, _&&_}
+use mathlib.Core.List.{List}
+use Prim.Native.Nat.{ℕ, _+_, _<_, _^_}
+use native.Mathlib.Omega.{arith}
+use lib.ListN.{length, getD}
+use Rattle.details.specs.declared.Detail.{Detail}
+use Rattle.details.specs.declared.Device.{Device}
+use Rattle.endpoints.specs.Table.{entryAt}
+use Rattle.transaction.specs.Payload.{startPid}
+use Rattle.transaction.specs.declared.Transaction.{Transaction}
+use Rattle.rules.specs.Endpoints.{detailOf}
+use Rattle.rules.specs.Transactions.{isDropped}
+use Rattle.rules.specs.declared.Slot.the-variants.{Empty}
+use Rattle.tally.specs.Tallies.{Under}
+use Rattle.record.specs.Bools.{both}
+use Rattle.record.specs.declared.Counts.{Counts}
+use Rattle.record.specs.declared.Decoder.{Decoder}
+use Rattle.plan.specs.Packet.{oldEndpoint, endIf, planOf}
+use Rattle.plan.specs.Step.{endOf}
+use Rattle.plan.specs.declared.End.{End}
+use Rattle.call.specs.Outcome.{worldAt}
+use Rattle.call.specs.Share.{Known}
+use Rattle.call.specs.State.{State, Logs, state, roomOf}
+use Rattle.packet.specs.After.{keeping, changed}
+use Rattle.packet.specs.Call.{PacketCall}
+use Rattle.packet.specs.Lent.{Lent}
+use Rattle.packet.specs.declared.change.Change.{Change}
+use Rattle.packet.proofs.Answers.{Passes}
+use Rattle.packet.proofs.Changes.{changed-none}
+use Rattle.decide.specs.declared.near.Near.{Near}
+use Rattle.quick.specs.Begin.{Begins, beginCounts, beginRoom, BeginFits}
+use Rattle.quick.specs.Close.{CloseOnly, endBy, closeOf, CloseFits}
+use Rattle.quick.specs.Shaped.{Shaped, heldEnd}
+use Rattle.quick.specs.declared.close.Close.{Close}
+use Rattle.quick.specs.declared.shape.Shape.{Shape}
+use Rattle.quick.proofs.BeginOnly.{room-fits}
+use Rattle.quick.proofs.Calls.{Enters}
+use Rattle.quick.proofs.CloseOnly.{taken-fits}
+
+-- what is known before the shape is
+pub record Meets (packet : List ℕ) (s : State) : Type 0 where
+  pub passes : Passes packet s
+  pub known : Known (s .table)
+  pub many : length (s .devices) ≡ 64
+  pub token : startPid (s .decoder .transaction .style) < 256
+  pub first : getD packet 0 0 < 256
+
+enters : {packet : List ℕ} {s : State} → Meets packet s → isDropped (s .decoder .slot) (s .decoder .transaction) ≡ false → Enters packet s
+enters m live =
+    record { ill = m .passes .ill; finished = m .passes .finished; short = m .passes .short; live = live; known = m .known; many = m .many; token = m .token; first = m .first }
+
+-- ---- begin-only
+
+pub record BeginTaken (packet : List ℕ) (s : State) (q : Shape) : Type 0 where
+  pub enters : Enters packet s
+  pub plan : Begins (planOf packet (worldAt s)) (worldAt s) (q .row) (q .transaction) (q .link)
+  pub fits : BeginFits (q .row) (q .link) (length packet) (s .decoder .counts) (roomOf (s .logs))
+
+pub begin-taken : (packet : List ℕ) (s : State) (q : Shape) {n room : Counts} {f : Bool} → Meets packet s → Shaped q (planOf packet (worldAt s)) (worldAt s)
+    → n ≡ beginCounts (q .row) (q .link) (length packet) (s .decoder .counts) → room ≡ roomOf (s .logs) → f ≡ beginRoom n room → (q .begins && f) ≡ true → BeginTaken packet s q
+begin-taken packet s q {n} {room} {f} m h e1 e2 e3 t =
+    let g = both (q .begins) f t in
+    let b = h .begins (g .0) in
+    record {
+      enters = enters m (b .live);
+      plan = b .plan;
+      fits = room-fits (q .row) (q .link) (length packet) (s .decoder .counts) (roomOf (s .logs)) (sym (e3 ∙ λ i. beginRoom (e1 i) (e2 i)) ∙ g .1);
+    }
+
+-- ---- close-only
+
+pub record CloseTaken (packet : List ℕ) (s : State) (q : Shape) (e : End) : Type 0 where
+  pub enters : Enters packet s
+  pub plan : CloseOnly (planOf packet (worldAt s)) (q .transaction) e Empty
+  pub fits : CloseFits e (length packet) (s .decoder) (roomOf (s .logs))
+
+pub close-taken : (packet : List ℕ) (s : State) (q : Shape) (old : Detail) {room : Counts} {e : End} {c : Close} → Meets packet s → Shaped q (planOf packet (worldAt s)) (worldAt s)
+    → room ≡ roomOf (s .logs) → old ≡ detailOf (oldEndpoint (s .decoder .slot) (s .decoder .transaction)) (worldAt s)
+    → e ≡ endBy q (s .decoder) old (s .table) → c ≡ closeOf (q .closes) e (s .decoder) (length packet) room → c .taken ≡ true → CloseTaken packet s q e
+close-taken packet s q old {room} {e} {c} m h e1 e2 e3 e4 t =
+    let g = taken-fits (q .closes) e (s .decoder) (length packet) room (sym (ap (λ (x : Close). x .taken) e4) ∙ t) in
+    let b = h .closes (g .0) in
+    let x = oldEndpoint (s .decoder .slot) (s .decoder .transaction) in
+    let end : e ≡ heldEnd (q .success) (q .transaction) (worldAt s) =
+    e3 ∙ ((λ i. endIf (g .0 i) (endOf x (entryAt (s .table) x) (q .transaction) (e2 i) (s .decoder .last) (q .success) true) (entryAt (s .table) x))) in
+    record {
+      enters = enters m (b .live);
+      plan = subst (λ (y : End). CloseOnly (planOf packet (worldAt s)) (q .transaction) y Empty) (sym end) (b .plan);
+      fits = subst (λ (y : Counts). CloseFits e (length packet) (s .decoder) y) e1 (g .1);
+    }
+
+-- ---- the devices stay
+
+pub kept-devices : (packet : List ℕ) (time : ℕ) (s : State) {a : ℕ} {x : Decoder} {table : List ℕ} {l : Logs} {c : Change} → c ≡ keeping
+    → PacketCall packet time s a (state x (s .devices) table l) → PacketCall packet time s a (state x (changed c (s .devices)) table l)
+kept-devices packet time s {a} {x} {table} {l} {c} e p =
+    subst (λ (v : List Device). PacketCall packet time s a (state x v table l)) (sym (ap (λ (y : Change). changed y (s .devices)) e ∙ changed-none keeping (s .devices) refl)) p
+
+-- ---- the sums are words
+
+pub counts-small : (n : Counts) (len : ℕ) → Under (2 ^ 40) n → len < 4097
+    → (n .bytes + len < 2 ^ 63) × ((n .packets + 1 < 2 ^ 63) × ((n .transactions < 2 ^ 63) × (n .links < 2 ^ 63)))
+counts-small n len u h = (omega (arith, u .bytes), (omega (arith, u .packets), (omega (arith, u .transactions), omega (arith, u .links))))

@@ -1,0 +1,182 @@
+-- `quick_in` meets its contract: a packet that is taken has the plan of its shape (Quick), and any other is packet_in's.
+use mathlib.Core.Path.{_≡_, refl, sym, ap, subst, _∙_}
+use mathlib.Core.List.{List}
+use Prim.Native.Nat.{_<_}
+use native.Mathlib.Omega.{arith}
+use borrow.Author.Needs.{needs}
+use lib.ListN.{getD}
+use Rattle.transaction.specs.Payload.{startPid}
+use Rattle.details.specs.declared.Device.{Device}
+use Rattle.record.specs.declared.Counts.{Counts}
+use Rattle.record.specs.declared.Decoder.{Decoder}
+use Rattle.call.specs.OutcomeLaws.{sound}
+use Rattle.call.specs.State.{State, state, logs, roomOf}
+use Rattle.decide.specs.Ready.{Ready, ready}
+use Rattle.tally.proofs.Bounds.{under}
+use Rattle.tally.proofs.Formed.{waiting-few}
+use Rattle.packet.specs.Lent.{Lent}
+use Rattle.packet.proofs.Answers.{none-placed}
+use Rattle.quick.specs.Begin.{beginDecoder}
+use Rattle.quick.specs.Close.{closeState}
+use Rattle.quick.specs.declared.close.Close.{Close}
+use Rattle.quick.proofs.BeginOnly.{BeginPlan, begin-asks, begin-rows, begin-more, begin-by}
+use Rattle.quick.proofs.Rest.{begins-plan}
+use Rattle.quick.proofs.CloseOnly.{close-only-call, close-only-asks, close-only-rows, close-counted}
+use Rattle.quick.proofs.Quick.{Meets, BeginTaken, begin-taken, CloseTaken, close-taken, kept-devices, counts-small}
+use Rattle.quick.proofs.quick_in.Statement.{statement}
+use Rattle.quick.proofs.quick_in.Tie as tie
+mod Places
+use Places.*
+
+-- the state as it is lent, with these devices
+abbrev lent : tie.Start → List Device → State
+lent c v =
+    state (c .args .d) v (c .args .table .now)
+    (logs (c .args .bytes .now) (c .args .device-rows .now) (c .args .endpoint-rows .now) (c .args .packets .now) (c .args .events .now) (c .args .transactions .now) (c .args .groups .now) (c .args .statebytes .now) (c .args .states .now) (c .args .items .now) (c .args .links .now) (c .args .requests .now))
+
+-- what it goes by is taken from them
+abbrev Lends : tie.Start → List Device → Type 0
+Lends c v = Lent (c .args .near) (c .args .packet .now) (c .args .d) v (c .args .table .now) (lent c v .logs)
+
+token : (c : tie.After-start-pid) → startPid (start-pid·Start c .args .d .transaction .style) < 256
+token c = search needs
+
+meets : (c : tie.After-shape-of) (v : List Device) → Lends (shape-of·Start c) v → Meets (shape-of·Start c .args .packet .now) (lent (shape-of·Start c) v)
+meets c v h =
+    let a = shape-of·Start c in
+    record {
+      passes = record { ill = h .ill; finished = a .pre .1 .0; short = a .pre .1 .1 };
+      known = shape-of·known c .known .ensures;
+      many = h .many;
+      token = token (shape-of·start-pid c);
+      first = shape-of·bytes-known c .bytes-known .ensures 0;
+    }
+
+-- what the record and the table are, with the devices that there are
+ready-by : (c : tie.Start) → Ready (c .args .d) (c .args .table .now)
+ready-by c =
+    let s = lent c (c .pre .0 .devices) in
+    let w = sound s (c .pre .0 .lent .ill) in
+    ready (s .decoder) (s .devices) (s .table) (roomOf (s .logs)) (w .0) (w .1)
+
+begin-counts-requires : tie.Need-begin-counts-requires
+begin-counts-requires c κs =
+    let a = begin-counts-requires·Start c in
+    let s = lent a (a .pre .0 .devices) in
+    let w = sound s (a .pre .0 .lent .ill) in
+    let l = a .pre .1 .1 in
+    counts-small (a .args .d .counts) _ (under (s .decoder .counts) (roomOf (s .logs)) (w .0 .counts) (w .1)) (omega (arith, l))
+
+-- ---- begin-only
+
+begun : (c : tie.Then1) (v : List Device) → Lends (Then1·Start c) v → BeginTaken (Then1·Start c .args .packet .now) (lent (Then1·Start c) v) (Then1·shape-of c .shape-of .result)
+begun c v h =
+    begin-taken (Then1·Start c .args .packet .now) (lent (Then1·Start c) v) (Then1·shape-of c .shape-of .result) (meets (Then1·shape-of c) v h) (Then1·shape-of c .shape-of .ensures v (h .seen))
+    (Then1·begin-counts c .begin-counts .ensures) (Then1·room-of c .room-of .ensures) (Then1·begin-fits c .begin-fits .ensures) (c .if1 .taken)
+
+begin-only-requires : tie.Need-begin-only-requires
+begin-only-requires c κs =
+    let a = begin-only-requires·Start c in
+    let v = a .pre .0 .devices in
+    let b = begun (begin-only-requires·Then1 c) v (a .pre .0 .lent) in
+    let p = begins-plan (a .args .packet .now) (a .args .time) (lent a v) (b .enters) (b .plan) (b .fits) in
+    let q = Then1·shape-of (begin-only-requires·Then1 c) .shape-of .result in
+    let x = begin-asks (a .args .packet .now) (a .args .time) (lent a v) (b .enters) p in
+    let r = begin-rows (a .args .packet .now) (a .args .time) (lent a v) (b .enters) p in
+    let m = begin-more (lent a v) (q .row) (q .link) _ (b .fits) in
+    (omega (arith, x .0, x .1 .0), (x .1 .1, (r .0, (r .1, (m .0, m .1)))))
+
+returns : tie.Need-returns
+returns c =
+    let a = returns·Start c in
+    let e = returns·no-change c .no-change .ensures in
+    let w = returns·begin-only c .begin-only .ensures in
+    let n = returns·begin-counts c .begin-counts .ensures in
+    let q = returns·shape-of c .shape-of .result in (
+      none-placed e,
+      λ v h. let b = begun (returns·Then1 c) v h in
+          kept-devices (a .args .packet .now) (a .args .time) (lent a v) e
+          (begin-by (a .args .packet .now) (a .args .time) (lent a v) (b .enters) (begins-plan (a .args .packet .now) (a .args .time) (lent a v) (b .enters) (b .plan) (b .fits)) (w .0 ∙ ap (λ (x : Counts). beginDecoder x (q .transaction) (q .link) (a .args .table .now) (a .args .d)) n) (w .1 .0) (w .1 .1 .0) (w .1 .1 .1 .0) (w .1 .1 .1 .1 .0) (w .1 .1 .1 .1 .1)),
+    )
+
+-- ---- close-only
+
+close-of-requires : tie.Need-close-of-requires
+close-of-requires c κs =
+    let a = close-of-requires·Start c in
+    let s = lent a (a .pre .0 .devices) in
+    let w = sound s (a .pre .0 .lent .ill) in
+    (a .pre .1 .1, (waiting-few (w .0), (w .0 .counts .fewEndpoints, under (s .decoder .counts) (roomOf (s .logs)) (w .0 .counts) (w .1))))
+
+closed : (c : tie.Then2) (v : List Device) → Lends (Then2·Start c) v → CloseTaken (Then2·Start c .args .packet .now) (lent (Then2·Start c) v) (Then2·shape-of c .shape-of .result) (Then2·end-by c .end-by .result)
+closed c v h =
+    let a = Then2·Start c in
+    close-taken (a .args .packet .now) (lent a v) (Then2·shape-of c .shape-of .result) (a .args .near .old) (meets (Then2·shape-of c) v h) (Then2·shape-of c .shape-of .ensures v (h .seen))
+    (Then2·room-of c .room-of .ensures) (h .seen .old) (Then2·end-by c .end-by .ensures) (Then2·close-of c .close-of .ensures) (c .if2 .taken)
+
+close-only-requires : tie.Need-close-only-requires
+close-only-requires c κs =
+    let a = close-only-requires·Start c in
+    let v = a .pre .0 .devices in
+    let b = closed (close-only-requires·Then2 c) v (a .pre .0 .lent) in
+    let r = close-only-rows (a .args .packet .now) (a .args .time) (lent a v) (b .enters) (b .plan) (b .fits) in
+    (r .0, (r .1, λ on. close-only-asks (a .args .packet .now) (a .args .time) (lent a v) (b .enters) (b .plan) (b .fits)))
+
+returns-2 : tie.Need-returns-2
+returns-2 c =
+    let a = returns-2·Start c in
+    let e = returns-2·no-change c .no-change .ensures in
+    let q = returns-2·shape-of c .shape-of .result in
+    let end = returns-2·end-by c .end-by .result in (
+      none-placed e,
+      λ v h. let b = closed (returns-2·Then2 c) v h in
+          kept-devices (a .args .packet .now) (a .args .time) (lent a v) e
+          (close-only-call (a .args .packet .now) (a .args .time) (lent a v) (b .enters) (b .plan) (b .fits)
+          (returns-2·close-only c .close-only .ensures v (a .args .endpoint-rows .now) (a .args .events .now) (a .args .transactions .now)
+          ∙ close-counted (q .transaction) end (a .args .packet .now) (a .args .time) (lent a v) (q .closes) (returns-2·room-of c .room-of .result) (returns-2·close-of c .close-of .ensures))),
+    )
+
+pub quick-in-spec : {M : Type 1} → statement M
+quick-in-spec =
+    tie.close
+    (tie.spec
+    (λ c κs. tt)
+    (λ c κs. tt)
+    (λ c κs. tt)
+    (λ c κs. tt)
+    (λ c κs. tt)
+    (λ c κs. ready-by (shape-of-requires·Start c))
+    begin-counts-requires
+    (λ c κs. tt)
+    begin-only-requires
+    (λ c. returns·begin-only c .begin-only .kept .1 .1 .1 .1 .1 .1 .1 .1 .0)
+    (λ c. returns·begin-only c .begin-only .kept .1 .1 .1 .1 .1 .1 .1 .1 .1 .0)
+    (λ c. returns·begin-only c .begin-only .kept .1 .1 .1 .1 .1 .1 .1 .1 .1 .1 .0)
+    (λ c. returns·begin-only c .begin-only .kept .1 .1 .1 .1 .1 .1 .1 .1 .1 .1 .1 .0)
+    returns
+    (λ c κs. ready-by (end-by-requires·Start c))
+    close-of-requires
+    close-only-requires
+    (λ c. returns-2·close-only c .close-only .kept .1 .1 .1 .1 .1 .1 .1 .0)
+    (λ c. returns-2·close-only c .close-only .kept .1 .1 .1 .1 .1 .1 .1 .1 .0)
+    (λ c. returns-2·close-only c .close-only .kept .1 .1 .1 .1 .1 .1 .1 .1 .1 .0)
+    (λ c. returns-2·close-only c .close-only .kept .1 .1 .1 .1 .1 .1 .1 .1 .1 .1 .0)
+    (λ c. returns-2·close-only c .close-only .kept .1 .1 .1 .1 .1 .1 .1 .1 .1 .1 .1 .0)
+    (λ c. returns-2·close-only c .close-only .kept .1 .1 .1 .1 .1 .1 .1 .1 .1 .1 .1 .1 .0)
+    (λ c. returns-2·close-only c .close-only .kept .1 .1 .1 .1 .1 .1 .1 .1 .1 .1 .1 .1 .1 .0)
+    (λ c. returns-2·close-only c .close-only .kept .1 .1 .1 .1 .1 .1 .1 .1 .1 .1 .1 .1 .1 .1 .0)
+    (λ c. returns-2·close-only c .close-only .kept .1 .1 .1 .1 .1 .1 .1 .1 .1 .1 .1 .1 .1 .1 .1 .0)
+    returns-2
+    (λ c κs. packet-in-requires·Start c .pre)
+    (λ c. returns-3·packet-in c .packet-in .kept .1 .1 .1 .1 .1 .0)
+    (λ c. returns-3·packet-in c .packet-in .kept .1 .1 .1 .1 .1 .1 .0)
+    (λ c. returns-3·packet-in c .packet-in .kept .1 .1 .1 .1 .1 .1 .1 .0)
+    (λ c. returns-3·packet-in c .packet-in .kept .1 .1 .1 .1 .1 .1 .1 .1 .0)
+    (λ c. returns-3·packet-in c .packet-in .kept .1 .1 .1 .1 .1 .1 .1 .1 .1 .1 .0)
+    (λ c. returns-3·packet-in c .packet-in .kept .1 .1 .1 .1 .1 .1 .1 .1 .1 .1 .1 .0)
+    (λ c. returns-3·packet-in c .packet-in .kept .1 .1 .1 .1 .1 .1 .1 .1 .1 .1 .1 .1 .0)
+    (λ c. returns-3·packet-in c .packet-in .kept .1 .1 .1 .1 .1 .1 .1 .1 .1 .1 .1 .1 .1 .0)
+    (λ c. returns-3·packet-in c .packet-in .kept .1 .1 .1 .1 .1 .1 .1 .1 .1 .1 .1 .1 .1 .1 .0)
+    (λ c. returns-3·packet-in c .packet-in .kept .1 .1 .1 .1 .1 .1 .1 .1 .1 .1 .1 .1 .1 .1 .1 .0)
+    (λ c. returns-3·packet-in c .packet-in .kept .1 .1 .1 .1 .1 .1 .1 .1 .1 .1 .1 .1 .1 .1 .1 .1 .0)
+    (λ c. returns-3·packet-in c .packet-in .ensures))

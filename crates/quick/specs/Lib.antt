@@ -1,0 +1,3 @@
+pub mod Begin
+pub mod Close
+pub mod Shaped

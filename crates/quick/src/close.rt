@@ -1,0 +1,173 @@
+// What a close-only packet comes to, and what it writes: its own rows, and the end of the transaction that is held.
+use crate::shape::Shape;
+use call::tie;
+use decide::end::end_of;
+use decide::end::resting_end;
+use decide::slot::old_endpoint;
+use details::Detail;
+use endpoints::Table;
+use endpoints::entry::load;
+use packet::change::adds_device;
+use packet::inner::hand_of;
+use packet::inner::put_packet;
+use plan::End;
+use record::Counts;
+use record::Decoder;
+use record::room::fits;
+use rules::EventState;
+use rules::Slot;
+use tally::add::Tally;
+use tally::add::tally_none;
+use tally::add::tally_packet;
+use tally::add_counts;
+use tally::tally_end;
+use transaction::Transaction;
+use transaction::payload::start_pid;
+use update::effect::total_passes;
+use write_packet::Hand;
+use write_packet::end_if;
+ghost use mathlib.Core.Bool.{true};
+ghost use mathlib.Core.List.{[]};
+ghost use mathlib.Core.Path.{_≡_};
+ghost use Prim.Native.Nat.{_+_, _*_, _^_, _≤_};
+ghost use lib.ListN.{length};
+ghost use Rattle.rows.specs.Widths.{packetWidth};
+ghost use Rattle.transaction.specs.Payload.{startPid};
+ghost use Rattle.tally.specs.Tallies.{Under};
+ghost use Rattle.decide.specs.Ready.{Ready};
+ghost use Rattle.write_packet.specs.Asked.{EndsIf};
+ghost use Rattle.write_packet.specs.Desk.{desk};
+ghost use Rattle.quick.specs.Close.{endBy, closeTally, closeOf, holding, closeHand, closedDecoder, OnClose};
+
+// Whether the packet is taken, and what the record counts then.
+pub struct Close {
+    // It ends the transaction, there is room, no byte total passes 2^64 - 1, and no device is added.
+    pub taken: bool,
+    pub counts: Counts,
+    pub waiting: usize,
+}
+
+// The end of the transaction that is held, where the packet is of that shape; old is what is known of its endpoint.
+pub fn end_by(q: Shape, d: Decoder, old: Detail, table: &Table) -> End
+    requires { ⌜ Ready d (now table) ⌝ }
+    ensures { λ r. ⌜ r ≡ endBy q d old (now (table .entry)) ⌝ }
+{
+    let slot = d.slot;
+    let held = d.transaction;
+    let x = old_endpoint(slot, held);
+    let e = load(table, x);
+    if q.closes {
+        end_of(x, e, q.transaction, old, d.last, q.success, true)
+    } else {
+        resting_end(e)
+    }
+}
+
+// The rows of a packet of so many bytes with this end.
+fn close_tally(end: End, len: usize, d: Decoder) -> Tally
+    requires { ⌜ len ≤ 4096 ⌝ }
+    requires { ⌜ d .waiting ≤ 128 ⌝ }
+    requires { ⌜ d .counts .endpoints ≤ 128 ⌝ }
+    ensures { λ r. ⌜ r ≡ closeTally end len d ⌝ }
+{
+    let n = d.counts;
+    let t = tally_none(d.waiting);
+    let t = tally_packet(len, t);
+    tally_end(end, n.endpoints, t)
+}
+
+// Reckoned before anything is written.
+pub fn close_of(closes: bool, end: End, d: Decoder, len: usize, room: Counts) -> Close
+    requires { ⌜ len ≤ 4096 ⌝ }
+    requires { ⌜ d .waiting ≤ 128 ⌝ }
+    requires { ⌜ d .counts .endpoints ≤ 128 ⌝ }
+    requires { ⌜ Under (2 ^ 40) (d .counts) ⌝ }
+    ensures { λ r. ⌜ r ≡ closeOf closes end d len room ⌝ }
+{
+    let tally = close_tally(end, len, d);
+    let counts = add_counts(d.counts, tally);
+    let entry = end.entry;
+    let effect = end.effect;
+    let over = total_passes(effect, entry.total);
+    let adds = adds_device(effect);
+    let fits = fits(counts, room);
+    Close {
+        taken: closes & (fits & (!over & !adds)),
+        counts,
+        waiting: tally.waiting,
+    }
+}
+
+// The record with another transaction.
+fn holding(t: Transaction, d: Decoder) -> Decoder
+    ensures { λ r. ⌜ r ≡ holding t d ⌝ }
+{
+    let mut d = d;
+    d.transaction = t;
+    d
+}
+
+fn closed_decoder(t: Transaction, c: Close, d: Decoder, h: Hand) -> Decoder
+    ensures { λ r. ⌜ r ≡ closedDecoder t c (h .written) d ⌝ }
+{
+    let counts = c.counts;
+    let written = h.written;
+    let transaction = tie(t, written);
+    Decoder {
+        counts,
+        slot: Slot::Empty,
+        transaction,
+        last: written.last,
+        event: EventState::Idle,
+        keepalive: d.keepalive,
+        waiting: c.waiting,
+        finished: d.finished,
+    }
+}
+
+// The packet of these bytes at this time; t is the transaction that ends.
+pub fn close_only(
+    t: Transaction,
+    end: End,
+    c: Close,
+    d: Decoder,
+    packet: &[u8],
+    time: u64,
+    table: &mut Table,
+    bytes: &mut [u8],
+    device_rows: &mut [u64],
+    packets: &mut [u64],
+    groups: &mut [u64],
+    statebytes: &mut [u8],
+    states: &mut [u64],
+    items: &mut [u64],
+    links: &mut [u64],
+    requests: &mut [u64],
+) -> Decoder
+    requires { ⌜ d .counts .bytes + length (now packet) ≤ length (now bytes) ⌝ }
+    requires { ⌜ (d .counts .packets + 1) * packetWidth ≤ length (now packets) ⌝ }
+    requires { ⌜ EndsIf true (t .endpoint) (t .id) (startPid (t .style)) end (desk (closeHand t time d) (now table) (now «device_rows») [] [] (now groups) (now statebytes) (now states) (now items) (now links) (now requests)) ⌝ }
+    ensures { λ r. ⌜ OnClose t end c (now (packet .entry)) time d (now (table .entry)) (now (bytes .entry)) (now («device_rows» .entry)) (now (packets .entry)) (now (groups .entry)) (now (statebytes .entry)) (now (states .entry)) (now (items .entry)) (now (links .entry)) (now (requests .entry)) r (now (table .exit)) (now (bytes .exit)) (now («device_rows» .exit)) (now (packets .exit)) (now (groups .exit)) (now (statebytes .exit)) (now (states .exit)) (now (items .exit)) (now (links .exit)) (now (requests .exit)) ⌝ }
+{
+    put_packet(d.counts, packet, time, bytes, packets);
+    let style = t.style;
+    let pid = start_pid(style);
+    let hand = hand_of(holding(t, d), time);
+    let hand = end_if(
+        true,
+        t.endpoint,
+        t.id,
+        pid,
+        end,
+        hand,
+        table,
+        device_rows,
+        groups,
+        statebytes,
+        states,
+        items,
+        links,
+        requests,
+    );
+    closed_decoder(t, c, d, hand)
+}
