@@ -67,13 +67,13 @@ impl Logs {
     fn fresh(bytes: usize) -> Logs {
         let rows = [64, 3 * 128, 2, 0, 1, 6, 2, 2, 16, 1];
         let words = rows.iter().enumerate().map(|(k, n)| vec![0; if k < 2 { *n } else { n * PACKETS }]).collect();
-        Logs { table: vec![0; 2176], bytes: vec![0; bytes], statebytes: vec![0; 64 * PACKETS], words }
+        Logs { table: vec![0; 2704], bytes: vec![0; bytes], statebytes: vec![0; 64 * PACKETS], words }
     }
 
     fn run(&mut self, inner: bool, input: &[u8]) -> u64 {
         let w: Vec<(*mut u64, usize)> = self.words.iter_mut().map(|l| (l.as_mut_ptr(), l.len())).collect();
         let call = if inner { pivotspark_stream } else { pivotspark_packets };
-        // Each log is lent once, for the call; the table has the 2,176 words that the callee asks for.
+        // Each log is lent once, for the call; the table has the 2,704 words that the callee asks for.
         unsafe {
             call(
                 input.as_ptr(), input.len(),

@@ -1,5 +1,5 @@
--- Inner (cited by private contracts alone): what a plan asks of the record and the endpoint table; all of it holds of a well-formed record on logs that are
--- not too long (`ready`).
+-- Inner (cited by private contracts alone): what a plan asks of the record and the endpoint table; all of it holds of a well-formed record
+-- (`ready`).
 use Prim.Native.Nat.{ℕ, _^_, _<_, _≤_}
 use native.Mathlib.Omega.{arith}
 use mathlib.Core.Path.{_≡_}
@@ -10,7 +10,6 @@ use Rattle.details.specs.declared.Device.{Device}
 use Rattle.endpoints.specs.declared.Endpoint.{Endpoint}
 use Rattle.record.specs.Formed.{holds}
 use Rattle.record.specs.FormedLaws.{WellFormed}
-use Rattle.record.specs.RoomLaws.{Short}
 use Rattle.record.specs.declared.Counts.{Counts}
 use Rattle.record.specs.declared.Decoder.{Decoder}
 
@@ -36,15 +35,15 @@ pub record Small (k : ℕ) (e : Endpoint) : Type 0 where
   pub transactions : e .transactions ≤ k
   pub groups : e .groups ≤ k
 
-pub ready : (d : Decoder) (devices : List Device) (table : List ℕ) (room : Counts) → WellFormed d devices table room → Short room → Ready d table
-ready d devices table room w s =
+pub ready : (d : Decoder) (devices : List Device) (table : List ℕ) (room : Counts) → WellFormed d devices table room → Ready d table
+ready d devices table room w =
     let n = w .counts in
     record {
       devices = n .fewDevices;
       three = w .specials .three;
       endpoints = n .fewEndpoints;
-      transactions = omega (arith, n .transactions, s .transactions);
-      entries = λ i h. let e = w .endpoints i h .entry in record { device = e .device; transactions = omega (arith, e .transactions, n .links, s .links); groups = omega (arith, e .groups, n .links, s .links) };
+      transactions = omega (arith, w .numbered .transactions);
+      entries = λ i h. let e = w .endpoints i h .entry in record { device = e .device; transactions = omega (arith, e .transactions, w .numbered .links); groups = omega (arith, e .groups, w .numbered .links) };
       held = λ h. w .held h .endpoint;
       invalid = w .specials .invalid .address;
       framing = w .specials .framing .address;

@@ -92,5 +92,5 @@ module _ (s : State) (sane : isIll s ≡ false) where
     pub settles-if : (r : Bool) → Room (memoryThen r c s)
         → SettlesIf r (endingOf (worldAt s)) (s .decoder .counts .endpoints) (s .decoder .transaction .id) (startPid (s .decoder .transaction .style)) (memoryAt c s)
     unfolding settledMemory
-    settles-if true m on = endable s sane c known byte (record { groups = m .groups; states = m .states; statebytes = m .statebytes; items = m .items; links = m .links })
+    settles-if true m on = endable s sane c known byte (record { groups = m .groups; states = m .states; statebytes = m .statebytes; items = m .items; links = m .links; numbers = record { groups = m .numbers .groups; statebytes = m .numbers .statebytes; items = m .numbers .items } })
     settles-if false m on = absurd (false≢true on)

@@ -9,10 +9,11 @@ use Rattle.endpoints.specs.TableLaws.{fits-entry}
 use Rattle.tally.specs.Tally.{Adds}
 use Rattle.update.specs.Update.{when}
 use Rattle.write.specs.Memory.{Room}
+use Rattle.record.specs.declared.Counts.{Counts}
 use Rattle.record.specs.FormedLaws.{WellFormed}
 use Rattle.call.specs.Outcome.{isIll, worldAt}
 use Rattle.call.specs.OutcomeLaws.{sound}
-use Rattle.call.specs.State.{State, roomOf}
+use Rattle.call.specs.State.{State, roomOf, heldAt}
 use Rattle.call.specs.Share.{Known}
 use Rattle.decide.specs.Ready.{Ready, ready}
 use Rattle.rules.specs.declared.Stamp.{Stamp}
@@ -23,8 +24,8 @@ use Rattle.plan.specs.Step.{ended, endOf}
 use Rattle.plan.proofs.Small.{Few, FewAll, few-more, group-small, ended-few}
 use Rattle.plan.proofs.Sound.{fits-ending}
 use Rattle.tally.specs.Suited.{EndingSuits, Totalled}
-use Rattle.tally.specs.Tallies.{Under, tallyEnding}
-use Rattle.tally.proofs.Bounds.{under}
+use Rattle.tally.specs.Tallies.{Countable, tallyEnding}
+use Rattle.tally.proofs.Bounds.{countable-by}
 use Rattle.tally.proofs.Counted.{adds-from, ending-adds}
 use Rattle.tally.proofs.Formed.{current-stands, waiting-is, waiting-few}
 use Rattle.tally.proofs.Planned.{ending-suits}
@@ -48,10 +49,11 @@ module _ (s : State) (sane : isIll s ≡ false) where
   formed = sound s sane .0
 
   pub is-ready : Ready (s .decoder) (s .table)
-  is-ready = ready (s .decoder) (s .devices) (s .table) (roomOf (s .logs)) formed (sound s sane .1)
+  is-ready = ready (s .decoder) (s .devices) (s .table) (roomOf (s .logs)) formed
 
-  pub few-counts : Under (2 ^ 40) (s .decoder .counts)
-  few-counts = under (s .decoder .counts) (roomOf (s .logs)) (formed .counts) (sound s sane .1)
+  -- the rows are countable, as the code has those that are held
+  pub few-counts : {held : Counts} → held ≡ heldAt s → Countable held (s .decoder .counts)
+  few-counts e = countable-by formed (sound s sane .1) e
 
   -- the endpoints' counts are far from overflow, and stay so
   few-start : FewAll 0 (worldAt s)
@@ -71,8 +73,8 @@ module _ (s : State) (sane : isIll s ≡ false) where
       by false = λ j h. few-more (few-start j h)
 
   -- what sum_finish asks
-  pub sum-asks : (s .decoder .waiting ≤ 128) × ((s .decoder .counts .endpoints ≤ 128) × Under (2 ^ 40) (s .decoder .counts))
-  sum-asks = (waiting-few formed, (formed .counts .fewEndpoints, few-counts))
+  pub sum-asks : {held : Counts} → held ≡ heldAt s → (s .decoder .waiting ≤ 128) × ((s .decoder .counts .endpoints ≤ 128) × Countable held (s .decoder .counts))
+  sum-asks e = (waiting-few formed, (formed .counts .fewEndpoints, few-counts e))
 
   pub suits : (c : Stamp) → EndingSuits (endingOf (worldAt s)) (worldWith c s)
   suits c = subst (λ (e : Ending). EndingSuits e (worldWith c s)) (ending-with c s) (ending-suits (worldWith c s) (current-stands formed))

@@ -38,7 +38,7 @@ module _ (d : Decoder) (v : List Device) (t : List ℕ) (room : Counts) where
       let e = g .0 .endpoints i u .entry in
       let pends = small (entryAt t i .pending) (entryAt t i .pendinglength) (d .counts .bytes) (e .pendinglength) in
       let own = small _ _ (d .counts .bytes) (held (g .0)) in
-      omega (arith, e .payload, pends, own, g .0 .counts .bytes, g .1 .bytes)
+      omega (arith, e .payload, pends, own, g .0 .numbered .bytes)
     where
       held : WellFormed d v t room → (holds (d .slot) && (d .transaction .filled && (eqb (d .transaction .endpoint) 0 || eqb (d .transaction .endpoint) i))) ≡ true → d .transaction .payload ≤ d .counts .bytes
       held w q =

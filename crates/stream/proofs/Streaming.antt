@@ -67,7 +67,7 @@ module _ {input a : List ℕ} {s₀ s : State} {at n end : ℕ} (g : Streaming i
   well = kept .well s (g .sound)
 
   pub streaming-ready : Ready (s .decoder) (s .table)
-  streaming-ready = let w = sound s well in ready (s .decoder) (s .devices) (s .table) (roomOf (s .logs)) (w .0) (w .1)
+  streaming-ready = let w = sound s well in ready (s .decoder) (s .devices) (s .table) (roomOf (s .logs)) (w .0)
 
   pub streaming-ends : end ≡ 0 → Runs input 0 0 s₀ n 0 s
   streaming-ends h = going-ends (g .going) h

@@ -62,10 +62,10 @@ begins s k k₁ k₂ pid e f g =
 
 -- an effect has links at most
 pub room-effect : (f : Effect) (x : ℕ) (k : Desk) → Room (memoryOf (effectDesk f x k)) → Room (memoryOf k)
-room-effect NoEffect x k r = record { groups = r .groups; states = r .states; statebytes = r .statebytes; items = r .items; links = r .links }
-room-effect (NewDevice address) x k r = record { groups = r .groups; states = r .states; statebytes = r .statebytes; items = r .items; links = r .links }
-room-effect (Request n) x k r = record { groups = r .groups; states = r .states; statebytes = r .statebytes; items = r .items; links = r .links }
-room-effect (PendingData n) x k r = record { groups = r .groups; states = r .states; statebytes = r .statebytes; items = r .items; links = r .links }
+room-effect NoEffect x k r = record { groups = r .groups; states = r .states; statebytes = r .statebytes; items = r .items; links = r .links; numbers = record { groups = r .numbers .groups; statebytes = r .numbers .statebytes; items = r .numbers .items } }
+room-effect (NewDevice address) x k r = record { groups = r .groups; states = r .states; statebytes = r .statebytes; items = r .items; links = r .links; numbers = record { groups = r .numbers .groups; statebytes = r .numbers .statebytes; items = r .numbers .items } }
+room-effect (Request n) x k r = record { groups = r .groups; states = r .states; statebytes = r .statebytes; items = r .items; links = r .links; numbers = record { groups = r .numbers .groups; statebytes = r .numbers .statebytes; items = r .numbers .items } }
+room-effect (PendingData n) x k r = record { groups = r .groups; states = r .states; statebytes = r .statebytes; items = r .items; links = r .links; numbers = record { groups = r .numbers .groups; statebytes = r .numbers .statebytes; items = r .numbers .items } }
 room-effect (IndexData n waited i) x k r =
     record {
       groups = r .groups;
@@ -73,6 +73,7 @@ room-effect (IndexData n waited i) x k r =
       statebytes = r .statebytes;
       items = r .items;
       links = omega (arith, r .links, length-sets (k .links) (k .hand .written .links * linkWidth) (totalWords (IndexData n waited i) x (entryAt (k .table) x) (k .hand .written .link)));
+      numbers = record { groups = r .numbers .groups; statebytes = r .numbers .statebytes; items = r .numbers .items };
     }
 
 module _ (x id pid : ℕ) (s : End) (k : Desk) (a : EndReady x id pid s k) where
