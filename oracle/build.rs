@@ -21,7 +21,7 @@ fn main() {
         println!("cargo:rustc-link-search=native={}", root.join("../target/staticlib").display());
         println!("cargo:rerun-if-changed=../target/staticlib");
     }
-    for name in ["usb", "event", "capture", "decoder"] {
+    for name in ["usb", "event", "capture", "own_usb", "own_capture", "decoder"] {
         let text = made(&fs::read_to_string(changes.join(name).with_extension("txt")).expect(name), source);
         fs::write(out.join(name).with_extension("rs"), &text).expect("OUT_DIR can be written");
         if name == "decoder" {

@@ -3,6 +3,7 @@
 use std::time::Instant;
 
 use crate::calls::{EVENTS, Mechanism, PACKETS, Rows, count, event_type};
+use crate::descriptors::Descriptors;
 use crate::trace::{Clock, Reader, Record, header};
 use crate::usb::{Direction, EndpointAddr, EndpointNum, EndpointType};
 
@@ -30,7 +31,7 @@ pub fn packets_of(rows: &Rows) -> u64 {
 /// A whole trace and finish: the decoder's own work, and the reading of the records.
 pub fn run<M: Mechanism>(trace: &[u8]) -> Result<M, String> {
     header(trace).map_err(|r| format!("refused {} at {}", r.answer, r.at))?;
-    let mut machine = M::fresh(false);
+    let mut machine = M::fresh(false, Descriptors::DEFAULT);
     let mut reader = Reader::new(trace);
     let mut clock = Clock::default();
     while let Some(record) = reader.next() {

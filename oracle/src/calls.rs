@@ -4,8 +4,9 @@
 use std::cell::Ref;
 use std::sync::Arc;
 
-use crate::capture::{CaptureWriter, DeviceData};
+use crate::capture::{CaptureWriter, DeviceData, Request};
 use crate::crates::Error;
+use crate::descriptors::Descriptors;
 use crate::event::{EventType, LineState};
 use crate::storage::{Journal, Mark};
 use crate::usb::{Direction, EndpointAddr, EndpointNum, EndpointType};
@@ -67,7 +68,7 @@ pub struct Style {
 /// What the calls need of a decoder; each decoder made from the source has it (src/machine.rs).
 pub trait Mechanism: Sized {
     type Saved;
-    fn fresh(trail: bool) -> Self;
+    fn fresh(trail: bool, descriptors: Descriptors) -> Self;
     fn packet(&mut self, packet: &[u8], time: u64) -> Result<(), Error>;
     fn event(&mut self, event: EventType, code: u8, time: u64) -> Result<(), Error>;
     fn finish(&mut self) -> Result<(), Error>;
@@ -104,10 +105,10 @@ pub const LOGS: [&str; 12] = [
     "requests",
 ];
 
-/// The words of a row of each log.
-pub const WIDTHS: [usize; 12] = [1, 1, 3, 2, 2, 1, 3, 1, 1, 1, 4, 3];
+/// The words of a row of each log, as the default mode has them.
+pub const WIDTHS: [usize; 12] = [1, 1, 3, 2, 2, 1, 3, 1, 1, 1, 4, Descriptors::DEFAULT.request_words()];
 
-// The logs by number; the last is that of the requests.
+// The logs by number.
 pub const BYTES: usize = 0;
 pub const DEVICES: usize = 1;
 pub const ENDPOINTS: usize = 2;
@@ -119,6 +120,7 @@ pub const STATE_BYTES: usize = 7;
 pub const STATES: usize = 8;
 pub const ITEMS: usize = 9;
 pub const LINKS: usize = 10;
+pub const REQUESTS: usize = 11;
 
 impl Rows {
     /// 01, "Sizes": the most that may be lent.
@@ -129,8 +131,8 @@ impl Rows {
         Rows(rows)
     };
 
-    /// The program's logs, 64 KiB together (docs/SIZES.md).
-    pub const PROGRAM: Rows = Rows([8192, 64, 128, 512, 128, 384, 256, 8192, 256, 256, 640, 64]);
+    /// The program's logs, 64 KiB together (docs/SIZES.md); the requests have 192 words of them.
+    pub const PROGRAM: Rows = Rows([8192, 64, 128, 512, 128, 384, 256, 8192, 256, 256, 640, 192 / WIDTHS[REQUESTS] as u64]);
 
     /// The most that one call can add: an item can close every endpoint, and a call has at most three items and five group rows.
     const STEP: Rows = Rows([4096, 2, 4, 2, 2, 4, 8, 8 * 128, 8, 8, 3 * 128 + 16, 2]);
@@ -166,7 +168,7 @@ pub fn count(capture: &CaptureWriter) -> Rows {
         capture.endpoint_state_index.stream.len(),
         capture.item_index.stream.len(),
         capture.counters.journal.borrow().links as u64,
-        capture.shared.requests.borrow().len() as u64,
+        capture.shared.requests.rows.borrow().len() as u64,
     ])
 }
 
@@ -203,12 +205,19 @@ pub fn log_words(c: &CaptureWriter, log: usize) -> Vec<u64> {
         STATES => c.endpoint_state_index.stream.rows.to_vec(),
         ITEMS => c.item_index.stream.rows.to_vec(),
         LINKS => c.counters.journal.borrow().marks.iter().flat_map(links).collect(),
-        _ => c.shared.requests.borrow().iter().flat_map(|r| [r.endpoint, u64::from_le_bytes(r.setup), r.length]).collect(),
+        _ => {
+            let row = |r: &Request| [r.endpoint, u64::from_le_bytes(r.setup), r.length, r.note];
+            let width = c.shared.requests.descriptors.request_words();
+            c.shared.requests.rows.borrow().iter().flat_map(|r| row(r).into_iter().take(width)).collect()
+        }
     }
 }
 
 /// The only error that the Rust gives (docs/src/src/decoder.rs, `endpoint_id`): answer 8.
 const NO_ENDPOINT: &str = "Transaction state has no endpoint ID";
+
+/// No answer of document 01: the Rust's own `decode_request` erred, in the mode `Own`.
+pub const ERRED: u8 = 255;
 
 /// A decoder with the answers of document 01, over room for each log.
 pub struct Calls<M: Mechanism> {
@@ -225,7 +234,12 @@ pub struct Calls<M: Mechanism> {
 
 impl<M: Mechanism> Calls<M> {
     pub fn new(room: Rows, total: u64, trail: bool) -> Self {
-        let machine = M::fresh(trail);
+        Calls::reading(Descriptors::DEFAULT, room, total, trail)
+    }
+
+    /// The same with a mode of reading descriptors.
+    pub fn reading(descriptors: Descriptors, room: Rows, total: u64, trail: bool) -> Self {
+        let machine = M::fresh(trail, descriptors);
         let fresh = if !room.within(&Rows::LARGEST) {
             1
         } else if !count(machine.capture()).within(&room.used()) {
@@ -304,6 +318,7 @@ impl<M: Mechanism> Calls<M> {
             Ok(()) if self.overflowed(before.1) => 9,
             Ok(()) => 0,
             Err(Error(message)) if message == NO_ENDPOINT => 8,
+            Err(_) if self.machine.capture().shared.requests.descriptors == Descriptors::Own => ERRED,
             Err(Error(message)) => panic!("an error that document 01 does not know: {message}"),
         };
         match saved {

@@ -1,5 +1,5 @@
 // The capture on storage in memory, and the details rules of document 01 in place of `endpoint_details`, `set_endpoint_type`
-// and `decode_request`; included behind the lines of capture.rs.
+// and `decode_request`, with the mode in which requests are read (src/descriptors.rs); included behind the lines of capture.rs.
 
 impl From<u8> for EndpointState {
     fn from(number: u8) -> EndpointState {
@@ -12,50 +12,89 @@ impl From<u8> for EndpointState {
     }
 }
 
-/// A request row: the endpoint, the 8 setup bytes, the length of the payload.
+/// A request row: the endpoint, the 8 setup bytes, the length of the payload, and the note of what was taken (0 where none is made).
 #[derive(Copy, Clone, PartialEq, Debug)]
 pub struct Request {
     pub endpoint: u64,
     pub setup: [u8; 8],
     pub length: u64,
+    pub note: u64,
 }
 
-pub type Requests = Rc<RefCell<Vec<Request>>>;
+/// The log of requests, and how they are read.
+#[derive(Default)]
+pub struct RequestLog {
+    pub descriptors: Descriptors,
+    pub rows: RefCell<Vec<Request>>,
+    /// The rows that are listed cases (src/listed.rs); marked by the mode `Ruled`.
+    pub marks: RefCell<Vec<(usize, Case)>>,
+}
 
-/// What is known of an endpoint of a device: type and largest payload, either unknown.
+pub type Requests = Rc<RequestLog>;
+
+impl RequestLog {
+    pub fn truncate(&self, rows: usize) {
+        self.rows.borrow_mut().truncate(rows);
+        self.marks.borrow_mut().retain(|(row, _)| *row < rows);
+    }
+}
+
+/// What is known of an endpoint of a device: type and largest payload, either unknown; and whether a descriptor gave it.
 #[derive(Copy, Clone, Default)]
 pub struct Detail {
     pub kind: Option<usb::EndpointType>,
     pub max: Option<usize>,
+    pub given: bool,
 }
 
-/// 32 details for a device: 16 numbers out, then 16 in. Number 0 is kept as out.
-pub struct DeviceData {
-    pub details: RefCell<[Detail; 32]>,
-    requests: Requests,
-}
-
-impl DeviceData {
-    pub fn new(requests: &Requests) -> DeviceData {
-        DeviceData { details: RefCell::new([Detail::default(); 32]), requests: requests.clone() }
-    }
-
-    fn place(addr: EndpointAddr) -> usize {
+impl Detail {
+    /// The place of an endpoint among the 32 of a device: 16 numbers out, then 16 in. Number 0 is kept as out.
+    pub fn place(addr: EndpointAddr) -> usize {
         let number = addr.number().0 as usize;
         match addr.direction() {
             Direction::In if number != 0 => number + 16,
             _ => number,
         }
     }
+}
+
+/// What is read of a device's descriptors.
+#[derive(Clone)]
+pub enum Reading {
+    Off,
+    Ruled(RefCell<(Shelf, Witness)>),
+    Own(own::DeviceData),
+}
+
+/// 32 details for a device, and what was read of its descriptors. In the mode `Own` the Rust keeps its own details.
+#[derive(Clone)]
+pub struct DeviceData {
+    pub details: RefCell<[Detail; 32]>,
+    reading: Reading,
+    requests: Requests,
+}
+
+impl DeviceData {
+    pub fn new(requests: &Requests) -> DeviceData {
+        let reading = match requests.descriptors {
+            Descriptors::Off => Reading::Off,
+            Descriptors::Ruled => Reading::Ruled(RefCell::default()),
+            Descriptors::Own => Reading::Own(Default::default()),
+        };
+        DeviceData { details: RefCell::new([Detail::default(); 32]), reading, requests: requests.clone() }
+    }
 
     pub fn endpoint_details(&self, addr: EndpointAddr) -> (EndpointType, Option<usize>) {
         use EndpointType::*;
+        if let Reading::Own(device) = &self.reading {
+            return device.endpoint_details(addr);
+        }
         match addr.number() {
             INVALID_EP_NUM => (Invalid, None),
             FRAMING_EP_NUM => (Framing, None),
             CONTROL_EP_NUM => (Normal(usb::EndpointType::Control), self.details.borrow()[0].max),
             _ => {
-                let detail = self.details.borrow()[DeviceData::place(addr)];
+                let detail = self.details.borrow()[Detail::place(addr)];
                 match detail.kind {
                     Some(kind) => (Normal(kind), detail.max),
                     None => (Unidentified, None),
@@ -66,22 +105,66 @@ impl DeviceData {
 
     /// A split's type: stored only where none is known, and never for number 0.
     pub fn set_endpoint_type(&self, addr: EndpointAddr, kind: usb::EndpointType) {
-        let detail = &mut self.details.borrow_mut()[DeviceData::place(addr)];
+        if let Reading::Own(device) = &self.reading {
+            return device.set_endpoint_type(addr, kind);
+        }
+        let detail = &mut self.details.borrow_mut()[Detail::place(addr)];
         if addr.number() != CONTROL_EP_NUM && detail.kind.is_none() {
             detail.kind = Some(kind);
         }
     }
 
-    /// A detail call: sets both.
+    /// A detail call: sets both. The Rust has no such call, so in the mode `Own` it does nothing.
     pub fn set_detail(&self, addr: EndpointAddr, kind: usb::EndpointType, max: u16) {
         let max = if max == 0 { None } else { Some(max as usize) };
-        self.details.borrow_mut()[DeviceData::place(addr)] = Detail { kind: Some(kind), max };
+        self.details.borrow_mut()[Detail::place(addr)] = Detail { kind: Some(kind), max, given: false };
+    }
+
+    /// A payload that was seen on an endpoint whose request is a read (src/descriptors.rs, R3).
+    pub fn lay(&self, counted: usize, payload: &[u8]) {
+        if let Reading::Ruled(kept) = &self.reading {
+            kept.borrow_mut().0.lay(counted, payload);
+        }
     }
 
     pub fn decode_request(&self, endpoint: EndpointId, fields: &SetupFields, payload: &[u8]) -> Result<(), Error> {
-        let row = Request { endpoint: endpoint.value, setup: fields.bytes(), length: payload.len() as u64 };
-        self.requests.borrow_mut().push(row);
+        let (setup, length) = (fields.bytes(), payload.len());
+        let note = match &self.reading {
+            Reading::Off => 0,
+            Reading::Ruled(kept) => self.ruled(&mut kept.borrow_mut(), &setup, payload),
+            Reading::Own(device) => {
+                own::decode_request(device, fields, payload)?;
+                0
+            }
+        };
+        self.requests.rows.borrow_mut().push(Request { endpoint: endpoint.value, setup, length: length as u64, note });
         Ok(())
+    }
+
+    /// A request by the rules, with the marks of the row that will be pushed. The bytes on the shelf must be the payload that the decoder
+    /// itself has collected: so both ways to say which bytes count are tried.
+    fn ruled(&self, (shelf, witness): &mut (Shelf, Witness), setup: &[u8; 8], payload: &[u8]) -> u64 {
+        let mut details = self.details.borrow_mut();
+        if matches!(kind(setup), Kind::DeviceRead | Kind::ConfigurationRead) {
+            let read = shelf.payload(payload.len());
+            assert_eq!(read, &payload[..read.len()], "the shelf does not hold the payload");
+        }
+        let row = self.requests.rows.borrow().len();
+        let cases = witness.marks(setup, payload);
+        self.requests.marks.borrow_mut().extend(cases.into_iter().map(|case| (row, case)));
+        witness.follow(setup, payload);
+        shelf.request(setup, payload.len(), &mut details)
+    }
+
+    /// The details of each place as a number for the type, 4 for none, and the max, 0 for none.
+    pub fn told(&self) -> [(u8, usize); 32] {
+        std::array::from_fn(|place| {
+            let addr = EndpointAddr::from_parts(EndpointNum(place as u8 % 16), Direction::from(place as u8 / 16));
+            match self.endpoint_details(addr) {
+                (EndpointType::Normal(kind), max) => (kind as u8, max.unwrap_or(0)),
+                (_, max) => (4, max.unwrap_or(0)),
+            }
+        })
     }
 }
 
@@ -157,7 +240,7 @@ pub struct CaptureWriter {
 }
 
 /// An empty capture. With a trail the journal has the place of packet, group and item rows too.
-pub fn create_capture(trail: bool) -> CaptureWriter {
+pub fn create_capture(trail: bool, descriptors: Descriptors) -> CaptureWriter {
     let journal = Rc::new(RefCell::new(Journal { marks: Vec::new(), links: 0, trail }));
     let mut capture = CaptureWriter {
         counters: CounterSet { endpoints: 0, journal: journal.clone() },
@@ -166,7 +249,7 @@ pub fn create_capture(trail: bool) -> CaptureWriter {
             endpoint_index: Shared::default(),
             endpoint_readers: Shared::default(),
             complete: AtomicBool::new(false),
-            requests: Rc::new(RefCell::new(Vec::new())),
+            requests: Rc::new(RequestLog { descriptors, ..RequestLog::default() }),
         }),
         endpoint_writers: VecMap::new(),
         packet_data: DataWriter::new(),

@@ -5,6 +5,8 @@ use crate::trace::Writer;
 use crate::usb::PID;
 use crate::usb::PID::*;
 
+#[path = "described.rs"]
+mod described;
 #[path = "steered.rs"]
 pub mod steered;
 
@@ -75,12 +77,18 @@ pub const KINDS: [(&str, fn(&mut Bench)); 16] = [
 pub const EXTRA: [(&str, fn(&mut Bench)); 4] =
     [("walk", Bench::walk), ("stages", Bench::stages), ("transfers", Bench::transfers), ("crowd", Bench::crowd)];
 
+/// Kinds of change request 2. The comparison with the port does not play them yet, since the port does not read descriptors.
+pub const DESCRIBED: [(&str, fn(&mut Bench)); 2] = [("descriptors", Bench::descriptors), ("reread", Bench::reread)];
+
 /// A trace of n records of a kind, or none where there is no such kind.
 pub fn generate(seed: u64, n: u64, kind: &str) -> Option<Vec<u8>> {
-    let (_, scene) = KINDS.iter().chain(&EXTRA).find(|(name, _)| *name == kind)?;
+    let (_, scene) = KINDS.iter().chain(&EXTRA).chain(&DESCRIBED).find(|(name, _)| *name == kind)?;
     let mut bench = Bench::new(seed);
     if kind == "mixed" {
         bench.noise = 6;
+    } else if DESCRIBED.iter().any(|(name, _)| *name == kind) {
+        // Most of these traces run undisturbed, so that the reads in them come to their end.
+        bench.noise = [0, 0, 0, 1, 3][seed as usize % 5];
     }
     while bench.trace.records < n {
         scene(&mut bench);

@@ -8,17 +8,23 @@ pub use crates::{CRC_16_USB, Context, Crc, Error};
 pub mod bench;
 pub mod blocks;
 pub mod calls;
+pub mod chapter9;
 pub mod compare;
 pub mod coverage;
 pub mod crates;
 pub mod damage;
+pub mod descriptors;
+pub mod enumerations;
 pub mod generate;
 pub mod lemmas;
 #[cfg(feature = "port")]
 pub mod library;
 pub mod limits;
+pub mod listed;
 pub mod listing;
 pub mod mixed;
+pub mod own;
+pub mod own_and_ruled;
 pub mod packets;
 pub mod program;
 pub mod report;
@@ -60,6 +66,9 @@ pub mod capture {
     use anyhow::{Context, Error};
 
     use crate::bitfield;
+    use crate::descriptors::{Descriptors, Kind, Shelf, kind};
+    use crate::listed::{Case, Witness};
+    use crate::own;
     use crate::storage::{CompactWriter, DataWriter, Id, Journal, Link, LinkWriter, Mark, Shared, SharedJournal, VecMap};
     use crate::usb::{self, prelude::*};
     include!(concat!(env!("OUT_DIR"), "/capture.rs"));

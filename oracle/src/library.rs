@@ -28,7 +28,7 @@ pub fn group_status(state: &State) -> [u64; 10] {
 }
 
 /// The words of the endpoint table.
-pub const TABLE: usize = 2176;
+pub const TABLE: usize = 2704;
 
 /// A lent log: where it starts, and how many elements it has.
 pub type Slice<T> = (*mut T, usize);

@@ -4,8 +4,9 @@ use std::fmt::Write;
 
 use crate::calls::{Mechanism, Rows};
 use crate::capture::CaptureWriter;
+use crate::descriptors::{Descriptors, note_text};
 use crate::storage::Mark;
-use crate::trace::{Refused, run};
+use crate::trace::{Refused, run_by};
 use crate::usb::Direction;
 
 /// The size of the program's input buffer (docs/SIZES.md).
@@ -13,10 +14,15 @@ pub const BUFFER: usize = 16384;
 
 /// What the program prints for a trace: its rows, or the one line of a refusal, or `too long`.
 pub fn listing<M: Mechanism>(trace: &[u8], buffer: usize, room: Rows, total: u64) -> String {
+    listing_by::<M>(Descriptors::DEFAULT, trace, buffer, room, total)
+}
+
+/// The same with a mode of reading descriptors.
+pub fn listing_by<M: Mechanism>(descriptors: Descriptors, trace: &[u8], buffer: usize, room: Rows, total: u64) -> String {
     if trace.len() > buffer {
         return "too long\n".to_string();
     }
-    match run::<M>(trace, room, total) {
+    match run_by::<M>(descriptors, trace, room, total) {
         Ok(calls) => rows(calls.machine.capture()),
         Err(Refused { answer, at }) => format!("refused {answer} at {at}\n"),
     }
@@ -67,9 +73,11 @@ pub fn rows(c: &CaptureWriter) -> String {
         }
         .ok();
     }
-    for (i, r) in c.shared.requests.borrow().iter().enumerate() {
+    let noted = c.shared.requests.descriptors == Descriptors::Ruled;
+    for (i, r) in c.shared.requests.rows.borrow().iter().enumerate() {
         let hex: String = r.setup.iter().map(|b| format!("{b:02x}")).collect();
-        writeln!(line, "request {i} {} {hex} {}", r.endpoint, r.length).ok();
+        let note = if noted { format!(" {}", note_text(r.note)) } else { String::new() };
+        writeln!(line, "request {i} {} {hex} {}{note}", r.endpoint, r.length).ok();
     }
     out
 }

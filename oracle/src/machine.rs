@@ -4,6 +4,7 @@
 use super::*;
 use crate::calls::{EndpointView, Mechanism, Place, Style, TransactionView, View};
 use crate::capture::{DeviceData, create_capture};
+use crate::descriptors::{Descriptors, Kind, kind};
 use crate::storage::Journal;
 
 pub struct Machine {
@@ -24,7 +25,7 @@ pub struct Saved {
     ls_keepalive_item: Option<TrafficItemId>,
     endpoint_writers: VecMap<EndpointId, crate::capture::EndpointWriter>,
     endpoint_index: VecMap<DeviceAddr, VecMap<EndpointAddr, EndpointId>>,
-    details: Vec<[crate::capture::Detail; 32]>,
+    devices: Vec<DeviceData>,
     lengths: [usize; 16],
 }
 
@@ -52,6 +53,28 @@ impl Machine {
     fn decoder_mut(&mut self) -> &mut Decoder {
         self.decoder.as_mut().expect("a decoder that has not finished")
     }
+
+    /// Lays a payload by before its packet is taken (src/descriptors.rs, R3): a DATA0 or DATA1 that the transaction takes and that is no
+    /// setup data, on an endpoint whose kept setup is a read. What it may count for is seen here, whether it counts is not.
+    fn lay(&self, packet: &[u8]) {
+        use TransactionStyle::*;
+        let d = self.decoder();
+        let found = if d.suspended_transaction.is_some() { &d.suspended_transaction } else { &d.transaction_state };
+        let Some(state) = found else { return };
+        let (Some(id), Ok((pid, status))) = (state.endpoint_id, transaction_status(found, packet)) else { return };
+        let of_setup = matches!(
+            (&state.style, pid),
+            (Simple(PID::SETUP) | Split(StartComplete::Start, usb::EndpointType::Control, Some(PID::SETUP)), PID::DATA0)
+        );
+        if !matches!(pid, PID::DATA0 | PID::DATA1) || of_setup || status == TransactionStatus::Invalid {
+            return;
+        }
+        let e = &d.endpoint_data[id];
+        let asked = e.setup.map(|fields| kind(&fields.bytes()));
+        if let (Some(Kind::DeviceRead | Kind::ConfigurationRead), Ok(device)) = (asked, d.capture.device_data(e.device_id)) {
+            device.lay(e.payload.len(), &packet[1..packet.len() - 2]);
+        }
+    }
 }
 
 fn lengths(c: &CaptureWriter) -> [usize; 16] {
@@ -69,7 +92,7 @@ fn lengths(c: &CaptureWriter) -> [usize; 16] {
         c.endpoint_states.rows.len(),
         c.endpoint_state_index.stream.rows.len(),
         c.counters.journal.borrow().marks.len(),
-        c.shared.requests.borrow().len(),
+        c.shared.requests.rows.borrow().len(),
         c.counters.endpoints as usize,
         c.counters.journal.borrow().links,
     ]
@@ -89,7 +112,7 @@ fn truncate(c: &mut CaptureWriter, n: &[usize; 16]) {
     c.endpoint_states.rows.truncate(n[10]);
     c.endpoint_state_index.stream.rows.truncate(n[11]);
     c.counters.journal.borrow_mut().marks.truncate(n[12]);
-    c.shared.requests.borrow_mut().truncate(n[13]);
+    c.shared.requests.truncate(n[13]);
     c.counters.endpoints = n[14] as u64;
     c.counters.journal.borrow_mut().links = n[15];
 }
@@ -127,12 +150,15 @@ fn endpoint_view(e: &EndpointData) -> EndpointView {
 impl Mechanism for Machine {
     type Saved = Saved;
 
-    fn fresh(trail: bool) -> Self {
-        let decoder = Decoder::new(create_capture(trail)).expect("a fresh decoder");
+    fn fresh(trail: bool, descriptors: Descriptors) -> Self {
+        let decoder = Decoder::new(create_capture(trail, descriptors)).expect("a fresh decoder");
         Machine { decoder: Some(decoder), finished: None }
     }
 
     fn packet(&mut self, packet: &[u8], time: u64) -> Result<(), Error> {
+        if self.capture().shared.requests.descriptors == Descriptors::Ruled {
+            self.lay(packet);
+        }
         self.decoder_mut().handle_raw_packet(packet, time)
     }
 
@@ -177,7 +203,7 @@ impl Mechanism for Machine {
             ls_keepalive_item: d.ls_keepalive_item,
             endpoint_writers: d.capture.endpoint_writers.clone(),
             endpoint_index: d.capture.shared.endpoint_index.load().clone(),
-            details: d.capture.shared.device_data.load().values().map(|device| *device.details.borrow()).collect(),
+            devices: d.capture.shared.device_data.load().values().map(|device| (**device).clone()).collect(),
             lengths: lengths(&d.capture),
         }
     }
@@ -192,9 +218,7 @@ impl Mechanism for Machine {
         capture.endpoint_writers = saved.endpoint_writers;
         capture.shared.endpoint_index.store(saved.endpoint_index);
         let mut devices = VecMap::new();
-        for (i, details) in saved.details.into_iter().enumerate() {
-            let device = DeviceData::new(&capture.shared.requests);
-            device.details.replace(details);
+        for (i, device) in saved.devices.into_iter().enumerate() {
             devices.set(DeviceId::from(i as u64), Arc::new(device));
         }
         capture.shared.device_data.store(devices);
@@ -253,8 +277,9 @@ pub type State = [u64; 23];
 /// The source's `group_status` on a state: status, effect (kind, number, waited, id), then last_success, setup (there, bytes),
 /// payload and whether a payload waits. The tokens, types and lengths must be ones that the source can hold.
 pub fn group_status_words(s: &State) -> [u64; 10] {
-    use crate::capture::{Detail, DeviceData, Requests};
-    let requests = Requests::default();
+    use crate::capture::{Detail, DeviceData, RequestLog, Requests};
+    // A request is told by its row alone: the bytes of a payload are not in the state.
+    let requests = Requests::new(RequestLog { descriptors: Descriptors::Off, ..RequestLog::default() });
     let device = DeviceData::new(&requests);
     let address = match s[19] {
         5 => EndpointAddr(0x12),
@@ -264,12 +289,12 @@ pub fn group_status_words(s: &State) -> [u64; 10] {
     };
     if s[19] < 4 {
         let max = if s[20] == 0 { None } else { Some(s[20] as usize) };
-        device.details.borrow_mut()[1] = Detail { kind: Some(usb::EndpointType::from(s[19] as u8)), max };
+        device.details.borrow_mut()[1] = Detail { kind: Some(usb::EndpointType::from(s[19] as u8)), max, given: false };
     }
     let mut e = endpoint_of(s, address);
     let mut t = transaction_of(s);
     let (status, effect) = e.group_status(&device, &mut t, s[21] == 1, s[22] == 1).expect("a transaction with its token");
-    let [kind, number, waited, id] = match (effect, requests.borrow().first()) {
+    let [kind, number, waited, id] = match (effect, requests.rows.borrow().first()) {
         (TransactionSideEffect::NoEffect, Some(row)) => [2, row.length, 0, 0],
         (TransactionSideEffect::NoEffect, None) => [0; 4],
         (TransactionSideEffect::NewDevice(address), _) => [1, address.0 as u64, 0, 0],

@@ -6,9 +6,10 @@ use std::process::ExitCode;
 use oracle::calls::{LOGS, Rows};
 use oracle::compare::Rust;
 use oracle::decoder::machine::Machine;
-use oracle::generate::{EXTRA, KINDS, download, generate};
+use oracle::descriptors::Descriptors;
+use oracle::generate::{DESCRIBED, EXTRA, KINDS, download, generate};
 use oracle::mixed::mixed;
-use oracle::{bench, compare, lemmas, listing, report, selfcheck, trace, traces};
+use oracle::{bench, compare, lemmas, listing, own_and_ruled, report, selfcheck, trace, traces};
 
 const USAGE: &str = "usage: oracle COMMAND
   listing [OPTION..]     a UTL trace on standard input; prints the listing of document 01
@@ -19,8 +20,11 @@ const USAGE: &str = "usage: oracle COMMAND
   bench FILE             the time of the raw Rust decoder on a trace, median of five runs
   selfcheck N            N random calls, 01's well-formed list and demand 3 after each; then the mutants
   coverage N SEED        plays the traces of `compare traces N SEED` by the Rust alone: which cases of decoder.rs they meet
+  descriptors N SEED     the Rust's own decode_request beside the rules of change request 2, on N random traces: what differs
+                         outside the listed cases, and how often each of them was met
   traces DIR             writes the traces of the repository and the listings that they must give
   traces --check DIR     compares them with what stands in DIR
+  traces --descriptors DIR  writes the traces of change request 2, with the listings that descriptors give them
   lemmas SEED RUNS CALLS writes the sequences of `traces` and RUNS random runs of CALLS records as lemmas of crates/runs (proofs/Oracle.antt)
 options:
   --program              room and buffer of the program `listing` (docs/SIZES.md); otherwise the largest that 01 allows
@@ -28,6 +32,7 @@ options:
                          bytes devices endpoints packets events transactions groups state-bytes states items links requests
   --buffer BYTES         the size of the input buffer: a longer input is `too long`
   --total N              ordinary endpoints start with this byte total, so that answer 9 can be tried
+  --descriptors MODE     how completed requests are read: off, ruled (by change request 2), own (by the Rust's decode_request)
   --finish-at K          (answers) calls finish before record K too, so that answer 2 can be tried";
 
 struct Options {
@@ -35,10 +40,12 @@ struct Options {
     buffer: usize,
     total: u64,
     finish_at: Option<u64>,
+    descriptors: Descriptors,
 }
 
 fn options(words: &[String]) -> Result<Options, String> {
-    let mut o = Options { room: Rows::LARGEST, buffer: usize::MAX, total: 0, finish_at: None };
+    let (room, descriptors) = (Rows::LARGEST, Descriptors::DEFAULT);
+    let mut o = Options { room, buffer: usize::MAX, total: 0, finish_at: None, descriptors };
     let mut words = words.iter();
     while let Some(word) = words.next() {
         if word == "--program" {
@@ -56,11 +63,21 @@ fn options(words: &[String]) -> Result<Options, String> {
             }
             "--buffer" => o.buffer = number(value)? as usize,
             "--total" => o.total = number(value)?,
+            "--descriptors" => o.descriptors = mode(value).ok_or(format!("no mode {value}"))?,
             "--finish-at" => o.finish_at = Some(number(value)?),
             _ => return Err(format!("no option {word}")),
         }
     }
     Ok(o)
+}
+
+fn mode(name: &str) -> Option<Descriptors> {
+    match name {
+        "off" => Some(Descriptors::Off),
+        "ruled" => Some(Descriptors::Ruled),
+        "own" => Some(Descriptors::Own),
+        _ => None,
+    }
 }
 
 fn input() -> Result<Vec<u8>, String> {
@@ -78,7 +95,7 @@ fn answers(trace: &[u8], o: &Options) -> String {
     if trace.len() > o.buffer {
         return "too long\n".to_string();
     }
-    trace::answers::<Machine>(trace, o.room, o.total, o.finish_at).iter().map(|a| format!("{a}\n")).collect()
+    trace::answers_by::<Machine>(o.descriptors, trace, o.room, o.total, o.finish_at).iter().map(|a| format!("{a}\n")).collect()
 }
 
 fn run(words: &[String]) -> Result<bool, String> {
@@ -87,14 +104,14 @@ fn run(words: &[String]) -> Result<bool, String> {
     match (command.as_str(), rest) {
         ("listing", rest) => {
             let o = options(rest)?;
-            output(listing::listing::<Machine>(&input()?, o.buffer, o.room, o.total).as_bytes())?;
+            output(listing::listing_by::<Machine>(o.descriptors, &input()?, o.buffer, o.room, o.total).as_bytes())?;
         }
         ("answers", rest) => {
             let o = options(rest)?;
             output(answers(&input()?, &o).as_bytes())?;
         }
         ("gen", [kinds]) if kinds == "kinds" => {
-            let names: String = KINDS.iter().chain(&EXTRA).map(|(name, _)| format!("{name}\n")).collect();
+            let names: String = KINDS.iter().chain(&EXTRA).chain(&DESCRIBED).map(|(name, _)| format!("{name}\n")).collect();
             output(names.as_bytes())?;
         }
         ("gen", [seed, n, kind]) => {
@@ -112,7 +129,9 @@ fn run(words: &[String]) -> Result<bool, String> {
             let (mut port, mut lister) = (Rust::<Machine>::default(), Rust::<Machine>::default());
             return Ok(report::traces(&compare::traces(&mut port, &mut lister, number(n)?, number(seed)?), true));
         }
+        ("descriptors", [n, seed]) => return Ok(own_and_ruled::report(number(n)?, number(seed)?)),
         ("traces", [folder]) => traces::write(folder)?,
+        ("traces", [flag, folder]) if flag == "--descriptors" => traces::write_descriptors(folder)?,
         ("lemmas", [seed, runs, calls]) => output(lemmas::lemmas(number(seed)?, number(runs)?, number(calls)?).as_bytes())?,
         ("traces", [flag, folder]) if flag == "--check" => traces::check(folder)?,
         _ => return Err(USAGE.to_string()),

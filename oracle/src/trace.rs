@@ -1,6 +1,7 @@
 //! The UTL trace of document 01: records read one at a time and written, and a whole trace run through the calls.
 
 use crate::calls::{Calls, Mechanism, Rows};
+use crate::descriptors::Descriptors;
 
 /// A record of a trace.
 #[derive(Clone, PartialEq, Debug)]
@@ -119,10 +120,21 @@ pub struct Played<M: Mechanism> {
 /// A whole trace and its finish, up to the first refusal; 8 is none. `see` is shown the decoder before each record, and the answers:
 /// that of fresh, of each record and of finish.
 pub fn play<M: Mechanism>(trace: &[u8], room: Rows, total: u64, see: &mut impl Watch<M>) -> Played<M> {
+    play_by(Descriptors::DEFAULT, trace, room, total, see)
+}
+
+/// The same with a mode of reading descriptors.
+pub fn play_by<M: Mechanism>(
+    descriptors: Descriptors,
+    trace: &[u8],
+    room: Rows,
+    total: u64,
+    see: &mut impl Watch<M>,
+) -> Played<M> {
     if let Err(refused) = header(trace) {
         return Played { calls: None, refused: Some(refused) };
     }
-    let mut calls = Calls::new(room, total, false);
+    let mut calls = Calls::reading(descriptors, room, total, false);
     see.answer(calls.fresh);
     if calls.fresh != 0 {
         return Played { refused: Some(Refused { answer: calls.fresh, at: 0 }), calls: Some(calls) };
@@ -167,7 +179,12 @@ fn records<M: Mechanism>(trace: &[u8], calls: &mut Calls<M>, see: &mut impl Watc
 
 /// The same where only a whole trace is wanted.
 pub fn run<M: Mechanism>(trace: &[u8], room: Rows, total: u64) -> Result<Calls<M>, Refused> {
-    let played = play::<M>(trace, room, total, &mut ());
+    run_by(Descriptors::DEFAULT, trace, room, total)
+}
+
+/// The same with a mode of reading descriptors.
+pub fn run_by<M: Mechanism>(descriptors: Descriptors, trace: &[u8], room: Rows, total: u64) -> Result<Calls<M>, Refused> {
+    let played = play_by::<M>(descriptors, trace, room, total, &mut ());
     match (played.refused, played.calls) {
         (None, Some(calls)) => Ok(calls),
         (Some(refused), _) => Err(refused),
@@ -178,10 +195,21 @@ pub fn run<M: Mechanism>(trace: &[u8], room: Rows, total: u64) -> Result<Calls<M
 /// The answers of a trace, one for each record and one for finish. A refused call changes nothing, and the trace goes on;
 /// `finish_at` calls finish before that record as well.
 pub fn answers<M: Mechanism>(trace: &[u8], room: Rows, total: u64, finish_at: Option<u64>) -> Vec<u8> {
+    answers_by::<M>(Descriptors::DEFAULT, trace, room, total, finish_at)
+}
+
+/// The same with a mode of reading descriptors.
+pub fn answers_by<M: Mechanism>(
+    descriptors: Descriptors,
+    trace: &[u8],
+    room: Rows,
+    total: u64,
+    finish_at: Option<u64>,
+) -> Vec<u8> {
     if let Err(refused) = header(trace) {
         return vec![refused.answer];
     }
-    let mut calls = Calls::<M>::new(room, total, false);
+    let mut calls = Calls::<M>::reading(descriptors, room, total, false);
     let mut reader = Reader::new(trace);
     let mut clock = Clock::default();
     let mut answers = Vec::new();

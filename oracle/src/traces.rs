@@ -6,8 +6,10 @@ use std::path::Path;
 
 use crate::calls::Rows;
 use crate::decoder::machine::Machine;
+use crate::descriptors::Descriptors;
+use crate::enumerations;
 use crate::generate::{KINDS, generate};
-use crate::listing::{BUFFER, listing};
+use crate::listing::{BUFFER, listing, listing_by};
 use crate::packets::{data, handshake, sof, split, token};
 use crate::trace::Writer;
 use crate::usb::PID;
@@ -194,9 +196,18 @@ pub fn expected(trace: &[u8]) -> String {
 
 /// Writes NAME.utl and NAME.listing for every trace.
 pub fn write(folder: &str) -> Result<(), String> {
-    let traces = all();
+    write_all(folder, &all(), expected)
+}
+
+/// The same of the traces of change request 2, with the listings that they must give once the port reads descriptors.
+pub fn write_descriptors(folder: &str) -> Result<(), String> {
+    let expected = |trace: &[u8]| listing_by::<Machine>(Descriptors::Ruled, trace, BUFFER, Rows::PROGRAM, 0);
+    write_all(folder, &enumerations::all(), expected)
+}
+
+fn write_all(folder: &str, traces: &[(String, Vec<u8>)], expected: impl Fn(&[u8]) -> String) -> Result<(), String> {
     fs::create_dir_all(folder).map_err(|e| format!("{folder}: {e}"))?;
-    for (name, trace) in &traces {
+    for (name, trace) in traces {
         for (ending, bytes) in [("utl", trace.clone()), ("listing", expected(trace).into_bytes())] {
             let path = Path::new(folder).join(format!("{name}.{ending}"));
             fs::write(&path, bytes).map_err(|e| format!("{}: {e}", path.display()))?;
