@@ -1,17 +1,21 @@
--- Descriptors of devices, computed: a disk, its answer cut, a keyboard with a HID descriptor, what ends the walk, and the kinds of setup data.
+-- Descriptors of devices, computed: a disk, its answer cut, a keyboard with a HID descriptor, what ends the walk, the kinds of setup data, and an enumeration.
 -- Assumes nothing.
 use Prim.Native.Nat.{ℕ}
 use mathlib.Core.Path.{_≡_, refl}
 use mathlib.Core.Bool.{true, false}
 use mathlib.Core.List.{List, [], _∷_, _++_, map}
-use lib.ListN.{take}
+use lib.ListN.{take, drop}
 use Rattle.descriptors.specs.Whole.{isWhole, wholeIn, whole}
 use Rattle.descriptors.specs.Kind.{isRead, isSetConfiguration, isSetInterface, kindBy, kindOf}
 use Rattle.descriptors.specs.Entries.{isOf, firstOf, maxOf, valueOf, settingAfter, givesEntry, entryOf, entriesIn, entriesBehind, entriesOf}
 use Rattle.usb.specs.Fields.{setupOf}
 use Rattle.details.specs.Details.{stored, withDetail, fresh}
 use Rattle.details.specs.declared.Device.{Device}
-use Rattle.descriptors.specs.Chosen.{choiceOf, isChosen, setFrom, setIf, applied, countSet}
+use Rattle.descriptors.specs.Chosen.{configurationChoice, interfaceChoice, isChosen, setFrom, setIf, applied, countSet}
+use Rattle.descriptors.specs.Store.{without, leftBy, addedBy}
+use Rattle.descriptors.specs.Entries.{fitting}
+use Rattle.descriptors.specs.Complete.{noteOf, withMax, deviceAfter}
+use Rattle.descriptors.specs.FateLaws.{Deed, Begins, Comes, Ends, Known, unknowing, learnsAll}
 use Rattle.descriptors.specs.declared.request.Kind.the-variants.{DeviceRead, ConfigurationRead, SetConfiguration, SetInterface, Other}
 
 -- a disk: one interface, bulk endpoints 81 and 02 of 512 bytes
@@ -76,7 +80,7 @@ kinds = refl
 
 -- SET_CONFIGURATION 1 and the disk's two entries: the details of endpoints 2 out and 1 in (bulk, 512), and of no other
 after-set : Device
-after-set = applied (choiceOf SetConfiguration (setupOf 0x0000000000010900) 256) (in-entry ∷ out-entry ∷ []) (fresh 3)
+after-set = applied (configurationChoice (setupOf 0x0000000000010900)) (in-entry ∷ out-entry ∷ []) (fresh 3)
 
 set-disk : map (stored after-set) (1 ∷ 2 ∷ 17 ∷ 18 ∷ [])
     ≡ record { kind = 4; max = 0 } ∷ record { kind = 2; max = 512 } ∷ record { kind = 2; max = 512 } ∷ record { kind = 4; max = 0 } ∷ []
@@ -87,14 +91,39 @@ set-disk = refl
 camera : List (List ℕ)
 camera = (5 ∷ 2 ∷ 0 ∷ 0x81 ∷ 1 ∷ 0 ∷ 0 ∷ []) ∷ (5 ∷ 2 ∷ 1 ∷ 0x81 ∷ 1 ∷ 0x00 ∷ 0x14 ∷ []) ∷ (6 ∷ 2 ∷ 1 ∷ 0x82 ∷ 1 ∷ 8 ∷ 0 ∷ []) ∷ []
 
-counts : countSet (choiceOf SetInterface (setupOf 0x0000000200010B01) 5) camera
-    ∷ countSet (choiceOf SetInterface (setupOf 0x0000000200010B01) 256) camera
-    ∷ countSet (choiceOf SetConfiguration (setupOf 0x0000000000050900) 256) camera ∷ []
-    ≡ 1 ∷ 0 ∷ 1 ∷ []
-unfolding camera countSet isChosen
+counts : noteOf SetInterface (setupOf 0x0000000200010B01) 5 [] camera
+    ∷ noteOf SetInterface (setupOf 0x0000000200010B01) 256 [] camera
+    ∷ noteOf SetConfiguration (setupOf 0x0000000000050900) 256 [] camera ∷ []
+    ≡ 7 ∷ 0 ∷ 7 ∷ []
+unfolding camera noteOf countSet isChosen
 counts = refl
 
 -- 3 x 1,024 bytes a microframe: bits 10..0 alone
-set-camera : stored (applied (choiceOf SetInterface (setupOf 0x0000000200010B01) 5) camera (fresh 3)) 17 ≡ record { kind = 1; max = 1024 }
+set-camera : stored (applied (interfaceChoice (setupOf 0x0000000200010B01) 5) camera (fresh 3)) 17 ≡ record { kind = 1; max = 1024 }
 unfolding camera applied setIf setFrom isChosen withDetail fresh
 set-camera = refl
+
+-- an enumeration: SET_CONFIGURATION 1 before anything is read, the device descriptor, a configuration read of 9 bytes, one in two packets of which the second came
+-- twice and was acknowledged once, SET_CONFIGURATION 1, a class request, SET_CONFIGURATION 256
+enumeration : List Deed
+enumeration =
+    Ends 0x0000000000010900
+    ∷ Begins ∷ Comes device true ∷ Ends 0x0012000001000680
+    ∷ Begins ∷ Comes (take 9 disk) true ∷ Ends 0x0009000002000680
+    ∷ Begins ∷ Comes (take 20 disk) true ∷ Comes (drop 20 disk) false ∷ Comes (drop 20 disk) true ∷ Ends 0x0020000002000680
+    ∷ Begins ∷ Ends 0x0000000000010900
+    ∷ Begins ∷ Ends 0x0000000000010920
+    ∷ Begins ∷ Ends 0x0000000001000900 ∷ []
+
+enumerated : Known
+enumerated = learnsAll enumeration (unknowing 256 (fresh 3))
+
+-- set 0, max 64, read 0, read 2, set 2, none, none, the newest first
+notes : enumerated .notes ≡ 0 ∷ 0 ∷ 11 ∷ 10 ∷ 2 ∷ 257 ∷ 3 ∷ []
+unfolding enumerated enumeration device disk isRead isSetConfiguration isSetInterface kindBy kindOf noteOf isWhole wholeIn whole isOf firstOf maxOf valueOf settingAfter givesEntry entryOf entriesIn entriesBehind entriesOf fitting without leftBy addedBy countSet isChosen
+notes = refl
+
+details-read : map (stored (enumerated .device)) (0 ∷ 1 ∷ 2 ∷ 17 ∷ [])
+    ≡ record { kind = 0; max = 64 } ∷ record { kind = 4; max = 0 } ∷ record { kind = 2; max = 512 } ∷ record { kind = 2; max = 512 } ∷ []
+unfolding enumerated enumeration device disk isRead isSetConfiguration isSetInterface kindBy kindOf withMax deviceAfter isWhole wholeIn whole isOf firstOf maxOf valueOf settingAfter givesEntry entryOf entriesIn entriesBehind entriesOf fitting without leftBy addedBy isChosen applied setIf setFrom withDetail fresh
+details-read = refl

@@ -14,19 +14,15 @@ use Rattle.descriptors.specs.declared.choose.Choice.{Choice}
 use Rattle.descriptors.specs.declared.request.Kind.{Kind}
 use Rattle.descriptors.specs.declared.request.Kind.the-variants.{DeviceRead, ConfigurationRead, SetConfiguration, SetInterface, Other}
 
--- the entries of no configuration: a configuration value is a byte
-abbrev pub nobodys : Choice
-nobodys = record { value = 256; all = true; interface = 0; alternate = 0 }
+-- 9.4.7: the configuration in wValue; all its interfaces are at alternate setting 0
+abbrev pub configurationChoice : Setup → Choice
+configurationChoice s = record { value = s .value; all = true; interface = 0; alternate = 0 }
 
--- 9.4.7: the configuration in wValue; all its interfaces are at alternate setting 0.
--- 9.4.10: the alternate setting in wValue, the interface in wIndex; of the configuration that is chosen (256: none is)
-abbrev pub choiceOf : Kind → Setup → ℕ → Choice
-choiceOf SetConfiguration s chosen = record { value = s .value; all = true; interface = 0; alternate = 0 }
-choiceOf SetInterface s chosen = record { value = chosen; all = false; interface = s .index; alternate = s .value }
-choiceOf DeviceRead s chosen = nobodys
-choiceOf ConfigurationRead s chosen = nobodys
-choiceOf Other s chosen = nobodys
+-- 9.4.10: the alternate setting in wValue, the interface in wIndex; of the configuration that is chosen
+abbrev pub interfaceChoice : Setup → ℕ → Choice
+interfaceChoice s chosen = record { value = chosen; all = false; interface = s .index; alternate = s .value }
 
+-- the configuration that is chosen after a request (9.4.7); 0 is one like others
 abbrev pub chosenAfter : Kind → Setup → ℕ → ℕ
 chosenAfter SetConfiguration s chosen = s .value
 chosenAfter SetInterface s chosen = chosen

@@ -14,8 +14,8 @@ use Rattle.descriptors.specs.ReadBack.{all-append}
 use Rattle.rows.specs.Sets.{sets-then}
 use Rattle.descriptors.specs.ForgetLaws.{drop-sets}
 use Rattle.descriptors.specs.StepLaws.{entries-none}
-use Rattle.descriptors.specs.Store.{chunks, storedAt, isOther, without, leftBy, addedBy, keptAfter, Reads}
-use Rattle.descriptors.specs.Steps.{Keeps, Forgets}
+use Rattle.descriptors.specs.Store.{chunks, storedAt, isOther, without, leftBy, addedBy, keptAfter}
+use Rattle.descriptors.specs.Steps.{Keeps, Forgets, Reads}
 use Rattle.descriptors.specs.declared.walk.Setting.{Setting}
 use Rattle.descriptors.specs.declared.walk.Taken.{Taken}
 
@@ -96,7 +96,7 @@ pub entries-seven : (p : List ℕ) → All Seven (entriesOf p)
 unfolding entriesOf
 entries-seven p = behind-seven (whole p)
 
-take-all-of : (P : List ℕ → Type 0) (n : ℕ) (es : List (List ℕ)) → All P es → All P (take n es)
+pub take-all-of : (P : List ℕ → Type 0) (n : ℕ) (es : List (List ℕ)) → All P es → All P (take n es)
 take-all-of P zero es h = tt
 take-all-of P (suc n) [] h = tt
 take-all-of P (suc n) (e ∷ es) h = (h .0, take-all-of P n es (h .1))
@@ -206,7 +206,7 @@ module _ (p : List ℕ) (es : List (List ℕ)) (r : Taken) (e : r ≡ valueOf p)
   unfolding addedBy
   added-some n h = ap (λ (i : ℕ). fitting i (entriesOf p)) h
 
-  after-none : r .taken ≡ false → keptAfter p es ≡ es
+  pub after-none : r .taken ≡ false → keptAfter p es ≡ es
   after-none h = (λ i. left-none h i ++ added-none h i) ∙ append-nil es
 
 pub reads-none : (base kept : ℕ) (p store : List ℕ) (r : Taken) → r ≡ valueOf p → r .taken ≡ false → kept ≤ 585 → base + 4095 ≤ length store

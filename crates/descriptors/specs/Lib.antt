@@ -5,6 +5,7 @@ pub mod Store
 pub mod Steps
 pub mod Chosen
 pub mod Laid
+pub mod Complete
 pub mod WholeLaws
 pub mod EntriesLaws
 pub mod StepLaws
@@ -14,3 +15,6 @@ pub mod ForgetLaws
 pub mod HeldLaws
 pub mod ChosenLaws
 pub mod SetLaws
+pub mod CompleteLaws
+pub mod ShelfLaws
+pub mod FateLaws

@@ -1,24 +1,27 @@
 -- Laws (proved): which details a choice sets: the last entry that is meant decides, and the details of other endpoints stay; a configuration that was read is set
--- by what was read of it last.
+-- by what was read of it last, one that was not sets nothing; what a read leaves of each configuration.
 -- Assumes nothing.
-use Prim.Native.Nat.{ℕ, _+_, _*_, _/_, _%_, _<_}
+use Prim.Native.Nat.{ℕ, _+_, _-_, _*_, _/_, _%_, _<_}
 use native.Mathlib.Omega.{arith}
 use mathlib.Core.Path.{_≡_, refl, sym, ap, _∙_, subst}
 use mathlib.Core.Bool.{Bool, true, false, cond, not, _&&_, _||_}
-use mathlib.Core.List.{List, [], _∷_, _++_}
+use mathlib.Core.List.{List, [], _∷_, _++_, append-assoc, append-nil}
+use borrow.Author.Tests.{eqb-true, eq-eqb, ne-eqb}
 use lib.Dec.{eqb}
 use lib.ListN.{length, getD}
+use Rattle.rows.specs.One.{one}
 use Rattle.details.specs.Details.{stored, detailEntry}
 use Rattle.details.specs.DetailsLaws.{detail-kept, detail-other, detail-same}
 use Rattle.details.specs.declared.Detail.{Detail}
 use Rattle.details.specs.declared.Device.{Device}
 use Rattle.descriptors.specs.Whole.{whole}
 use Rattle.descriptors.specs.WholeLaws.{both-right}
-use Rattle.descriptors.specs.Entries.{isOf, unset, named, maybe, valueOf, settingAfter, givesEntry, entryOf, entriesIn, entriesBehind, entriesOf}
+use Rattle.descriptors.specs.Entries.{isOf, nothing, firstOf, unset, named, maybe, valueOf, settingAfter, givesEntry, entryOf, entriesIn, entriesBehind, entriesOf, fitting}
 use Rattle.descriptors.specs.Store.{isOther, without, leftBy, addedBy, keptAfter}
 use Rattle.descriptors.specs.Configuration.{Configuration, All, Good, bytesOf, endpointsOf}
-use Rattle.descriptors.specs.ReadBack.{all-append, read-back}
-use Rattle.descriptors.specs.Chosen.{isMeant, isChosen, setFrom, setIf, applied}
+use Rattle.descriptors.specs.ReadBack.{all-append, all-map, read-back}
+use Rattle.descriptors.specs.HeldLaws.{take-all-of}
+use Rattle.descriptors.specs.Chosen.{isChosen, setFrom, setIf, applied, countSet}
 use Rattle.descriptors.specs.declared.choose.Choice.{Choice}
 use Rattle.descriptors.specs.declared.walk.Setting.{Setting}
 
@@ -148,3 +151,122 @@ numbered-behind (d ∷ ds) = by (isOf 2 9 d)
 pub entries-numbered : (p : List ℕ) → All Numbered (entriesOf p)
 unfolding entriesOf
 entries-numbered p = numbered-behind (whole p)
+
+-- ---- what was not read
+
+module _ (c : Choice) where
+  pub count-none : (es : List (List ℕ)) → Unmeant c es → countSet c es ≡ 0
+  unfolding countSet
+  count-none [] h = refl
+  count-none (e ∷ es) h = let n = count-none es (h .1) in ap (λ (b : Bool). one b + countSet c es) (h .0) ∙ omega (arith, n)
+
+  -- a SET of a configuration that was never read sets nothing
+  abbrev pub Unread : List (List ℕ) → Type 0
+  Unread es = All (λ (e : List ℕ). isOther (c .value) e ≡ true) es
+
+  unread-unmeant : (es : List (List ℕ)) → Unread es → Unmeant c es
+  unread-unmeant es h = all-map (λ (e : List ℕ). isOther (c .value) e ≡ true) (λ (e : List ℕ). isChosen c e ≡ false) (other-unmeant c) es h
+
+  pub set-unread : (es : List (List ℕ)) (d : Device) → Unread es → applied c es d ≡ d
+  set-unread es d h = applied-none c es d (unread-unmeant es h)
+
+  pub count-unread : (es : List (List ℕ)) → Unread es → countSet c es ≡ 0
+  count-unread es h = count-none es (unread-unmeant es h)
+
+-- ---- what a read leaves of each configuration
+
+-- the entries of a configuration, in their order
+unfoldable pub only : ℕ → List (List ℕ) → List (List ℕ)
+only value [] = []
+only value (e ∷ es) = maybe (eqb (getD e 0 0) value) e ++ only value es
+
+abbrev pub Valued : ℕ → List (List ℕ) → Type 0
+Valued value es = All (λ (e : List ℕ). getD e 0 0 ≡ value) es
+
+module _ (u : ℕ) where
+  only-append : (xs ys : List (List ℕ)) → only u (xs ++ ys) ≡ only u xs ++ only u ys
+  unfolding only
+  only-append [] ys = refl
+  only-append (x ∷ xs) ys =
+      ap (λ (es : List (List ℕ)). maybe (eqb (getD x 0 0) u) x ++ es) (only-append xs ys) ∙ sym (append-assoc (maybe (eqb (getD x 0 0) u) x) (only u xs) (only u ys))
+
+  only-own : (es : List (List ℕ)) → Valued u es → only u es ≡ es
+  unfolding only
+  only-own [] h = refl
+  only-own (e ∷ es) h = let t : eqb (getD e 0 0) u ≡ true = eq-eqb _ _ (h .0) in rw t (ap (λ (xs : List (List ℕ)). e ∷ xs) (only-own es (h .1)))
+
+  only-foreign : (v : ℕ) (es : List (List ℕ)) → (u ≡ v → ⊥) → Valued v es → only u es ≡ []
+  unfolding only
+  only-foreign v [] ne h = refl
+  only-foreign v (e ∷ es) ne h =
+      let t : eqb (getD e 0 0) u ≡ false = ne-eqb _ _ (λ q. ne (sym q ∙ h .0)) in
+      rw t (only-foreign v es ne (h .1))
+
+  only-gone : (es : List (List ℕ)) → only u (without u es) ≡ []
+  unfolding only without
+  only-gone [] = refl
+  only-gone (e ∷ es) = only-append (maybe (isOther u e) e) (without u es) ∙ (λ i. one-gone (eqb (getD e 0 0) u) refl i ++ only-gone es i)
+    where
+      one-gone : (b : Bool) → eqb (getD e 0 0) u ≡ b → only u (maybe (not b) e) ≡ []
+      one-gone true q = refl
+      one-gone false q = rw q
+
+  only-left : (v : ℕ) (es : List (List ℕ)) → (u ≡ v → ⊥) → only u (without v es) ≡ only u es
+  unfolding only without
+  only-left v [] ne = refl
+  only-left v (e ∷ es) ne = only-append (maybe (isOther v e) e) (without v es) ∙ (λ i. one-left (eqb (getD e 0 0) v) refl i ++ only-left v es ne i)
+    where
+      one-left : (b : Bool) → eqb (getD e 0 0) v ≡ b → only u (maybe (not b) e) ≡ maybe (eqb (getD e 0 0) u) e
+      one-left true q = let t : eqb (getD e 0 0) u ≡ false = ne-eqb _ _ (λ r. ne (sym r ∙ eqb-true _ _ q)) in rw t
+      one-left false q = append-nil (maybe (eqb (getD e 0 0) u) e)
+
+-- the entries of a read are of the configuration that was read
+valued-in : (value : ℕ) (ds : List (List ℕ)) (s : Setting) → Valued value (entriesIn value s ds)
+unfolding entriesIn entryOf
+valued-in value [] s = tt
+valued-in value (d ∷ ds) s =
+    all-append (λ (e : List ℕ). getD e 0 0 ≡ value) (maybe (givesEntry d s) (entryOf value s d)) (entriesIn value (settingAfter d s) ds) (by (givesEntry d s))
+    (valued-in value ds (settingAfter d s))
+  where
+    by : (b : Bool) → Valued value (maybe b (entryOf value s d))
+    by true = (refl, tt)
+    by false = tt
+
+valued-behind : (ds : List (List ℕ)) → Valued (firstOf 2 9 5 ds .number) (entriesBehind ds)
+unfolding entriesBehind firstOf
+valued-behind [] = tt
+valued-behind (d ∷ ds) = by (isOf 2 9 d)
+  where
+    by : (b : Bool) → Valued (cond b (record { taken = true; number = getD d 5 0 }) nothing .number) (cond b (entriesIn (getD d 5 0) unset ds) [])
+    by true = valued-in (getD d 5 0) ds unset
+    by false = tt
+
+pub entries-valued : (p : List ℕ) → Valued (valueOf p .number) (entriesOf p)
+unfolding entriesOf valueOf
+entries-valued p = valued-behind (whole p)
+
+module _ (p : List ℕ) (es : List (List ℕ)) (t : valueOf p .taken ≡ true) where
+  added-valued : Valued (valueOf p .number) (addedBy p es)
+  unfolding addedBy fitting
+  added-valued = take-all-of (λ (e : List ℕ). getD e 0 0 ≡ valueOf p .number) (585 - length (leftBy p es)) (entriesOf p) (entries-valued p)
+
+  left-is : leftBy p es ≡ without (valueOf p .number) es
+  unfolding leftBy
+  left-is = rw t
+
+  -- of the configuration that was read stand the entries of this read, and no others
+  pub read-own : only (valueOf p .number) (keptAfter p es) ≡ addedBy p es
+  read-own =
+      let v = valueOf p .number in
+      only-append v (leftBy p es) (addedBy p es)
+      ∙ (λ i. only v (left-is i) ++ only-own v (addedBy p es) added-valued i)
+      ∙ ap (λ (xs : List (List ℕ)). xs ++ addedBy p es) (only-gone v es)
+
+  -- and of every other what stood before
+  pub read-others : (u : ℕ) → (u ≡ valueOf p .number → ⊥) → only u (keptAfter p es) ≡ only u es
+  read-others u ne =
+      let v = valueOf p .number in
+      only-append u (leftBy p es) (addedBy p es)
+      ∙ (λ i. only u (left-is i) ++ only-foreign u v (addedBy p es) ne added-valued i)
+      ∙ append-nil (only u (without v es))
+      ∙ only-left u v es ne

@@ -8,7 +8,7 @@ use lib.ListN.{length, getD, take, drop}
 use lib.Seq.{sets}
 use Rattle.descriptors.specs.Whole.{isWhole, joined}
 use Rattle.descriptors.specs.Entries.{settingAfter, givesEntry, fitting}
-use Rattle.descriptors.specs.Store.{storedAt, without}
+use Rattle.descriptors.specs.Store.{storedAt, without, addedBy, keptAfter}
 use Rattle.descriptors.specs.declared.walk.Setting.{Setting}
 use Rattle.descriptors.specs.declared.walk.Step.{Step}
 
@@ -41,3 +41,9 @@ pub record Forgets (base kept value : ℕ) (store store₁ : List ℕ) (count : 
 pub record Roomy (on : Bool) (at : ℕ) (store d : List ℕ) : Type 0 where
   pub long : on ≡ true → 7 ≤ length d
   pub room : on ≡ true → at + 7 ≤ length store
+
+-- of a store that held `kept` entries from `base` on: those that the read leaves and adds stand there then, and how many they are
+pub record Reads (base kept : ℕ) (p store store₁ : List ℕ) (count added : ℕ) : Type 0 where
+  pub stored : store₁ ≡ sets store base (joined (keptAfter p (storedAt base kept store)))
+  pub counted : count ≡ length (keptAfter p (storedAt base kept store))
+  pub more : added ≡ length (addedBy p (storedAt base kept store))

@@ -2,13 +2,10 @@
 -- Assumes nothing.
 -- Hold it to: 02, 2: what a read of a configuration gives takes the place of what was read of it before; that entries lie in a store of bytes, 585 of 7 bytes, is ours
 use Prim.Native.Nat.{ℕ, zero, suc}
-use mathlib.Core.Path.{_≡_}
 use mathlib.Core.Bool.{Bool, cond, not}
 use mathlib.Core.List.{List, [], _∷_, _++_}
 use lib.Dec.{eqb}
 use lib.ListN.{length, getD, take, drop}
-use lib.Seq.{sets}
-use Rattle.descriptors.specs.Whole.{joined}
 use Rattle.descriptors.specs.Entries.{maybe, valueOf, fitting, entriesOf}
 
 -- the first n entries of a list of bytes
@@ -39,9 +36,3 @@ addedBy p es = fitting (length (leftBy p es)) (entriesOf p)
 
 abbrev pub keptAfter : List ℕ → List (List ℕ) → List (List ℕ)
 keptAfter p es = leftBy p es ++ addedBy p es
-
--- of a store that held `kept` entries from `base` on: those that the read leaves and adds stand there then, and how many they are
-pub record Reads (base kept : ℕ) (p store store₁ : List ℕ) (count added : ℕ) : Type 0 where
-  pub stored : store₁ ≡ sets store base (joined (keptAfter p (storedAt base kept store)))
-  pub counted : count ≡ length (keptAfter p (storedAt base kept store))
-  pub more : added ≡ length (addedBy p (storedAt base kept store))

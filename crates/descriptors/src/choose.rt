@@ -1,5 +1,4 @@
 // What SET_CONFIGURATION and SET_INTERFACE do (USB 2.0, 9.4.7 and 9.4.10): the entries that they mean set the details of their endpoints.
-use crate::request::Kind;
 use crate::store::count_if;
 use details::Device;
 ghost use mathlib.Core.Path.{_≡_};
@@ -7,10 +6,9 @@ ghost use Prim.Native.Nat.{_+_, _≤_};
 ghost use lib.ListN.{length, take, drop};
 ghost use Rattle.usb.specs.Fields.{setupOf};
 ghost use Rattle.descriptors.specs.Store.{storedAt};
-ghost use Rattle.descriptors.specs.Chosen.{nobodys, choiceOf, chosenAfter, isMeant, isChosen, setFrom, setIf, applied, countSet};
+ghost use Rattle.descriptors.specs.Chosen.{configurationChoice, interfaceChoice, isMeant, isChosen, setFrom, setIf, applied, countSet};
 
 // Which entries a request means: those of a configuration, of all interfaces or of one, at an alternate setting.
-// A number above 255 is no entry's.
 pub struct Choice {
     pub value: u16,
     pub all: bool,
@@ -21,52 +19,27 @@ pub struct Choice {
 // No configuration is chosen.
 pub const UNCHOSEN: u16 = 256;
 
-fn no_choice() -> Choice
-    ensures { λ r. ⌜ r ≡ nobodys ⌝ }
+// SET_CONFIGURATION: all interfaces of the configuration, at alternate setting 0.
+pub fn configuration_choice(setup: u64) -> Choice
+    ensures { λ r. ⌜ r ≡ configurationChoice (setupOf setup) ⌝ }
 {
     Choice {
-        value: UNCHOSEN,
+        value: usb::fields::value(setup),
         all: true,
         interface: 0,
         alternate: 0,
     }
 }
 
-// By a request, where this configuration is chosen.
-pub fn choice_of(kind: Kind, setup: u64, chosen: u16) -> Choice
-    ensures { λ r. ⌜ r ≡ choiceOf kind (setupOf setup) chosen ⌝ }
+// SET_INTERFACE: one interface of the configuration that is chosen, at an alternate setting.
+pub fn interface_choice(setup: u64, chosen: u16) -> Choice
+    ensures { λ r. ⌜ r ≡ interfaceChoice (setupOf setup) chosen ⌝ }
 {
-    let value = usb::fields::value(setup);
-    let index = usb::fields::index(setup);
-    match kind {
-        Kind::SetConfiguration => Choice {
-            value,
-            all: true,
-            interface: 0,
-            alternate: 0,
-        },
-        Kind::SetInterface => Choice {
-            value: chosen,
-            all: false,
-            interface: index,
-            alternate: value,
-        },
-        Kind::DeviceRead => no_choice(),
-        Kind::ConfigurationRead => no_choice(),
-        Kind::Other => no_choice(),
-    }
-}
-
-// The configuration that is chosen behind a request.
-pub fn chosen_after(kind: Kind, setup: u64, chosen: u16) -> u16
-    ensures { λ r. ⌜ r ≡ chosenAfter kind (setupOf setup) chosen ⌝ }
-{
-    match kind {
-        Kind::SetConfiguration => usb::fields::value(setup),
-        Kind::SetInterface => chosen,
-        Kind::DeviceRead => chosen,
-        Kind::ConfigurationRead => chosen,
-        Kind::Other => chosen,
+    Choice {
+        value: chosen,
+        all: false,
+        interface: usb::fields::index(setup),
+        alternate: usb::fields::value(setup),
     }
 }
 

@@ -1,12 +1,26 @@
 // The payload of a read, laid by packet after packet, since a packet is no longer at hand when the request completes.
+use crate::request::Kind;
 ghost use mathlib.Core.Path.{_≡_};
 ghost use Prim.Native.Nat.{_+_, _≤_};
 ghost use lib.ListN.{length};
 ghost use Rattle.usb.specs.Packet.{payloadOf};
-ghost use Rattle.descriptors.specs.Laid.{laid};
+ghost use Rattle.descriptors.specs.Laid.{isLaid, laid};
 
 // Bytes that a device keeps of a payload.
-const MOST: usize = 4096;
+pub const MOST: usize = 4096;
+
+// Whether the payload of a request is laid by: that of the two reads.
+pub fn is_laid(kind: Kind) -> bool
+    ensures { λ r. ⌜ r ≡ isLaid kind ⌝ }
+{
+    match kind {
+        Kind::DeviceRead => true,
+        Kind::ConfigurationRead => true,
+        Kind::SetConfiguration => false,
+        Kind::SetInterface => false,
+        Kind::Other => false,
+    }
+}
 
 // The payload of a data packet, behind the `count` bytes of the part of the shelf that begins at `start`, as far as the part goes.
 pub fn lay(shelf: &mut [u8], start: usize, count: usize, packet: &[u8])

@@ -12,8 +12,7 @@ ghost use Rattle.rows.specs.One.{one};
 ghost use Rattle.rows.specs.Sets.{opt};
 ghost use Rattle.descriptors.specs.Whole.{whole};
 ghost use Rattle.descriptors.specs.Entries.{entryOf, unset, entriesIn, entriesOf};
-ghost use Rattle.descriptors.specs.Store.{Reads};
-ghost use Rattle.descriptors.specs.Steps.{Roomy, Keeps, Forgets};
+ghost use Rattle.descriptors.specs.Steps.{Roomy, Keeps, Forgets, Reads};
 
 // What a read left: how many entries the device has, and how many of them the read added.
 pub struct Kept {
@@ -22,7 +21,7 @@ pub struct Kept {
 }
 
 // Entries that a device keeps, of 7 bytes each.
-const LIMIT: usize = 585;
+pub const LIMIT: usize = 585;
 
 // One more, where there is one.
 pub fn count_if(on: bool, n: usize) -> usize
