@@ -10,18 +10,18 @@ use lib.ListN.{length, getD}
 use lib.Seq.{sets}
 use Rattle.rows.specs.Widths.{eventWidth, linkWidth, requestWidth, place}
 use Rattle.details.specs.Search.{blank}
-use Rattle.endpoints.specs.Table.{entryAt}
+use Rattle.endpoints.specs.Table.{entryAt, firstAt}
 use Rattle.endpoints.specs.Word as word
 use Rattle.details.specs.declared.Device.{Device}
 use Rattle.rules.specs.Rows.{Row, log}
 use Rattle.rules.specs.World.{World, waitingOf}
 use Rattle.record.specs.Answers.{Tests, firstOf}
 use Rattle.record.specs.Formed.{wellFormed, Stored}
-use Rattle.record.specs.Room.{fitting, long}
+use Rattle.record.specs.Room.{long, roomy}
 use Rattle.record.specs.World.{worldOf}
 use Rattle.record.specs.declared.Counts.{Counts}
 use Rattle.record.specs.declared.Decoder.{Decoder}
-use Rattle.call.specs.State.{Logs, State, logAt, countAt, roomOf}
+use Rattle.call.specs.State.{Logs, State, logAt, countAt, heldAt, roomOf}
 
 -- ---- the tests of 01's table that are the same for each call
 
@@ -29,7 +29,7 @@ use Rattle.call.specs.State.{Logs, State, logAt, countAt, roomOf}
 unfoldable pub isIll : State → Bool
 isIll s = long (roomOf (s .logs)) || not (wellFormed (s .decoder) (s .devices) (s .table) (roomOf (s .logs)))
 
--- the counts behind which n and the rows of a journal stand
+-- the numbers of the next rows, once n and the rows of a journal are numbered
 unfoldable pub countsAfter : Counts → World → Counts
 countsAfter n w =
     record {
@@ -49,7 +49,7 @@ countsAfter n w =
 
 -- 7: "by the rules the call would end with more rows, bytes, devices or endpoints than there is room for"; by the rules it ends in the world w
 unfoldable pub isFull : State → World → Bool
-isFull s w = not (fitting (countsAfter (s .decoder .counts) w) (roomOf (s .logs)))
+isFull s w = not (roomy (s .table) (countsAfter (s .decoder .counts) w) (roomOf (s .logs)))
 
 -- 9: "an endpoint's byte total would pass 2^64 - 1", of one of the n endpoints
 abbrev pub anyOver : ℕ → World → Bool
@@ -61,7 +61,7 @@ isOver w = anyOver (w .count) w
 
 -- ---- what the rules leave: the world w, from the state s
 
--- each log has the rows of the call behind those that stood there, and its other words as they were
+-- each log has the rows of the call behind the n that it held, and its other words as they were
 abbrev pub Appends : World → Counts → Logs → Logs → Type 0
 Appends w n l l′ = (k : ℕ) → k < 12 → logAt k l′ ≡ sets (logAt k l) (place k (countAt k n)) (log k (w .journal))
 
@@ -85,18 +85,19 @@ pub record DevicesOf (w : World) (v v′ : List Device) : Type 0 where
   pub there : (i : ℕ) → i < w .deviceCount → getD v′ i blank ≡ w .devices i
   pub beyond : (i : ℕ) → w .deviceCount ≤ i → getD v′ i blank ≡ getD v i blank
 
--- an entry for each endpoint of the world, in words as `store` writes them; the other words as they were
+-- an entry for each endpoint of the world, in words as `store` writes them; the other words as they were, the first numbers among them
 pub record TableOf (w : World) (t t′ : List ℕ) : Type 0 where
   pub size : length t′ ≡ length t
   pub entries : (i : ℕ) → i < w .count → entryAt t′ i ≡ w .endpoints i
   pub words : (i : ℕ) → i < w .count → Stored t′ i
   pub beyond : (i : ℕ) → w .count * word.width ≤ i → getD t′ i 0 ≡ getD t i 0
+  pub firsts : (k : ℕ) → firstAt k t′ ≡ firstAt k t
 
 pub record Left (w : World) (finished : Bool) (s s′ : State) : Type 0 where
   pub decoder : s′ .decoder ≡ decoderOf (s .decoder .counts) finished w
   pub devices : DevicesOf w (s .devices) (s′ .devices)
   pub table : TableOf w (s .table) (s′ .table)
-  pub logs : Appends w (s .decoder .counts) (s .logs) (s′ .logs)
+  pub logs : Appends w (heldAt s) (s .logs) (s′ .logs)
 
 -- ---- the outcome
 

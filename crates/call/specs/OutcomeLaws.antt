@@ -14,7 +14,7 @@ use Rattle.rows.specs.Widths.{place}
 use Rattle.endpoints.specs.Phases.{inPhase, count, waiting}
 use Rattle.endpoints.specs.PhasesLaws.{count-ext, phase-entry}
 use Rattle.details.specs.Search.{blank}
-use Rattle.endpoints.specs.Table.{entryAt}
+use Rattle.endpoints.specs.Table.{entryAt, firstAt}
 use Rattle.endpoints.specs.Word as word
 use Rattle.details.specs.declared.Device.{Device}
 use Rattle.rules.specs.Rows.{log}
@@ -28,7 +28,7 @@ use Rattle.record.specs.Room.{long}
 use Rattle.record.specs.StoredLaws.{determined}
 use Rattle.record.specs.declared.Counts.{Counts}
 use Rattle.record.specs.declared.Decoder.{Decoder}
-use Rattle.call.specs.State.{Logs, State, logAt, countAt, roomOf}
+use Rattle.call.specs.State.{Logs, State, logAt, countAt, heldAt, roomOf}
 use Rattle.call.specs.StateLaws.{same-each, sizes-room}
 use Rattle.call.specs.Outcome.{isIll, Appends, DevicesOf, TableOf, Left, Answers, accepts}
 
@@ -67,7 +67,7 @@ same-left {w} {f} {s} {a} {b} p q =
       decoder = (p .decoder ∙ sym (q .decoder)) i;
       devices = same-devices (p .devices) (q .devices) i;
       table = same-table (p .table) (q .table) i;
-      logs = same-logs w (s .decoder .counts) (s .logs) (a .logs) (b .logs) (p .logs) (q .logs) i;
+      logs = same-logs w (heldAt s) (s .logs) (a .logs) (b .logs) (p .logs) (q .logs) i;
     }
 
 -- 01: "any two permitted outcomes coincide"
@@ -78,7 +78,15 @@ unique {q} {w} {f} {s} {a} {b} {s′} {s″} x y = (x .answer ∙ sym (y .answer
     pick true e = same-left (x .left e) (y .left e)
     pick false e = x .kept e ∙ sym (y .kept e)
 
--- and leave every log as long as it was
+-- accepted or refused, a call leaves the first numbers
+pub same-firsts : {q : Tests} {w : World} {f : Bool} {s : State} {a : ℕ} {s′ : State} → Answers q w f s a s′ → (k : ℕ) → firstAt k (s′ .table) ≡ firstAt k (s .table)
+same-firsts {q} {s = s} {s′ = s′} x k = by (accepts (firstOf q)) refl
+  where
+    by : (b : Bool) → accepts (firstOf q) ≡ b → firstAt k (s′ .table) ≡ firstAt k (s .table)
+    by true e = x .left e .table .firsts k
+    by false e = ap (λ (z : State). firstAt k (z .table)) (x .kept e)
+
+-- what the rules leave leaves every log as long as it was
 pub same-room : (w : World) (n : Counts) (l l′ : Logs) → Appends w n l l′ → roomOf l′ ≡ roomOf l
 same-room w n l l′ a = sizes-room l l′ (λ k h. ap length (a k h) ∙ length-sets (logAt k l) (place k (countAt k n)) (log k (w .journal)))
 

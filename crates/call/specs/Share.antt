@@ -10,6 +10,8 @@ use Rattle.endpoints.specs.Word as word
 use Rattle.details.specs.declared.Device.{Device}
 use Rattle.transaction.specs.declared.Transaction.{Transaction}
 use Rattle.rules.specs.declared.Stamp.{Stamp}
+use Rattle.endpoints.specs.Table.{firstAt}
+use Rattle.write.specs.declared.Firsts.{Firsts}
 use Rattle.write.specs.declared.Written.{Written}
 use Rattle.record.specs.Formed.{wellFormed}
 use Rattle.record.specs.Room.{long}
@@ -20,10 +22,14 @@ use Rattle.record.specs.declared.Decoder.{Decoder}
 abbrev pub firstTests : Decoder → List Device → List ℕ → Counts → ℕ → ℕ → ℕ → ℕ
 firstTests d v t room n most a = cond (long room || not (wellFormed d v t room)) 1 (cond (d .finished) 2 (cond (ltb most n) a 0))
 
--- where a call begins to write, and what it brings
-abbrev pub writtenOf : Stamp → Decoder → Written
-writtenOf stamp d =
-    record { stamp = stamp; groups = d .counts .groups; statebytes = d .counts .statebytes; states = d .counts .states; items = d .counts .items; links = d .counts .links; last = d .last; linked = d .transaction .linked; link = d .transaction .link }
+-- the first numbers of the logs whose rows other rows name
+abbrev pub firstsOf : List ℕ → Firsts
+firstsOf t = record { groups = firstAt 6 t; statebytes = firstAt 7 t; items = firstAt 9 t }
+
+-- where a call begins to write, and what it brings: n rows are held
+abbrev pub writtenOf : Stamp → Counts → Decoder → List ℕ → Written
+writtenOf stamp n d t =
+    record { stamp = stamp; firsts = firstsOf t; groups = n .groups; statebytes = n .statebytes; states = n .states; items = n .items; links = n .links; last = d .last; linked = d .transaction .linked; link = d .transaction .link }
 
 -- a transaction with the T row that it has by now
 abbrev pub tied : Transaction → Written → Transaction

@@ -5,6 +5,7 @@ use mathlib.Core.List.{List, [], _∷_}
 use lib.ListN.{length, getD}
 use Rattle.rows.specs.Widths.{endpointWidth, eventWidth, groupWidth, linkWidth, packetWidth, requestWidth, transactionWidth}
 use Rattle.details.specs.declared.Device.{Device}
+use Rattle.record.specs.Room.{heldOf}
 use Rattle.record.specs.declared.Counts.{Counts}
 use Rattle.record.specs.declared.Decoder.{Decoder}
 
@@ -63,6 +64,10 @@ pub record State : Type 0 where
 
 abbrev pub state : Decoder → List Device → List ℕ → Logs → State
 state d v t l = record { decoder = d; devices = v; table = t; logs = l }
+
+-- the rows that its logs hold (record, Room)
+abbrev pub heldAt : State → Counts
+heldAt s = heldOf (s .table) (s .decoder .counts)
 
 -- how many rows there is room for: words by a row's width (rows, Widths)
 unfoldable pub roomBy : ℕ → ℕ → ℕ → ℕ → ℕ → ℕ → ℕ → ℕ → ℕ → ℕ → ℕ → ℕ → Counts

@@ -5,17 +5,20 @@ use endpoints::entry::sized;
 use record::Counts;
 use record::Decoder;
 use record::formed::well_formed;
+use record::room::first;
 use record::room::too_long;
+use rows::number;
 use rows::width;
 use rules::Stamp;
 use transaction::Transaction;
+use write::Firsts;
 use write::Written;
 ghost use mathlib.Core.Path.{_≡_};
 ghost use mathlib.Core.Bool.{not, _||_};
 ghost use Rattle.rules.specs.World.{stamp};
 ghost use Rattle.record.specs.Formed.{wellFormed};
 ghost use Rattle.record.specs.Room.{long};
-ghost use Rattle.call.specs.Share.{Words, Bytes, Known, firstTests, writtenOf, tied};
+ghost use Rattle.call.specs.Share.{Words, Bytes, Known, firstTests, firstsOf, writtenOf, tied};
 ghost use Rattle.call.specs.State.{roomBy};
 
 // What a call gives back; the endpoint table and the logs are lent.
@@ -107,14 +110,26 @@ pub fn no_stamp() -> Stamp
     Stamp { packet: 0, time: 0 }
 }
 
-// Where a call begins to write, and what it brings.
-pub fn written_of(stamp: Stamp, d: Decoder) -> Written
-    ensures { λ r. ⌜ r ≡ writtenOf stamp d ⌝ }
+// The first numbers of the logs whose rows other rows name.
+fn firsts_of(table: &Table) -> Firsts
+    ensures { λ r. ⌜ r ≡ firstsOf (now (table .entry)) ⌝ }
 {
-    let n = d.counts;
+    Firsts {
+        groups: first(table, number::GROUPS) as u64,
+        statebytes: first(table, number::STATEBYTES) as u64,
+        items: first(table, number::ITEMS) as u64,
+    }
+}
+
+// Where a call begins to write, and what it brings: n rows are held.
+pub fn written_of(stamp: Stamp, n: Counts, d: Decoder, table: &Table) -> Written
+    ensures { λ r. ⌜ r ≡ writtenOf stamp n d (now (table .entry)) ⌝ }
+{
     let t = d.transaction;
+    let firsts = firsts_of(table);
     Written {
         stamp,
+        firsts,
         groups: n.groups,
         statebytes: n.statebytes,
         states: n.states,

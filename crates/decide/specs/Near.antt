@@ -44,11 +44,6 @@ pub record Seen (near : Near) (x0 : ℕ) (packet : List ℕ) (w : World) : Type 
   pub outward : near .outward ≡ detailsOf (w .devices (placeIn (near .found))) (tokenOf packet .number)
   pub old : near .old ≡ detailOf x0 w
 
--- of some devices, in the world of a record and its table
-pub record Taken (near : Near) (x0 : ℕ) (packet : List ℕ) (d : Decoder) (table : List ℕ) : Type 0 where
-  pub devices : List Device
-  pub seen : Seen near x0 packet (worldOf d devices table)
-
 -- so it is, whatever devices it was taken from
 abbrev pub ForSeen : Near → ℕ → List ℕ → Decoder → List ℕ → (World → Type 0) → Type 0
 ForSeen near x0 packet d table p = (devices : List Device) → Seen near x0 packet (worldOf d devices table) → p (worldOf d devices table)

@@ -14,11 +14,11 @@ use update::entry::entry_update;
 use update::entry::transaction_update;
 ghost use mathlib.Core.Path.{_≡_};
 ghost use mathlib.Core.Bool.{false};
-ghost use Prim.Native.Nat.{_<_, _^_};
-ghost use Rattle.update.specs.Entry.{itemAfter};
+ghost use Rattle.transaction.specs.Table.{pick};
+ghost use Rattle.update.specs.Entry.{itemAfter, wordsAfter};
 ghost use Rattle.plan.specs.Step.{endOf};
-ghost use Rattle.plan.specs.Packet.{resting, endIf, closeOf, entryEnded, lastEnded};
-ghost use Rattle.decide.specs.Ready.{Small};
+ghost use Rattle.plan.specs.Packet.{resting, endIf, lastEnded};
+ghost use Rattle.plan.specs.Words.{closeWords};
 
 // Of a transaction t on the endpoint x with the entry e; last is the last item's endpoint.
 pub fn end_of(
@@ -89,8 +89,7 @@ fn item_after(u: Update, x: usize, last: usize) -> usize
 
 // The entry of the old endpoint once the old transaction, with the token pid, has ended.
 pub fn entry_ended(ends: bool, end: End, pid: u8, e: Endpoint) -> Endpoint
-    requires { ⌜ Small (2 ^ 62) (end .entry) ⌝ }
-    ensures { λ r. ⌜ r ≡ entryEnded ends end pid e ⌝ }
+    ensures { λ r. ⌜ r ≡ pick ends (wordsAfter (end .update) pid (end .entry)) e ⌝ }
 {
     if ends {
         let update = end.update;
@@ -115,8 +114,7 @@ pub fn last_ended(ends: bool, end: End, x: usize, last: usize) -> usize
 
 // The end of the packet's own transaction, decided from what its step leaves.
 fn close_of(m: Middle, last: usize, success: bool, complete: bool) -> End
-    requires { ⌜ Small (2 ^ 62) (m .entry) ⌝ }
-    ensures { λ r. ⌜ r ≡ closeOf m last success complete ⌝ }
+    ensures { λ r. ⌜ r ≡ closeWords m last success complete ⌝ }
 {
     let begin = m.begin;
     let detail = m.detail;
@@ -133,8 +131,7 @@ fn close_of(m: Middle, last: usize, success: bool, complete: bool) -> End
 
 // The same where it ends; else nothing is done.
 pub fn close_if(closes: bool, m: Middle, last: usize, success: bool, complete: bool) -> End
-    requires { ⌜ Small (2 ^ 62) (m .entry) ⌝ }
-    ensures { λ r. ⌜ r ≡ endIf closes (closeOf m last success complete) (m .entry) ⌝ }
+    ensures { λ r. ⌜ r ≡ endIf closes (closeWords m last success complete) (m .entry) ⌝ }
 {
     if closes {
         close_of(m, last, success, complete)

@@ -16,7 +16,6 @@ use crate::end::last_ended;
 use crate::near::Near;
 use crate::near::look;
 use crate::slot::current_endpoint;
-use crate::slot::entry_then;
 use crate::slot::is_suspended;
 use crate::slot::old_endpoint;
 use crate::slot::slot_then;
@@ -44,18 +43,20 @@ use transaction::payload::extract_payload;
 use transaction::payload::start_pid;
 use transaction::transaction_status;
 use update::decide_resume;
+use update::entry::link_entry;
 use usb::fields::setup_of;
 ghost use mathlib.Core.Path.{_≡_};
 ghost use mathlib.Core.Bool.{true};
-ghost use Prim.Native.Nat.{_<_, _+_, _^_};
+ghost use Prim.Native.Nat.{_<_, _+_, _%_, _^_};
 ghost use Rattle.rows.specs.One.{one};
 ghost use Rattle.rules.specs.World.{withId};
 ghost use Rattle.update.specs.Update.{decideResume};
 ghost use Rattle.record.specs.World.{worldOf};
-ghost use Rattle.plan.specs.Packet.{resumes, oldEndpoint, going, planBy, planOf};
+ghost use Rattle.plan.specs.Packet.{resumes, oldEndpoint, entryThen, going, planBy, planOf};
 ghost use Rattle.plan.specs.Ending.{endingOf};
-ghost use Rattle.decide.specs.Ready.{Ready, Small};
-ghost use Rattle.decide.specs.Near.{Taken, ForSeen};
+ghost use Rattle.plan.specs.Words.{planWords};
+ghost use Rattle.decide.specs.Ready.{Ready};
+ghost use Rattle.decide.specs.Near.{ForSeen};
 
 // A suspended transaction is resumed, in a row of its own.
 fn resume_of(d: Decoder) -> Begin
@@ -67,21 +68,22 @@ fn resume_of(d: Decoder) -> Begin
     go_on(true, t, decide_resume())
 }
 
-// The row of a transaction that begins with the packet.
+// The row of a transaction that begins with the packet; whether that number fits is tested later.
 fn next_row(d: Decoder) -> u64
-    requires { ⌜ d .counts .transactions < 2 ^ 60 ⌝ }
-    ensures { λ r. ⌜ r ≡ d .counts .transactions + one (resumes (d .slot)) ⌝ }
+    ensures { λ r. ⌜ r ≡ (d .counts .transactions + one (resumes (d .slot))) % 2 ^ 64 ⌝ }
 {
     let counts = d.counts;
     let slot = d.slot;
-    counts.transactions as u64 + flag_word(is_suspended(slot))
+    let row = counts.transactions as u64;
+    std::num::wrapping_add_u64(row, flag_word(is_suspended(slot)))
 }
 
-// By the old transaction, resumed, its endpoint and that one's entry; j is the packet's status.
+// By the old transaction, resumed, its endpoint and the entry that is stored for that one; j is the packet's status. The numbers are words: whether they fit
+// is tested by the tally.
 fn plan_by(
     j: Judged,
     x0: usize,
-    e: Endpoint,
+    stored: Endpoint,
     t: Transaction,
     packet: &[u8],
     d: Decoder,
@@ -90,14 +92,15 @@ fn plan_by(
 ) -> Plan
     requires { ⌜ Ready d (now table) ⌝ }
     requires { ⌜ x0 < d .counts .endpoints ⌝ }
-    requires { ⌜ Small (2 ^ 61) e ⌝ }
-    requires { ⌜ Taken near x0 (now packet) d (now table) ⌝ }
-    ensures { λ r. ⌜ ForSeen near x0 (now (packet .entry)) d (now (table .entry)) (λ w. r ≡ planBy j x0 e t (now (packet .entry)) w) ⌝ }
+    requires { ⌜ stored .transactions < 2 ^ 64 ⌝ }
+    requires { ⌜ stored .groups < 2 ^ 64 ⌝ }
+    ensures { λ r. ⌜ ForSeen near x0 (now (packet .entry)) d (now (table .entry)) (λ w. r ≡ planWords (planBy j x0 (entryThen (d .slot) stored) t (now (packet .entry)) w)) ⌝ }
 {
     let status = j.status;
     let pid = j.pid;
     let slot = d.slot;
     let style = t.style;
+    let e = link_entry(is_suspended(slot), stored);
     let brought = extract_payload(t, pid, packet.len(), setup_of(packet));
     let token = brought.style;
     let old = near.old;
@@ -133,8 +136,7 @@ fn plan_by(
 // The steps of a packet, by what was taken of the devices for it.
 pub fn plan_near(d: Decoder, near: Near, table: &Table, packet: &[u8]) -> Plan
     requires { ⌜ Ready d (now table) ⌝ }
-    requires { ⌜ Taken near (oldEndpoint (d .slot) (d .transaction)) (now packet) d (now table) ⌝ }
-    ensures { λ r. ⌜ ForSeen near (oldEndpoint (d .slot) (d .transaction)) (now (packet .entry)) d (now (table .entry)) (λ w. r ≡ planOf (now (packet .entry)) w) ⌝ }
+    ensures { λ r. ⌜ ForSeen near (oldEndpoint (d .slot) (d .transaction)) (now (packet .entry)) d (now (table .entry)) (λ w. r ≡ planWords (planOf (now (packet .entry)) w)) ⌝ }
 {
     let counts = d.counts;
     let slot = d.slot;
@@ -143,8 +145,7 @@ pub fn plan_near(d: Decoder, near: Near, table: &Table, packet: &[u8]) -> Plan
     let stored = load(table, x0);
     let t = transaction_then(slot, counts.transactions as u64, stored, held);
     let j = transaction_status(state_at(slot_then(slot), t), packet);
-    let e = entry_then(slot, stored);
-    plan_by(j, x0, e, t, packet, d, near, table)
+    plan_by(j, x0, stored, t, packet, d, near, table)
 }
 
 // The end of the current transaction, by an event or by finish.

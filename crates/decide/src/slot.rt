@@ -5,10 +5,9 @@ use rules::Slot;
 use transaction::Style;
 use transaction::Transaction;
 ghost use mathlib.Core.Path.{_≡_};
-ghost use Prim.Native.Nat.{_<_, _^_};
 ghost use Rattle.rules.specs.World.{newTransaction, withId};
 ghost use Rattle.rules.specs.Transactions.{stateAt};
-ghost use Rattle.plan.specs.Packet.{resumes, slotThen, oldEndpoint, transactionThen, entryThen};
+ghost use Rattle.plan.specs.Packet.{resumes, slotThen, oldEndpoint, transactionThen};
 ghost use Rattle.plan.specs.Ending.{currentEndpoint};
 
 // Whether a suspended transaction is resumed.
@@ -76,20 +75,6 @@ pub fn transaction_then(slot: Slot, id: u64, e: Endpoint, t: Transaction) -> Tra
         t
     } else {
         t
-    }
-}
-
-// The entry of its endpoint, which then has one T row more.
-pub fn entry_then(slot: Slot, e: Endpoint) -> Endpoint
-    requires { ⌜ e .transactions < 2 ^ 60 ⌝ }
-    ensures { λ r. ⌜ r ≡ entryThen slot e ⌝ }
-{
-    if is_suspended(slot) {
-        let mut e = e;
-        e.transactions += 1;
-        e
-    } else {
-        e
     }
 }
 

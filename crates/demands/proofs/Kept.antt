@@ -8,7 +8,7 @@ use lib.ListN.{length, getD}
 use Rattle.transaction.specs.Table.{pick}
 use Rattle.transaction.specs.declared.Transaction.{Transaction}
 use Rattle.details.specs.Details as details
-use Rattle.endpoints.specs.Table.{wordAt, entryAt, newEndpoint}
+use Rattle.endpoints.specs.Table.{wordAt, entryAt, newEndpoint, firstAt}
 use Rattle.endpoints.specs.TableLaws.{entry-ext}
 use Rattle.endpoints.specs.Word as word
 use Rattle.details.specs.declared.Device.{Device}
@@ -20,7 +20,7 @@ use Rattle.rules.specs.Rows.{Row}
 use Rattle.rules.specs.World.{World}
 use Rattle.rules.proofs.Counted.{Counted, counts}
 use Rattle.rules.proofs.Demand.{Sound, Like, sound, sound-like, always}
-use Rattle.record.specs.FreshLaws.{fresh-beyond}
+use Rattle.record.specs.FreshLaws.{fresh-beyond, fresh-first}
 use Rattle.record.specs.declared.Counts.{Counts}
 use Rattle.record.specs.declared.Decoder.{Decoder}
 use Rattle.call.specs.Outcome.{countsAfter, decoderOf, accepts, worldAt}
@@ -46,6 +46,8 @@ pub record Kept (js : List Row) (s : State) : Type 0 where
   pub rules : Sound js (worldAt s)
   pub told : Told js s
   pub blank : Blank (s .decoder .counts .endpoints) (s .table)
+  -- no row has been given back
+  pub firsts : (k : ℕ) → firstAt k (s .table) ≡ 0
 
 -- no endpoint behind the last has a group
 unused : (s : State) → Blank (s .decoder .counts .endpoints) (s .table) → (e : ℕ) → s .decoder .counts .endpoints ≤ e → (entryAt (s .table) e .phase ≡ newEndpoint 0 0 .phase) × (entryAt (s .table) e .groups ≡ 0)
@@ -62,7 +64,11 @@ three = refl
 module _ {v : List Device} {t : List ℕ} {l : Logs} {s : State} (hv : length v ≡ 64) (ht : length t ≡ word.table) (m : Makes v t l 0 s) where
   blank-made : Blank (s .decoder .counts .endpoints) (s .table)
   unfolding madeState
-  blank-made = rw (m .accepted refl) (fresh-beyond t ht)
+  blank-made = rw (m .accepted refl) (fresh-beyond t)
+
+  firsts-made : (k : ℕ) → firstAt k (s .table) ≡ 0
+  unfolding madeState
+  firsts-made = rw (m .accepted refl) (fresh-first t)
 
   like-fresh : Like fresh (worldAt s)
   like-fresh =
@@ -77,7 +83,7 @@ module _ {v : List Device} {t : List ℕ} {l : Logs} {s : State} (hv : length v 
       }
 
   pub kept-made : Kept (fresh .journal) s
-  kept-made = record { rules = sound-like like-fresh (always begin); told = told-made m; blank = blank-made }
+  kept-made = record { rules = sound-like like-fresh (always begin); told = told-made m; blank = blank-made; firsts = firsts-made }
 
 -- ---- an accepted call keeps it
 
@@ -111,7 +117,7 @@ module _ {k : Call} {s s′ : State} (m : Moved k s s′) {js : List Row} (h : K
       }
 
   pub kept-then : Kept (after .journal ++ js) s′
-  kept-then = record { rules = sound-like like-after (sound js (worldAt s) k (h .rules)); told = told-then m js (h .told); blank = blank-then }
+  kept-then = record { rules = sound-like like-after (sound js (worldAt s) k (h .rules)); told = told-then m js (h .firsts) (h .told); blank = blank-then; firsts = λ k. m .left .table .firsts k ∙ h .firsts k }
 
 -- ---- so every sequence does
 

@@ -7,7 +7,7 @@ use Rattle.rules.specs.Demand.{Call, packet, event, detail, finishing, call}
 use Rattle.rules.specs.Endpoints.{deviceFor}
 use Rattle.record.specs.Answers.{Tests, firstOf, detailTests}
 use Rattle.record.specs.AnswersLaws.{Passed}
-use Rattle.record.specs.RoomLaws.{Within}
+use Rattle.record.specs.RoomLaws.{Roomy}
 use Rattle.call.specs.Outcome.{isIll, countsAfter, Left, Answers, accepts, worldAt}
 use Rattle.call.specs.OutcomeLaws.{sound}
 use Rattle.call.specs.State.{State, roomOf}
@@ -40,10 +40,10 @@ answers finishing s a s′ d = d
 
 -- ---- there is room for what an accepted call leaves
 
-roomy : (k : Call) (s : State) → Passed (testsFor k s) → Within (countsAfter (s .decoder .counts) (call k (worldAt s))) (roomOf (s .logs))
+roomy : (k : Call) (s : State) → Passed (testsFor k s) → Roomy (s .table) (countsAfter (s .decoder .counts) (call k (worldAt s))) (roomOf (s .logs))
 roomy (packet p time) s q = room-left s _ (q .full)
 roomy (event kind code time) s q = room-left s _ (q .full)
-roomy (detail a n r k m) s q = detail-room a n r k m s (sound s (q .ill) .0 .counts)
+roomy (detail a n r k m) s q = detail-room a n r k m s (sound s (q .ill) .0)
 roomy finishing s q = room-left s _ (q .full)
 
 -- ---- the step
@@ -51,7 +51,7 @@ roomy finishing s q = room-left s _ (q .full)
 -- an accepted call, from s to s′
 pub record Moved (k : Call) (s s′ : State) : Type 0 where
   pub left : Left (call k (worldAt s)) (finishes k s) s s′
-  pub room : Within (countsAfter (s .decoder .counts) (call k (worldAt s))) (roomOf (s .logs))
+  pub room : Roomy (s .table) (countsAfter (s .decoder .counts) (call k (worldAt s))) (roomOf (s .logs))
 
 module _ (k : Call) (s : State) (a : ℕ) (s′ : State) (d : Does k s a s′) where
   told : firstOf (testsFor k s) ≡ a

@@ -13,8 +13,9 @@ use Rattle.rules.specs.Decoder.{fresh}
 use Rattle.rules.specs.Demand.{Call, call}
 use Rattle.rules.specs.Rows.{Row, log}
 use Rattle.rules.proofs.Counted.{Counted, counts, log-words, log-behind, log-rows}
+use Rattle.endpoints.specs.Table.{firstAt}
 use Rattle.record.specs.Fresh.{countsOf}
-use Rattle.record.specs.RoomLaws.{Within, within}
+use Rattle.record.specs.RoomLaws.{Within, within, all-held}
 use Rattle.record.specs.declared.Counts.{Counts}
 use Rattle.record.specs.declared.Decoder.{Decoder}
 use Rattle.call.specs.Outcome.{countsAfter, decoderOf, worldAt}
@@ -77,12 +78,16 @@ module _ {k : Call} {s s′ : State} (m : Moved k s s′) where
   unfolding decoderOf
   counts-left = ap (λ (d : Decoder). d .counts) (m .left .decoder)
 
-  pub told-then : (js : List Row) → Told js s → Told (call k (worldAt s) .journal ++ js) s′
-  told-then js t i h =
+  -- where every log begins at 0, a row's number is its place
+  pub told-then : (js : List Row) → ((i : ℕ) → firstAt i (s .table) ≡ 0) → Told js s → Told (call k (worldAt s) .journal ++ js) s′
+  told-then js z t i h =
       let j = call k (worldAt s) .journal in
+      let e = all-held (s .table) (s .decoder .counts) z in
+      let l = subst (λ (n : Counts). logAt i (s′ .logs) ≡ sets (logAt i (s .logs)) (place i (countAt i n)) (log i j)) e (m .left .logs i h) in
+      let w = subst (λ (n : Counts). Within n (roomOf (s .logs))) (all-held (s .table) (countsAfter (s .decoder .counts) (call k (worldAt s))) z) (m .room .held) in
       let f : Filled (s .decoder .counts) (s′ .decoder .counts) j = subst (λ (n : Counts). Filled (s .decoder .counts) n j) (sym counts-left) (filled k s) in
-      let r : Within (s′ .decoder .counts) (roomOf (s .logs)) = rw counts-left (m .room) in
-      behind i j js (logAt i (s .logs)) (logAt i (s′ .logs)) (place i (countAt i (s .decoder .counts))) (place i (countAt i (s′ .decoder .counts))) (t i h) (m .left .logs i h) (f i h)
+      let r : Within (s′ .decoder .counts) (roomOf (s .logs)) = rw counts-left w in
+      behind i j js (logAt i (s .logs)) (logAt i (s′ .logs)) (place i (countAt i (s .decoder .counts))) (place i (countAt i (s′ .decoder .counts))) (t i h) l (f i h)
       (within-logs (s′ .decoder .counts) (s .logs) r i h)
 
 -- ---- of a fresh decoder

@@ -42,7 +42,7 @@ adds k s a = pick (accepts a) (call k (worldAt s) .journal) []
 
 -- a sequence of calls has the history js, the newest row first, and leaves the state s
 pub data Sequence : List Row → State → Type 0 where
-  -- a fresh decoder answered 0, on any 64 devices, any table of 2,176 words and any logs; its history is its own four rows
+  -- a fresh decoder answered 0, on any 64 devices, any table of 2,704 words and any logs; its history is its own four rows
   made : {v : List Device} {t : List ℕ} {l : Logs} {s : State} → length v ≡ 64 → length t ≡ word.table → Makes v t l 0 s → Sequence (fresh .journal) s
   -- and any call, with any arguments and any answer, on what the one before left
   then : {js : List Row} {s : State} (k : Call) (a : ℕ) (s′ : State) → Sequence js s → Does k s a s′ → Sequence (adds k s a ++ js) s′

@@ -106,6 +106,10 @@ entryOf w =
 unfoldable pub entryAt : List ℕ → ℕ → Endpoint
 entryAt t i = entryOf (wordAt t i)
 
+-- 02, request 12: "each log has a first number"; that of log k. Device, endpoint and request rows are never given back: theirs is 0, and is not read
+unfoldable pub firstAt : ℕ → List ℕ → ℕ
+firstAt k t = getD t (word.firsts + k) 0
+
 -- an entry with another phase
 abbrev pub withPhase : Phase → Endpoint → Endpoint
 withPhase p e = makeEndpoint (e .device) (e .address) p (e .state) (e .transactions) (e .groups) (e .total) (e .first) (e .done) (e .last) (e .success)

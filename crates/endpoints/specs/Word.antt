@@ -83,6 +83,10 @@ Ongoing = 2
 abbrev pub Ending : ℕ
 Ending = 3
 
--- the whole table: 128 rows (01, "Sizes")
+-- behind the 128 rows (01, "Sizes"): the first number of each log (02, request 12)
+abbrev pub firsts : ℕ
+firsts = 2176
+
+-- the whole table: the rows, 16 first numbers and, for those of its T, G, D and E rows, four words for each endpoint
 abbrev pub table : ℕ
-table = 2176
+table = 2704

@@ -36,8 +36,11 @@ pub const PENDINGLINK: usize = 16;
 // How many words a row has.
 pub const WIDTH: usize = 17;
 
-// The whole table: 128 rows.
-pub const TABLE: usize = 2176;
+// Behind the 128 rows: the first number of each log, log k's at FIRSTS + k.
+pub const FIRSTS: usize = 2176;
+
+// The whole table: the rows, 16 first numbers and, for those of its T, G, D and E rows, four words for each endpoint.
+pub const TABLE: usize = 2704;
 
 // The phase word: any other number is read as NONE.
 pub const NONE: u64 = 0;

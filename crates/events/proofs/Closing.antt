@@ -4,6 +4,7 @@ use native.Mathlib.Omega.{arith}
 use mathlib.Core.Bool.{Bool, true, false}
 use mathlib.Core.List.{List}
 use mathlib.Core.Path.{_≡_, sym, ap, _∙_, subst}
+use Rattle.rows.specs.One.{one}
 use Rattle.endpoints.specs.Each.{ended}
 use Rattle.endpoints.specs.Table.{entryAt, storeAt}
 use Rattle.endpoints.specs.TableLaws.{load-store-same}
@@ -11,6 +12,7 @@ use Rattle.endpoints.specs.declared.Endpoint.{Endpoint}
 use Rattle.update.specs.Update.{when}
 use Rattle.write.specs.Memory.{Memory, Room, memory}
 use Rattle.write_update.specs.Carried.{carried}
+use Rattle.plan.specs.Sound.{linked, started}
 use Rattle.plan.specs.declared.Ending.{Ending}
 use Rattle.write_event.specs.Rows.{allEnded}
 use Rattle.events.specs.Ended.{closedOn, endedMemory, allSettled, settledMemory, Endable}
@@ -34,15 +36,17 @@ module _ (e : Ending) (n id pid : ℕ) (m : Memory) (a : Endable e n id pid m) (
     entry-is : entryAt t (e .old) ≡ e .end .entry
     entry-is = ap (λ (l : List ℕ). entryAt l (e .old)) s ∙ load-store-same (m .table) (e .old) (e .end .entry) (a .sized) store-asks (a .bytes)
 
-    pub carry-asks : (n ≤ 128) × ((e .old < n) × ((entryAt t (e .old) .transactions + 1 < 2 ^ 64) × ((entryAt t (e .old) .groups + 1 < 2 ^ 64) × Room (carried (e .end .update) n (e .old) id pid (onTable t m)))))
+    pub carry-asks : (n ≤ 128) × ((e .old < n) × ((entryAt t (e .old) .transactions + one (e .end .update .link) < 2 ^ 64) × ((entryAt t (e .old) .groups + one (e .end .update .start) < 2 ^ 64) × Room (carried (e .end .update) n (e .old) id pid (onTable t m)))))
     carry-asks = (
       a .few,
       (
         a .there,
         (
-          subst (λ (x : Endpoint). x .transactions + 1 < 2 ^ 64) (sym entry-is) (a .transactions),
+          subst (λ (x : Endpoint). x .transactions + one (e .end .update .link) < 2 ^ 64) (sym entry-is)
+              (subst (λ (b : Bool). e .end .entry .transactions + linked b (e .end .update) < 2 ^ 64) on (a .transactions)),
           (
-            subst (λ (x : Endpoint). x .groups + 1 < 2 ^ 64) (sym entry-is) (a .groups),
+            subst (λ (x : Endpoint). x .groups + one (e .end .update .start) < 2 ^ 64) (sym entry-is)
+                (subst (λ (b : Bool). e .end .entry .groups + started b (e .end .update) < 2 ^ 64) on (a .groups)),
             subst (λ (l : List ℕ). Room (carried (e .end .update) n (e .old) id pid (onTable l m))) (sym s) (subst Room ends (a .room)),
           ),
         ),

@@ -1,5 +1,5 @@
 -- Finish, over plain values: its answer, what carrying it out asks, and that what it leaves is what the rules leave.
-use Prim.Native.Nat.{ℕ, _<_}
+use Prim.Native.Nat.{ℕ, _+_, _^_, _<_}
 use mathlib.Core.Bool.{Bool, true, false, not, cond}
 use mathlib.Core.List.{[]}
 use mathlib.Core.Path.{_≡_, refl, sym, ap, _∙_, subst}
@@ -15,20 +15,24 @@ use Rattle.write.specs.HoldsLaws.{holds-room}
 use Rattle.write.specs.Memory.{Memory}
 use Rattle.write.specs.declared.Written.{Written}
 use Rattle.record.specs.Answers.{firstOf, finishTests}
-use Rattle.record.specs.RoomLaws.{within}
+use Rattle.record.specs.Bools.{both}
+use Rattle.record.specs.Room.{fitting, numbered}
+use Rattle.transaction.specs.Table.{pick}
+use Rattle.record.specs.RoomLaws.{within, numbered-is}
 use Rattle.record.specs.declared.Counts.{Counts}
 use Rattle.record.specs.declared.Decoder.{Decoder}
 use Rattle.call.specs.Outcome.{Left, isIll, isFull, isOver, worldAt}
 use Rattle.call.specs.OutcomeLaws.{refused, accepted}
-use Rattle.call.specs.State.{State, state, logs, roomOf}
+use Rattle.call.specs.State.{State, state, logs, roomOf, heldAt}
 use Rattle.call.specs.Share.{Known, writtenOf}
 use Rattle.plan.specs.Ending.{slotEnded, endingOf, endPlayed}
 use Rattle.plan.specs.Step.{ended}
 use Rattle.plan.specs.declared.Ending.{Ending}
 use Rattle.plan.proofs.Ends.{finish-is}
-use Rattle.tally.specs.Tallies.{tallyEnding}
+use Rattle.tally.specs.Tallies.{tallyEnding, addCounts}
 use Rattle.tally.proofs.Counts.{counts-after, world-has}
 use Rattle.tally.proofs.Formed.{finish-full-is}
+use Rattle.tally.proofs.Least.{ending-links}
 use Rattle.tally.proofs.Quiet.{ending-totals}
 use Rattle.tally.proofs.Unpassed.{ending-over}
 use Rattle.events.specs.After.{sumOf, finishedDecoder}
@@ -36,8 +40,8 @@ use Rattle.events.specs.Call.{finishTestsOf, FinishCall}
 use Rattle.events.specs.Ended.{endedMemory, Endable}
 use Rattle.events.specs.declared.sum.Sum.{Sum}
 use Rattle.events.proofs.Ends.{reached-slot}
-use Rattle.events.proofs.Reached.{firstMemory, memoryAt, space, left-of}
-use Rattle.events.proofs.Sane.{totalled, formed, end-adds, reached-end, endable}
+use Rattle.events.proofs.Reached.{worded, firstMemory, memoryAt, space, left-of}
+use Rattle.events.proofs.Sane.{endRows, totalled, formed, end-adds, reached-end, endable}
 
 module _ (s : State) where
   -- the end of its transaction, and what that comes to
@@ -45,7 +49,7 @@ module _ (s : State) where
   endAt = endingOf (worldAt s)
 
   abbrev pub sumAt : Sum
-  sumAt = sumOf (s .decoder .counts) (tallyEnding endAt (s .decoder .counts .endpoints) (s .decoder .waiting)) (roomOf (s .logs))
+  sumAt = sumOf (heldAt s) (s .decoder .counts) (tallyEnding endAt (s .decoder .counts .endpoints) (s .decoder .waiting)) (roomOf (s .logs))
 
   abbrev pub endedAt : Memory
   endedAt = endedMemory endAt (s .decoder .counts .endpoints) (s .decoder .transaction .id) (startPid (s .decoder .transaction .style)) (memoryAt (stamp 0 0) s)
@@ -70,11 +74,22 @@ module _ (s : State) (sane : isIll s ≡ false) (known : Known (s .table)) where
   finish-full going e = refused 7 (answer-is going false e) refl
 
   module _ (byte : startPid (s .decoder .transaction .style) < 256) (going : s .decoder .finished ≡ false) (fits : sumAt s .fits ≡ true) where
+    -- there are numbers for its T rows and G rows
+    numbers : s .decoder .counts .links + endRows s < 2 ^ 64
+    unfolding sumOf addCounts
+    numbers =
+        let t = tallyEnding (endAt s) (s .decoder .counts .endpoints) (s .decoder .waiting) in
+        let l = ending-links (endAt s) (s .decoder .counts .endpoints) (s .decoder .waiting) in
+        omega (arith, l, numbered-is (addCounts (s .decoder .counts) t) (both (fitting (addCounts (heldAt s) t) (roomOf (s .logs))) (numbered (addCounts (s .decoder .counts) t)) fits .1) .links)
+
     pub finish-endable : Endable (endAt s) (s .decoder .counts .endpoints) (s .decoder .transaction .id) (startPid (s .decoder .transaction .style)) (memoryAt (stamp 0 0) s)
     unfolding sumOf endPlayed
     finish-endable =
-        endable s sane (stamp 0 0) known byte
-        (holds-room (reached-end s sane (stamp 0 0) known byte .holds) (space (stamp 0 0) s (tallyEnding (endAt s) (s .decoder .counts .endpoints) (s .decoder .waiting)) (endPlayed (endAt s) (worldAt s)) (end-adds s sane (stamp 0 0)) (within _ _ fits)))
+        endable s sane (stamp 0 0) known byte numbers
+        (let t = tallyEnding (endAt s) (s .decoder .counts .endpoints) (s .decoder .waiting) in
+        let g = both (fitting (addCounts (heldAt s) t) (roomOf (s .logs))) (numbered (addCounts (s .decoder .counts) t)) fits in
+        holds-room (reached-end s sane (stamp 0 0) known byte numbers .holds) (space (stamp 0 0) s t (endPlayed (endAt s) (worldAt s)) (end-adds s sane (stamp 0 0)) (within _ _ (g .0)))
+        (let z = worded s t (endPlayed (endAt s) (worldAt s)) (end-adds s sane (stamp 0 0)) (numbered-is _ (g .1)) in record { groups = z .groups; statebytes = z .statebytes; items = z .items }))
 
     -- the state that it leaves
     abbrev pub finishedState : State
@@ -86,11 +101,11 @@ module _ (s : State) (sane : isIll s ≡ false) (known : Known (s .table)) where
     unfolding sumOf endPlayed
     played-left =
         let v = when (endAt s .ends) (ended (endAt s .old) (endAt s .end)) (worldAt s) in
-        let r = reached-slot (stamp 0 0) s (s .decoder .keepalive) v (endedAt s) (reached-end s sane (stamp 0 0) known byte) (slotEnded (s .decoder .slot)) in
+        let r = reached-slot (stamp 0 0) s (s .decoder .keepalive) v (endedAt s) (reached-end s sane (stamp 0 0) known byte numbers) (slotEnded (s .decoder .slot)) in
         let a = end-adds s sane (stamp 0 0) in
         let none : (k : ℕ) → k < 6 → log k (v .journal) ≡ [] = λ k u. r .logs k (λ j g h. ne-eqb j k (λ e. omega arith)) in
-        left-of (stamp 0 0) s (withSlot (slotEnded (s .decoder .slot)) v) (endedAt s) (r .holds) (r .table) (known .size) (r .devices) (r .transaction) true _ _ _ _ _
-        (counts-after (world-has (s .decoder) (s .devices) (s .table)) a) refl (r .event) (r .keepalive) (a .waiting) (s .logs .packets) (s .logs .events) (s .logs .transactions)
+        left-of (stamp 0 0) s (withSlot (slotEnded (s .decoder .slot)) v) (endedAt s) (r .holds) (r .table) (formed s sane .counts .fewEndpoints) (known .size) (r .devices) (r .transaction) true _ _ _ _ _
+        (counts-after (world-has (s .decoder) (s .devices) (s .table)) a ∙ ap (λ (b : Bool). pick b (addCounts (s .decoder .counts) (tallyEnding (endAt s) (s .decoder .counts .endpoints) (s .decoder .waiting))) (s .decoder .counts)) (sym fits)) refl (r .event) (r .keepalive) (a .waiting) (s .logs .packets) (s .logs .events) (s .logs .transactions)
         (record {
           bytes = none 0 (omega arith);
           devices = none 1 (omega arith);
@@ -107,12 +122,13 @@ module _ (s : State) (sane : isIll s ≡ false) (known : Known (s .table)) where
 -- ---- as the code has its parts
 
 pub sum-at : (s : State) (e : Ending) (room : Counts) (r : Sum) → e ≡ endAt s → room ≡ roomOf (s .logs)
-    → r ≡ sumOf (s .decoder .counts) (tallyEnding e (s .decoder .counts .endpoints) (s .decoder .waiting)) room → r ≡ sumAt s
-sum-at s e room r p q h =
-    h ∙ ap (λ (x : Ending). sumOf (s .decoder .counts) (tallyEnding x (s .decoder .counts .endpoints) (s .decoder .waiting)) room) p
-    ∙ ap (sumOf (s .decoder .counts) (tallyEnding (endAt s) (s .decoder .counts .endpoints) (s .decoder .waiting))) q
+    → {held : Counts} → held ≡ heldAt s → r ≡ sumOf held (s .decoder .counts) (tallyEnding e (s .decoder .counts .endpoints) (s .decoder .waiting)) room → r ≡ sumAt s
+sum-at s e room r p q {held} g h =
+    h ∙ ap (λ (x : Counts). sumOf x (s .decoder .counts) (tallyEnding e (s .decoder .counts .endpoints) (s .decoder .waiting)) room) g
+    ∙ ap (λ (x : Ending). sumOf (heldAt s) (s .decoder .counts) (tallyEnding x (s .decoder .counts .endpoints) (s .decoder .waiting)) room) p
+    ∙ ap (sumOf (heldAt s) (s .decoder .counts) (tallyEnding (endAt s) (s .decoder .counts .endpoints) (s .decoder .waiting))) q
 
-pub end-asks : (s : State) (e : Ending) (pid : ℕ) (h : Written) → e ≡ endAt s → pid ≡ startPid (s .decoder .transaction .style) → h ≡ writtenOf (stamp 0 0) (s .decoder)
+pub end-asks : (s : State) (e : Ending) (pid : ℕ) (h : Written) → e ≡ endAt s → pid ≡ startPid (s .decoder .transaction .style) → h ≡ writtenOf (stamp 0 0) (heldAt s) (s .decoder) (s .table)
     → Endable (endAt s) (s .decoder .counts .endpoints) (s .decoder .transaction .id) (startPid (s .decoder .transaction .style)) (memoryAt (stamp 0 0) s)
     → Endable e (s .decoder .counts .endpoints) (s .decoder .transaction .id) pid (firstMemory s h)
 end-asks s e pid h p q r a =
@@ -120,7 +136,7 @@ end-asks s e pid h p q r a =
     (subst (λ (x : ℕ). Endable (endAt s) (s .decoder .counts .endpoints) (s .decoder .transaction .id) x (firstMemory s h)) (sym q)
     (subst (λ (x : Written). Endable (endAt s) (s .decoder .counts .endpoints) (s .decoder .transaction .id) (startPid (s .decoder .transaction .style)) (firstMemory s x)) (sym r) a))
 
-pub ended-at : (s : State) (e : Ending) (pid : ℕ) (h : Written) (m : Memory) → e ≡ endAt s → pid ≡ startPid (s .decoder .transaction .style) → h ≡ writtenOf (stamp 0 0) (s .decoder)
+pub ended-at : (s : State) (e : Ending) (pid : ℕ) (h : Written) (m : Memory) → e ≡ endAt s → pid ≡ startPid (s .decoder .transaction .style) → h ≡ writtenOf (stamp 0 0) (heldAt s) (s .decoder) (s .table)
     → m ≡ endedMemory e (s .decoder .counts .endpoints) (s .decoder .transaction .id) pid (firstMemory s h) → m ≡ endedAt s
 ended-at s e pid h m p q r a =
     a ∙ ap (λ (x : Ending). endedMemory x (s .decoder .counts .endpoints) (s .decoder .transaction .id) pid (firstMemory s h)) p

@@ -1,5 +1,5 @@
 -- An event, over plain values: its answer, what carrying it out asks, and that what it leaves is what the rules leave.
-use Prim.Native.Nat.{ℕ, _+_, _*_, _<_, _≤_}
+use Prim.Native.Nat.{ℕ, _+_, _*_, _^_, _<_, _≤_}
 use native.Mathlib.Omega.{arith}
 use mathlib.Core.Bool.{Bool, true, false, not, cond}
 use mathlib.Core.List.{[], _∷_}
@@ -8,6 +8,7 @@ use borrow.Author.Tests.{eqb-true, le-ltb}
 use lib.Dec.{eqb, ltb}
 use lib.ListN.{length}
 use lib.Seq.{sets}
+use Rattle.rows.specs.One.{one}
 use Rattle.rows.specs.Widths.{eventWidth, packetWidth, transactionWidth}
 use Rattle.rows.specs.Sets.{opt}
 use Rattle.transaction.specs.Payload.{startPid}
@@ -21,13 +22,15 @@ use Rattle.rules.specs.declared.Stamp.{Stamp}
 use Rattle.tally.specs.Tally.{inLog, Adds}
 use Rattle.tally.specs.declared.add.Tally.{Tally}
 use Rattle.write.specs.Memory.{Memory}
-use Rattle.event.specs.Event.{addsRow}
+use Rattle.event.specs.Event.{addsRow, addsGroup}
 use Rattle.write_event.specs.TabledLaws.{event-rows-tabled}
 use Rattle.record.specs.Answers.{firstOf}
-use Rattle.record.specs.RoomLaws.{Within, within}
+use Rattle.record.specs.Bools.{both}
+use Rattle.record.specs.Room.{fitting, numbered}
+use Rattle.record.specs.RoomLaws.{Within, within, numbered-is}
 use Rattle.call.specs.Outcome.{Left, isIll, isFull, isOver, worldAt}
 use Rattle.call.specs.OutcomeLaws.{refused, accepted}
-use Rattle.call.specs.State.{State, state, logs, roomBy, roomOf}
+use Rattle.call.specs.State.{State, state, logs, roomBy, roomOf, heldAt}
 use Rattle.call.specs.Share.{Known}
 use Rattle.plan.specs.Ending.{endingOf, endPlayed}
 use Rattle.plan.specs.declared.Ending.{Ending}
@@ -40,15 +43,16 @@ use Rattle.tally.proofs.Anew.{ending-acts, actives-table}
 use Rattle.tally.proofs.Counts.{counts-after, state-full, world-has}
 use Rattle.tally.proofs.Events.{keepalive-adds, event-played-adds}
 use Rattle.tally.proofs.Formed.{waiting-is}
+use Rattle.tally.proofs.Least.{keepalive-links, event-links}
 use Rattle.tally.proofs.Quiet.{ending-totals}
 use Rattle.tally.proofs.Unpassed.{keepalive-over, event-over}
 use Rattle.events.specs.After.{resetsBy, keepaliveThen, sumOf, eventTally, eventDecoder}
 use Rattle.events.specs.Call.{eventTestsOf, EventCall}
 use Rattle.events.specs.Ended.{SettlesIf}
 use Rattle.events.specs.declared.sum.Sum.{Sum}
-use Rattle.events.proofs.Before.{beforeOf, memoryThen, rests, slot-is, few, some, reached-before, grows, settles-if}
-use Rattle.events.proofs.Reached.{memoryAt, worldWith, Reached, space, left-of}
-use Rattle.events.proofs.Sane.{totalled, formed, suits, ending-with}
+use Rattle.events.proofs.Before.{beforeOf, memoryThen, none-then, same-then, rests, slot-is, few, some, reached-before, grows, settles-if}
+use Rattle.events.proofs.Reached.{worded, memoryAt, worldWith, Reached, space, left-of}
+use Rattle.events.proofs.Sane.{endRows, totalled, formed, suits, ending-with}
 use Rattle.events.proofs.Tail.{rowsMemory, AbleAt, Tailed, rowed, room-before, tailed}
 
 -- ---- the world after it
@@ -74,7 +78,20 @@ abbrev pub tallyAt : Bool → ℕ → State → Tally
 tallyAt r kind s = eventTally r (s .decoder) (endingOf (worldAt s)) (rules.turnOf (s .decoder .event) kind .act) (active (s .table) (s .decoder .counts .endpoints))
 
 abbrev pub eventSum : ℕ → State → Sum
-eventSum kind s = sumOf (s .decoder .counts) (tallyAt (resetsBy kind) kind s) (roomOf (s .logs))
+eventSum kind s = sumOf (heldAt s) (s .decoder .counts) (tallyAt (resetsBy kind) kind s) (roomOf (s .logs))
+
+-- it counts the T rows and the G rows
+least : (r : Bool) (a : rules.Act) (s : State)
+    → pick r (endRows s) 0 + one (addsRow a) + one (addsGroup a (keepaliveThen r (s .decoder .keepalive))) ≤ eventTally r (s .decoder) (endingOf (worldAt s)) a (active (s .table) (s .decoder .counts .endpoints)) .links
+unfolding eventTally
+least true a s =
+    let l = event-links (endingOf (worldAt s)) a (s .decoder .counts .endpoints) (s .decoder .waiting) (active (s .table) (s .decoder .counts .endpoints)) in
+    let g : one (addsGroup a false) ≡ one (addsGroup a (keepaliveThen true (s .decoder .keepalive))) = ap (λ (b : Bool). one (addsGroup a b)) (none-then (s .decoder .keepalive)) in
+    omega (arith, l, g)
+least false a s =
+    let l = keepalive-links a (s .decoder .keepalive) (s .decoder .counts .endpoints) (s .decoder .waiting) in
+    let g : one (addsGroup a (s .decoder .keepalive)) ≡ one (addsGroup a (keepaliveThen false (s .decoder .keepalive))) = ap (λ (b : Bool). one (addsGroup a b)) (same-then (s .decoder .keepalive)) in
+    omega (arith, l, g)
 
 module _ (s : State) (sane : isIll s ≡ false) (code time : ℕ) where
   keepalive-is : Adds (tallyAt false 0 s) (worldAt s) (playedOf false 0 code time s)
@@ -112,7 +129,7 @@ module _ (s : State) (sane : isIll s ≡ false) (code time : ℕ) where
 module _ (s : State) (sane : isIll s ≡ false) (known : Known (s .table)) (going : s .decoder .finished ≡ false) (kind code time : ℕ) (low : kind ≤ 7) where
   full-is : isFull s (handleEvent kind code time (worldAt s)) ≡ not (eventSum kind s .fits)
   unfolding sumOf
-  full-is = ap (isFull s) (handle-is kind code time s) ∙ state-full s (event-adds s sane code time kind)
+  full-is = ap (isFull s) (handle-is kind code time s) ∙ state-full s (formed s sane .begun) (event-adds s sane code time kind)
 
   answer-is : (b : Bool) → eventSum kind s .fits ≡ b → cond b 0 7 ≡ firstOf (eventTestsOf kind (handleEvent kind code time (worldAt s)) s)
   unfolding firstOf
@@ -142,25 +159,35 @@ module _ (s : State) (sane : isIll s ≡ false) (known : Known (s .table)) (goin
     abbrev final : World
     final = playedOf (resetsBy kind) kind code time s
 
+    fitted : (fitting (addCounts (heldAt s) (tallyAt (resetsBy kind) kind s)) (roomOf (s .logs)) ≡ true) × (numbered (addCounts (s .decoder .counts) (tallyAt (resetsBy kind) kind s)) ≡ true)
+    unfolding sumOf
+    fitted = both (fitting (addCounts (heldAt s) (tallyAt (resetsBy kind) kind s)) (roomOf (s .logs))) (numbered (addCounts (s .decoder .counts) (tallyAt (resetsBy kind) kind s))) fits
+
+    -- there are numbers for its T rows and G rows
+    numbers : s .decoder .counts .links + pick (resetsBy kind) (endRows s) 0 + one (addsRow (turn .act)) + one (addsGroup (turn .act) alive) < 2 ^ 64
+    unfolding addCounts
+    numbers = let l = least (resetsBy kind) (turn .act) s in omega (arith, l, numbered-is _ (fitted .1) .links)
+
     reached : Reached (brings time s) s alive (beforeOf (resetsBy kind) (brings time s) s) settled
-    reached = reached-before s sane (brings time s) known byte (resetsBy kind)
+    reached = reached-before s sane (brings time s) known byte (resetsBy kind) (omega (arith, numbers))
 
     tail : Tailed (brings time s) s code time (beforeOf (resetsBy kind) (brings time s) s .slot) turn alive settled final
     tail =
-        tailed (brings time s) s alive (beforeOf (resetsBy kind) (brings time s) s) settled reached (few s sane) (some s sane) (rests (resetsBy kind) (brings time s) s) (grows s sane (brings time s) known byte (resetsBy kind)) kind code time
+        tailed (brings time s) s alive (beforeOf (resetsBy kind) (brings time s) s) settled reached (few s sane) (some s sane) (rests (resetsBy kind) (brings time s) s) kind code time (grows s sane (brings time s) known byte (resetsBy kind) (turn .act) alive numbers)
 
-    inside : Within (addCounts (s .decoder .counts) (tallyAt (resetsBy kind) kind s)) (roomOf (s .logs))
-    unfolding sumOf
-    inside = within _ _ fits
+    inside : Within (addCounts (heldAt s) (tallyAt (resetsBy kind) kind s)) (roomOf (s .logs))
+    inside = within _ _ (fitted .0)
 
     -- what event_rows, settle and put_event ask
     pub event-ables : AbleAt s turn alive settled
-    event-ables = tail .able (space (brings time s) s (tallyAt (resetsBy kind) kind s) final (event-adds s sane code time kind) inside)
+    event-ables =
+        tail .able (space (brings time s) s (tallyAt (resetsBy kind) kind s) final (event-adds s sane code time kind) inside)
+        (worded s (tallyAt (resetsBy kind) kind s) final (event-adds s sane code time kind) (numbered-is _ (fitted .1)))
 
     pub event-settles : SettlesIf (resetsBy kind) (endingOf (worldAt s)) (s .decoder .counts .endpoints) (s .decoder .transaction .id) (startPid (s .decoder .transaction .style)) (memoryAt (brings time s) s)
-    event-settles = settles-if s sane (brings time s) known byte (resetsBy kind) (room-before _ _ _ _ _ settled event-ables)
+    event-settles = settles-if s sane (brings time s) known byte (resetsBy kind) (omega (arith, numbers)) (room-before _ _ _ _ _ settled event-ables)
 
-    pub event-puts : ((s .decoder .counts .packets + 1) * packetWidth ≤ length (s .logs .packets)) × (((s .decoder .counts .events + 1) * eventWidth ≤ length (s .logs .events)) × (s .decoder .counts .transactions * transactionWidth + length (opt (addsRow (turn .act)) (s .decoder .counts .packets ∷ [])) ≤ length (s .logs .transactions)))
+    pub event-puts : ((heldAt s .packets + 1) * packetWidth ≤ length (s .logs .packets)) × (((heldAt s .events + 1) * eventWidth ≤ length (s .logs .events)) × (heldAt s .transactions * transactionWidth + length (opt (addsRow (turn .act)) (s .decoder .counts .packets ∷ [])) ≤ length (s .logs .transactions)))
     unfolding addCounts roomBy inLog
     event-puts =
         let a = event-adds s sane code time kind in
@@ -183,17 +210,17 @@ module _ (s : State) (sane : isIll s ≡ false) (known : Known (s .table)) (goin
     eventState =
         state (eventDecoder (s .decoder) (resetsBy kind) turn (eventSum kind s) (eventMemory .written)) (s .devices) (eventMemory .table)
         (logs (s .logs .bytes) (s .logs .devices) (s .logs .endpoints)
-        (sets (s .logs .packets) (s .decoder .counts .packets * packetWidth) (s .decoder .counts .bytes ∷ time ∷ []))
-        (sets (s .logs .events) (s .decoder .counts .events * eventWidth) (s .decoder .counts .packets ∷ code ∷ []))
-        (sets (s .logs .transactions) (s .decoder .counts .transactions * transactionWidth) (opt (addsRow (turn .act)) (s .decoder .counts .packets ∷ [])))
+        (sets (s .logs .packets) (heldAt s .packets * packetWidth) (s .decoder .counts .bytes ∷ time ∷ []))
+        (sets (s .logs .events) (heldAt s .events * eventWidth) (s .decoder .counts .packets ∷ code ∷ []))
+        (sets (s .logs .transactions) (heldAt s .transactions * transactionWidth) (opt (addsRow (turn .act)) (s .decoder .counts .packets ∷ [])))
         (eventMemory .groups) (eventMemory .statebytes) (eventMemory .states) (eventMemory .items) (eventMemory .links) (s .logs .requests))
 
     final-left : Left final (s .decoder .finished) s eventState
     unfolding sumOf
     final-left =
         let a = event-adds s sane code time kind in
-        left-of (brings time s) s final eventMemory (tail .holds) (event-rows-tabled (few s sane) (some s sane) _ _ _ _ settled (reached .table)) (known .size) (tail .devices) (tail .transaction) (s .decoder .finished) _ _ _ _ _
-        (counts-after (world-has (s .decoder) (s .devices) (s .table)) a) (tail .slot ∙ slot-is (resetsBy kind) (brings time s) s) (tail .event) (tail .keepalive) (a .waiting) _ _ _
+        left-of (brings time s) s final eventMemory (tail .holds) (event-rows-tabled (few s sane) (some s sane) _ _ _ _ settled (reached .table)) (few s sane) (known .size) (tail .devices) (tail .transaction) (s .decoder .finished) _ _ _ _ _
+        (counts-after (world-has (s .decoder) (s .devices) (s .table)) a ∙ ap (λ (b : Bool). pick b (addCounts (s .decoder .counts) (tallyAt (resetsBy kind) kind s)) (s .decoder .counts)) (sym fits)) (tail .slot ∙ slot-is (resetsBy kind) (brings time s) s) (tail .event) (tail .keepalive) (a .waiting) _ _ _
         (record {
           bytes = tail .first 0 (omega arith);
           devices = tail .first 1 (omega arith);

@@ -16,7 +16,7 @@ use Rattle.write_event.specs.Rows.{Able, eventRows, startsGroup}
 use Rattle.record.specs.declared.Counts.{Counts}
 use Rattle.record.specs.declared.Decoder.{Decoder}
 use Rattle.call.specs.Outcome.{worldAt}
-use Rattle.call.specs.State.{State, state, logs, roomOf}
+use Rattle.call.specs.State.{State, state, logs, roomOf, heldAt, Logs}
 use Rattle.plan.specs.Ending.{endingOf}
 use Rattle.plan.specs.declared.Ending.{Ending}
 use Rattle.events.specs.After.{resetsBy, keepaliveThen, sumOf, Decides, eventDecoder}
@@ -46,7 +46,7 @@ module _ (s : State) (kind : ℕ) where
 
 module _ (s : State) (kind : ℕ) (room : Counts) (r : Decided) (q : Decides (s .decoder) (s .devices) (s .table) kind room r) where
   pub sum-at : room ≡ roomOf (s .logs) → r .sum ≡ eventSum kind s
-  sum-at e = q .sum ∙ ap (sumOf (s .decoder .counts) (tallyAt (resetsBy kind) kind s)) e
+  sum-at e = q .sum ∙ ap (sumOf (heldAt s) (s .decoder .counts) (tallyAt (resetsBy kind) kind s)) e
 
   act-at : actOf (r .turn .act) ≡ turnAt s kind .act
   act-at = ap (λ (t : rules.Turn). t .act) (q .turn)
@@ -60,7 +60,7 @@ module _ (s : State) (kind : ℕ) (room : Counts) (r : Decided) (q : Decides (s 
         start = g ∙ ap startsGroup act-at;
       }
 
-  module _ (c : Stamp) (pid : ℕ) (h : Written) (e : pid ≡ startPid (s .decoder .transaction .style)) (f : h ≡ writtenOf c (s .decoder)) where
+  module _ (c : Stamp) (pid : ℕ) (h : Written) (e : pid ≡ startPid (s .decoder .transaction .style)) (f : h ≡ writtenOf c (heldAt s) (s .decoder) (s .table)) where
     pub settles-at : SettlesIf (resetsBy kind) (endingOf (worldAt s)) (s .decoder .counts .endpoints) (s .decoder .transaction .id) (startPid (s .decoder .transaction .style)) (memoryAt c s)
         → SettlesIf (r .resets) (r .end) (s .decoder .counts .endpoints) (s .decoder .transaction .id) pid (firstMemory s h)
     settles-at a =
@@ -83,18 +83,17 @@ module _ (s : State) (kind : ℕ) (room : Counts) (r : Decided) (q : Decides (s 
       ∙ ap (λ (t : rules.Turn). eventDecoder (s .decoder) (resetsBy kind) t (r .sum) h) (q .turn)
       ∙ ap (λ (x : Sum). eventDecoder (s .decoder) (resetsBy kind) (turnAt s kind) x h) (sum-at e)
 
+-- the rows of a packet, an event and these words of a transaction fit behind the rows held
+abbrev pub Puts : Counts → Logs → List ℕ → Type 0
+Puts n l t = ((n .packets + 1) * packetWidth ≤ length (l .packets)) × (((n .events + 1) * eventWidth ≤ length (l .events)) × (n .transactions * transactionWidth + length t ≤ length (l .transactions)))
+
 module _ (s : State) (kind : ℕ) {row group start : Bool} (f : Flags s kind row group start) where
-  pub puts-at : (c : Stamp) → c .packet ≡ s .decoder .counts .packets
-      → ((s .decoder .counts .packets + 1) * packetWidth ≤ length (s .logs .packets)) × (((s .decoder .counts .events + 1) * eventWidth ≤ length (s .logs .events)) × (s .decoder .counts .transactions * transactionWidth + length (opt (addsRow (turnAt s kind .act)) (s .decoder .counts .packets ∷ [])) ≤ length (s .logs .transactions)))
-      → ((s .decoder .counts .packets + 1) * packetWidth ≤ length (s .logs .packets)) × (((s .decoder .counts .events + 1) * eventWidth ≤ length (s .logs .events)) × (s .decoder .counts .transactions * transactionWidth + length (opt row (c .packet ∷ [])) ≤ length (s .logs .transactions)))
-  puts-at c e a = (
-    a .0,
-    (
-      a .1 .0,
-      subst (λ (i : ℕ). s .decoder .counts .transactions * transactionWidth + length (opt row (i ∷ [])) ≤ length (s .logs .transactions)) (sym e)
-          (subst (λ (b : Bool). s .decoder .counts .transactions * transactionWidth + length (opt b (s .decoder .counts .packets ∷ [])) ≤ length (s .logs .transactions)) (sym (f .row)) (a .1 .1)),
-    ),
-  )
+  pub puts-at : (c : Stamp) → c .packet ≡ s .decoder .counts .packets → {held : Counts} → held ≡ heldAt s
+      → Puts (heldAt s) (s .logs) (opt (addsRow (turnAt s kind .act)) (s .decoder .counts .packets ∷ [])) → Puts held (s .logs) (opt row (c .packet ∷ []))
+  puts-at c e g a =
+      subst (λ (h : Counts). Puts h (s .logs) (opt row (c .packet ∷ []))) (sym g)
+      (subst (λ (i : ℕ). Puts (heldAt s) (s .logs) (opt row (i ∷ []))) (sym e)
+      (subst (λ (b : Bool). Puts (heldAt s) (s .logs) (opt b (s .decoder .counts .packets ∷ []))) (sym (f .row)) a))
 
   module _ (c : Stamp) (m : Memory) (e : m ≡ memoryThen (resetsBy kind) c s) where
     pub able-at : AbleAt s (turnAt s kind) (aliveAt s kind) (memoryThen (resetsBy kind) c s) → Able row group start (s .decoder .counts .endpoints) (s .decoder .counts .transactions) m
@@ -118,13 +117,13 @@ leaves s d p e t m = state d (s .devices) (m .table) (logs (s .logs .bytes) (s .
 
 -- its packet, event and transaction rows
 abbrev pub packetsAt : State → Stamp → List ℕ
-packetsAt s c = sets (s .logs .packets) (s .decoder .counts .packets * packetWidth) (s .decoder .counts .bytes ∷ c .time ∷ [])
+packetsAt s c = sets (s .logs .packets) (heldAt s .packets * packetWidth) (s .decoder .counts .bytes ∷ c .time ∷ [])
 
 abbrev pub eventsAt : State → Stamp → ℕ → List ℕ
-eventsAt s c code = sets (s .logs .events) (s .decoder .counts .events * eventWidth) (c .packet ∷ code ∷ [])
+eventsAt s c code = sets (s .logs .events) (heldAt s .events * eventWidth) (c .packet ∷ code ∷ [])
 
 abbrev pub transactionsAt : State → Stamp → Bool → List ℕ
-transactionsAt s c row = sets (s .logs .transactions) (s .decoder .counts .transactions * transactionWidth) (opt row (c .packet ∷ []))
+transactionsAt s c row = sets (s .logs .transactions) (heldAt s .transactions * transactionWidth) (opt row (c .packet ∷ []))
 
 module _ (s : State) (kind code time : ℕ) where
   abbrev rowsAfter : Memory

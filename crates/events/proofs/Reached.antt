@@ -18,17 +18,17 @@ use Rattle.rules.specs.declared.EventState.{EventState}
 use Rattle.rules.specs.declared.Slot.{Slot}
 use Rattle.tally.specs.Tally.{inLog, Adds}
 use Rattle.tally.specs.declared.add.Tally.{Tally}
-use Rattle.write.specs.Holds.{Holds, Space}
+use Rattle.write.specs.Holds.{Holds, Space, Worded}
 use Rattle.write.specs.HoldsLaws.{holds-start}
 use Rattle.write.specs.Memory.{Memory, memory}
 use Rattle.write.specs.declared.Written.{Written}
 use Rattle.record.specs.FormedLaws.{WellFormed}
-use Rattle.record.specs.RoomLaws.{Within}
-use Rattle.record.specs.TabledLaws.{Tabled, tabled-start}
+use Rattle.record.specs.RoomLaws.{Within, Numbered}
+use Rattle.record.specs.TabledLaws.{Tabled, tabled-start, first-kept}
 use Rattle.record.specs.declared.Counts.{Counts}
 use Rattle.call.specs.Outcome.{Appends, Left, countsAfter, decoderOf, worldAt}
 use Rattle.call.specs.StateLaws.{word-each}
-use Rattle.call.specs.State.{Logs, State, state, logs, roomBy, roomOf}
+use Rattle.call.specs.State.{Logs, State, state, logs, roomBy, roomOf, heldAt}
 use Rattle.rules.specs.declared.Stamp.{Stamp}
 use Rattle.call.specs.Share.{Known, writtenOf, tied}
 use Rattle.plan.proofs.Played.{tiedTo, Tied}
@@ -39,7 +39,7 @@ abbrev pub firstMemory : State → Written → Memory
 firstMemory s h = memory h (s .table) (s .logs .groups) (s .logs .statebytes) (s .logs .states) (s .logs .items) (s .logs .links)
 
 abbrev pub memoryAt : Stamp → State → Memory
-memoryAt c s = firstMemory s (writtenOf c (s .decoder))
+memoryAt c s = firstMemory s (writtenOf c (heldAt s) (s .decoder) (s .table))
 
 -- the world that a call which brings c begins with
 abbrev pub worldWith : Stamp → State → World
@@ -68,7 +68,8 @@ pub reached-start : (c : Stamp) (s : State) (room : Counts) → WellFormed (s .d
 reached-start c s room h k =
     let d = s .decoder in
     record {
-      holds = holds-start (d .counts .endpoints) (d .transaction .id) (startPid (d .transaction .style)) (worldWith c s) (memoryAt c s) refl (k .size) refl refl (λ j u. refl) refl refl refl refl refl refl refl refl;
+      holds = holds-start (d .counts .endpoints) (d .transaction .id) (startPid (d .transaction .style)) (worldWith c s) (memoryAt c s) refl (k .size) refl refl (λ j u. refl) refl refl refl refl refl
+          (omega (arith, h .begun .groups)) (omega (arith, h .begun .statebytes)) (omega (arith, h .begun .items));
       table = tabled-start (d .counts .endpoints) (s .table) (k .size) (λ i u. h .endpoints i u .words);
       devices = λ j. refl;
       transaction = refl;
@@ -81,7 +82,7 @@ reached-start c s room h k =
 -- ---- room
 
 -- the rows of a tally whose counts fit the lent logs fit memory's
-pub space : (c : Stamp) (s : State) (t : Tally) (v : World) → Adds t (worldAt s) v → Within (addCounts (s .decoder .counts) t) (roomOf (s .logs)) → Space (memoryAt c s) (v .journal)
+pub space : (c : Stamp) (s : State) (t : Tally) (v : World) → Adds t (worldAt s) v → Within (addCounts (heldAt s) t) (roomOf (s .logs)) → Space (memoryAt c s) (v .journal)
 unfolding addCounts roomBy inLog
 space c s t v a w =
     record {
@@ -90,6 +91,16 @@ space c s t v a w =
       states = let e = a .words 8 in let g = w .states in omega (arith, e, g);
       items = let e = a .words 9 in let g = w .items in omega (arith, e, g);
       links = let e = a .words 10 in let g = w .links in omega (arith, e, g);
+    }
+
+-- and the numbers that it ends with are words
+pub worded : (s : State) (t : Tally) (v : World) → Adds t (worldAt s) v → Numbered (addCounts (s .decoder .counts) t) → Worded v
+unfolding addCounts
+worded s t v a z =
+    record {
+      groups = let e = a .groups in let f = z .groups in omega (arith, e, f);
+      statebytes = let e = a .statebytes in let f = z .statebytes in omega (arith, e, f);
+      items = let e = a .items in let f = z .items in omega (arith, e, f);
     }
 
 -- ---- the end of a call
@@ -107,9 +118,9 @@ pub record Besides (w : World) (n : Counts) (l : Logs) (packets events transacti
 none-written : (l : List ℕ) (at k : ℕ) (js : List Row) → log k js ≡ [] → l ≡ sets l at (log k js)
 none-written l at k js e = ap (sets l at) (sym e)
 
-module _ (c : Stamp) (s : State) (w : World) (m : Memory) (holds : HoldsAt c s w m) (table : Tabled (s .decoder .counts .endpoints) (s .table) (m .table)) where
-  appends : (p e t : List ℕ) → Besides w (s .decoder .counts) (s .logs) p e t
-      → Appends w (s .decoder .counts) (s .logs) (logs (s .logs .bytes) (s .logs .devices) (s .logs .endpoints) p e t (m .groups) (m .statebytes) (m .states) (m .items) (m .links) (s .logs .requests))
+module _ (c : Stamp) (s : State) (w : World) (m : Memory) (holds : HoldsAt c s w m) (table : Tabled (s .decoder .counts .endpoints) (s .table) (m .table)) (few : s .decoder .counts .endpoints ≤ 128) where
+  appends : (p e t : List ℕ) → Besides w (heldAt s) (s .logs) p e t
+      → Appends w (heldAt s) (s .logs) (logs (s .logs .bytes) (s .logs .devices) (s .logs .endpoints) p e t (m .groups) (m .statebytes) (m .states) (m .items) (m .links) (s .logs .requests))
   appends p e t b =
       each-log _
       (none-written (s .logs .bytes) _ 0 (w .journal) (b .bytes))
@@ -119,9 +130,9 @@ module _ (c : Stamp) (s : State) (w : World) (m : Memory) (holds : HoldsAt c s w
       (b .eventRows)
       (b .transactionRows)
       (holds .groups .written)
-      (holds .statebytes .written ∙ word-each (s .logs .statebytes) (log 7 (w .journal)) (s .decoder .counts .statebytes))
-      (holds .states .written ∙ word-each (s .logs .states) (log 8 (w .journal)) (s .decoder .counts .states))
-      (holds .items .written ∙ word-each (s .logs .items) (log 9 (w .journal)) (s .decoder .counts .items))
+      (holds .statebytes .written ∙ word-each (s .logs .statebytes) (log 7 (w .journal)) (heldAt s .statebytes))
+      (holds .states .written ∙ word-each (s .logs .states) (log 8 (w .journal)) (heldAt s .states))
+      (holds .items .written ∙ word-each (s .logs .items) (log 9 (w .journal)) (heldAt s .items))
       (holds .links .written)
       (none-written (s .logs .requests) _ 11 (w .journal) (b .requests))
 
@@ -134,7 +145,7 @@ module _ (c : Stamp) (s : State) (w : World) (m : Memory) (holds : HoldsAt c s w
   pub left-of : (size : length (s .table) ≡ word.table) → ((j : ℕ) → w .devices j ≡ getD (s .devices) j blank) → Tied (s .decoder .transaction) (w .transaction)
       → (f : Bool) (c : Counts) (slot : Slot) (event : EventState) (keepalive : Bool) (waiting : ℕ)
       → countsAfter (s .decoder .counts) w ≡ c → w .slot ≡ slot → w .eventState ≡ event → w .keepalive ≡ keepalive → waitingOf w ≡ waiting
-      → (p e t : List ℕ) → Besides w (s .decoder .counts) (s .logs) p e t
+      → (p e t : List ℕ) → Besides w (heldAt s) (s .logs) p e t
       → Left w f s
       (state (record { counts = c; slot = slot; transaction = tied (s .decoder .transaction) (m .written); last = m .written .last; event = event; keepalive = keepalive; waiting = waiting; finished = f }) (s .devices) (m .table)
       (logs (s .logs .bytes) (s .logs .devices) (s .logs .endpoints) p e t (m .groups) (m .statebytes) (m .states) (m .items) (m .links) (s .logs .requests)))
@@ -149,6 +160,7 @@ module _ (c : Stamp) (s : State) (w : World) (m : Memory) (holds : HoldsAt c s w
               entries = λ i u. holds .endpoints i (subst (λ (n : ℕ). i < n) (holds .count) u);
               words = λ i u. table .stored i (subst (λ (n : ℕ). i < n) (holds .count) u);
               beyond = λ i u. table .beyond i (subst (λ (n : ℕ). n * 17 ≤ i) (holds .count) u);
+              firsts = λ k. first-kept table few k;
             };
         logs = appends p e t b;
       }

@@ -18,7 +18,7 @@ use Rattle.rules.specs.declared.EventState.{EventState}
 use Rattle.rules.specs.declared.Slot.{Slot}
 use Rattle.rules.specs.declared.Stamp.{Stamp}
 use Rattle.update.specs.Update.{when}
-use Rattle.write.specs.Holds.{Space}
+use Rattle.write.specs.Holds.{Space, Worded}
 use Rattle.write.specs.Memory.{Memory, Room, linkWritten}
 use Rattle.event.specs.Event.{addsRow, addsGroup, isCurrent}
 use Rattle.write_event.specs.ActedLaws.{below, requests, keepaliveAfter, event-acted, event-keepalive}
@@ -38,12 +38,12 @@ room-before row group start n id m a = by row group (a .room) (first-asks row gr
   where
     by : (row group : Bool) → Room (eventRows row group start n id m) → when row linkWritten (m .written) .links * linkWidth ≤ length (m .links) → Room m
     by false false r l = r
-    by true false r l = record { groups = r .groups; states = r .states; statebytes = r .statebytes; items = r .items; links = omega (arith, l) }
+    by true false r l = record { groups = r .groups; states = r .states; statebytes = r .statebytes; items = r .items; links = omega (arith, l); numbers = record { groups = r .numbers .groups; statebytes = r .numbers .statebytes; items = r .numbers .items } }
     by false true r l =
-        record { groups = omega (arith, room-groups n start m r); states = omega (arith, room-states n start m r); statebytes = omega (arith, room-statebytes n start m r); items = omega (arith, room-items n start m r); links = l }
+        record { groups = omega (arith, room-groups n start m r); states = omega (arith, room-states n start m r); statebytes = omega (arith, room-statebytes n start m r); items = omega (arith, room-items n start m r); links = l; numbers = record { groups = omega (arith, r .numbers .groups); statebytes = omega (arith, r .numbers .statebytes); items = omega (arith, r .numbers .items) } }
     by true true r l =
         let v = eventLinked id m in
-        record { groups = omega (arith, room-groups n start v r); states = omega (arith, room-states n start v r); statebytes = omega (arith, room-statebytes n start v r); items = omega (arith, room-items n start v r); links = omega (arith, l) }
+        record { groups = omega (arith, room-groups n start v r); states = omega (arith, room-states n start v r); statebytes = omega (arith, room-statebytes n start v r); items = omega (arith, room-items n start v r); links = omega (arith, l); numbers = record { groups = omega (arith, r .numbers .groups); statebytes = omega (arith, r .numbers .statebytes); items = omega (arith, r .numbers .items) } }
 
 -- ---- the rows
 
@@ -57,7 +57,7 @@ AbleAt s t k m = Able (addsRow (t .act)) (addsGroup (t .act) k) (startsGroup (t 
 -- the call on s, which came to the memory m and this slot, has come to the world v by the rows of a turn
 pub record Tailed (c : Stamp) (s : State) (code time : ℕ) (z : Slot) (t : rules.Turn) (k : Bool) (m : Memory) (v : World) : Type 0 where
   pub holds : HoldsAt c s v (rowsMemory s t k m)
-  pub able : Space (memoryAt c s) (v .journal) → AbleAt s t k m
+  pub able : Space (memoryAt c s) (v .journal) → Worded v → AbleAt s t k m
   pub devices : (j : ℕ) → v .devices j ≡ getD (s .devices) j blank
   pub transaction : Tied (s .decoder .transaction) (v .transaction)
   pub slot : v .slot ≡ z
@@ -84,11 +84,16 @@ else-log : (k b t p c : ℕ) (js : List Row) → k < 3 → log k js ≡ [] → l
 else-log k b t p c js h e = rw (ne-eqb 3 k (λ q. omega arith), ne-eqb 4 k (λ q. omega arith), e) refl
 
 module _ (c : Stamp) (s : State) (k : Bool) (u : World) (m : Memory) (h : Reached c s k u m) (few : s .decoder .counts .endpoints ≤ 128) (some : 0 < s .decoder .counts .endpoints)
-    (rests : isCurrent (u .slot) ≡ false) (g : Grows u) (kind code time : ℕ) where
+    (rests : isCurrent (u .slot) ≡ false) (kind code time : ℕ) (g : Grows (rules.turnOf (s .decoder .event) kind .act) k u) where
   held : HoldsAt c s (rowed s code time u) m
   held =
       holds-alike (event-row-alike (pushPacket (s .decoder .counts .bytes) time u) (s .decoder .counts .packets) code)
       (holds-alike (packet-alike u (s .decoder .counts .bytes) time) (h .holds))
+
+  own-grows : Grows (rules.turnOf (u .eventState) kind .act) (u .keepalive) u
+  own-grows =
+      subst (λ (e : EventState). Grows (rules.turnOf e kind .act) (u .keepalive) u) (sym (h .event))
+      (subst (λ (b : Bool). Grows (rules.turnOf (s .decoder .event) kind .act) b u) (sym (h .keepalive)) g)
 
   -- by the state and the keepalive group of that world
   tailed-own : Tailed c s code time (u .slot) (rules.turnOf (u .eventState) kind) (u .keepalive) m (rules.eventUpdate (s .decoder .counts .packets) kind (rowed s code time u))
@@ -101,7 +106,7 @@ module _ (c : Stamp) (s : State) (k : Bool) (u : World) (m : Memory) (h : Reache
       let same = event-acted w rests p a in
       record {
         holds = event-update-holds held few some rests p i (sym (h .transactions)) kind;
-        able = λ x. event-able held few some rests p i (sym (h .transactions)) a (g .transactions) (g .groups) x;
+        able = λ x z. event-able held few some rests p i (sym (h .transactions)) a (own-grows .transactions) (own-grows .groups) x (record { groups = z .groups; statebytes = z .statebytes; items = z .items });
         devices = λ j. ap (λ (f : ℕ → Device). f j) (same .devices) ∙ h .devices j;
         transaction = subst (Tied (s .decoder .transaction)) (sym (same .transaction)) (h .transaction);
         slot = same .slot;

@@ -11,22 +11,23 @@ use Rattle.rules.specs.Events.{Act, Turn, turnOf}
 use Rattle.rules.specs.declared.Slot.{Slot}
 use Rattle.tally.specs.declared.add.Tally.{Tally}
 use Rattle.write.specs.declared.Written.{Written}
-use Rattle.record.specs.Room.{fitting}
+use Rattle.record.specs.Room.{heldOf}
 use Rattle.record.specs.declared.Counts.{Counts}
 use Rattle.record.specs.World.{worldOf}
 use Rattle.record.specs.declared.Decoder.{Decoder}
 use Rattle.event.specs.Event.{told}
 use Rattle.write_event.specs.ActedLaws.{keepaliveAfter}
+use Rattle.transaction.specs.Table.{pick}
 use Rattle.plan.specs.Ending.{slotEnded, endingOf}
 use Rattle.plan.specs.declared.Ending.{Ending}
-use Rattle.tally.specs.Tallies.{tallyKeepalive, tallyEvent, addCounts}
+use Rattle.tally.specs.Tallies.{tallyKeepalive, tallyEvent, addCounts, roomFor}
 use Rattle.call.specs.Share.{tied}
 use Rattle.events.specs.declared.decided.Decided.{Decided}
 use Rattle.events.specs.declared.sum.Sum.{Sum}
 
--- with the rows of t behind n
-unfoldable pub sumOf : Counts → Tally → Counts → Sum
-sumOf n t room = record { fits = fitting (addCounts n t) room; counts = addCounts n t; waiting = t .waiting }
+-- with the rows of t behind the rows held, where n are numbered
+unfoldable pub sumOf : Counts → Counts → Tally → Counts → Sum
+sumOf held n t room = record { fits = roomFor held n t room; counts = pick (roomFor held n t room) (addCounts n t) n; waiting = t .waiting }
 
 abbrev pub finishedDecoder : Decoder → Sum → Written → Decoder
 finishedDecoder d s h =
@@ -55,7 +56,7 @@ pub record Decides (d : Decoder) (v : List Device) (t : List ℕ) (kind : ℕ) (
   pub resets : r .resets ≡ resetsBy kind
   pub end : r .end ≡ endingOf (worldOf d v t)
   pub turn : told (r .turn) ≡ turnOf (d .event) kind
-  pub sum : r .sum ≡ sumOf (d .counts) (eventTally (resetsBy kind) d (endingOf (worldOf d v t)) (turnOf (d .event) kind .act) (active t (d .counts .endpoints))) room
+  pub sum : r .sum ≡ sumOf (heldOf t (d .counts)) (d .counts) (eventTally (resetsBy kind) d (endingOf (worldOf d v t)) (turnOf (d .event) kind .act) (active t (d .counts .endpoints))) room
 
 abbrev pub eventDecoder : Decoder → Bool → Turn → Sum → Written → Decoder
 eventDecoder d resets t s h =

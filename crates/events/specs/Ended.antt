@@ -10,6 +10,7 @@ use Rattle.update.specs.Update.{when}
 use Rattle.write.specs.Memory.{Memory, Room, altered}
 use Rattle.write_update.specs.Carried.{carried}
 use Rattle.write_event.specs.Rows.{allEnded}
+use Rattle.plan.specs.Sound.{linked, started}
 use Rattle.plan.specs.declared.End.{End}
 use Rattle.plan.specs.declared.Ending.{Ending}
 
@@ -24,8 +25,8 @@ pub record Endable (e : Ending) (n id pid : ℕ) (m : Memory) : Type 0 where
   pub sized : length (m .table) ≡ word.table
   pub few : n ≤ 128
   pub there : e .old < n
-  pub transactions : e .end .entry .transactions + 1 < 2 ^ 64
-  pub groups : e .end .entry .groups + 1 < 2 ^ 64
+  pub transactions : e .end .entry .transactions + linked (e .ends) (e .end .update) < 2 ^ 64
+  pub groups : e .end .entry .groups + started (e .ends) (e .end .update) < 2 ^ 64
   pub bytes : Fits (e .end .entry)
   pub room : Room (endedMemory e n id pid m)
 

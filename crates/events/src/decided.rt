@@ -15,13 +15,14 @@ use record::Counts;
 use record::Decoder;
 use rules::Slot;
 ghost use mathlib.Core.Path.{_≡_};
-ghost use Prim.Native.Nat.{_≤_, _^_};
+ghost use Prim.Native.Nat.{_≤_};
 ghost use Rattle.rules.specs.Decoder.{suspendAt};
 ghost use Rattle.event.specs.Event.{actOf};
 ghost use Rattle.write_event.specs.ActedLaws.{keepaliveAfter};
 ghost use Rattle.write_event.specs.Rows.{startsGroup};
 ghost use Rattle.decide.specs.Ready.{Ready};
-ghost use Rattle.tally.specs.Tallies.{Under};
+ghost use Rattle.record.specs.Room.{heldOf};
+ghost use Rattle.tally.specs.Tallies.{Countable};
 ghost use Rattle.events.specs.After.{slotAfter, Decides};
 
 pub struct Decided {
@@ -80,11 +81,19 @@ pub fn keepalive_after(act: Act, keepalive: bool) -> bool
     }
 }
 
-// An event of this kind.
-pub fn decide(d: Decoder, devices: [Device; 64], kind: u8, table: &Table, room: Counts) -> Decided
+// An event of this kind; the logs hold the rows `held`.
+pub fn decide(
+    d: Decoder,
+    devices: [Device; 64],
+    kind: u8,
+    table: &Table,
+    held: Counts,
+    room: Counts,
+) -> Decided
     requires { ⌜ Ready d (now table) ⌝ }
     requires { ⌜ d .waiting ≤ 128 ⌝ }
-    requires { ⌜ Under (2 ^ 40) (d .counts) ⌝ }
+    requires { ⌜ Countable held (d .counts) ⌝ }
+    requires { ⌜ held ≡ heldOf (now table) (d .counts) ⌝ }
     ensures { λ r. ⌜ Decides d devices (now (table .entry)) kind room r ⌝ }
 {
     let n = d.counts;
@@ -94,7 +103,7 @@ pub fn decide(d: Decoder, devices: [Device; 64], kind: u8, table: &Table, room: 
     let turn = event_turn(state, kind);
     let act = turn.act;
     let active = count_active(table, n.endpoints);
-    let sum = sum_event(resets, d, end, act, active, room);
+    let sum = sum_event(resets, d, held, end, act, active, room);
     Decided {
         resets,
         end,

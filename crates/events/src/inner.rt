@@ -22,6 +22,7 @@ use event::adds_group;
 use event::adds_row;
 use record::Counts;
 use record::Decoder;
+use record::room::held_of;
 use rows::width;
 use rules::Stamp;
 use transaction::payload::start_pid;
@@ -111,8 +112,9 @@ pub fn finish_in(
     let n = d.counts;
     let held = d.transaction;
     let style = held.style;
+    let rows = held_of(n, table);
     let e = plan_ending(d, devices, table);
-    let sum = sum_finish(d, e, room);
+    let sum = sum_finish(d, rows, e, room);
     if !sum.fits {
         return Inner {
             answer: NO_ROOM,
@@ -123,7 +125,7 @@ pub fn finish_in(
         e,
         held.id,
         start_pid(style),
-        written_of(no_stamp(), d),
+        written_of(no_stamp(), rows, d, table),
         n.endpoints,
         table,
         groups,
@@ -138,9 +140,10 @@ pub fn finish_in(
     }
 }
 
-// The event's packet row and event row, and where `row` a transaction row.
+// The event's packet row, which names the next packet byte, its event row, and where `row` a transaction row; behind the rows held.
 fn put_event(
-    n: Counts,
+    start: usize,
+    held: Counts,
     stamp: Stamp,
     row: bool,
     code: u8,
@@ -148,18 +151,18 @@ fn put_event(
     events: &mut [u64],
     transactions: &mut [u64],
 )
-    requires { ⌜ (n .packets + 1) * packetWidth ≤ length (now packets) ⌝ }
-    requires { ⌜ (n .events + 1) * eventWidth ≤ length (now events) ⌝ }
-    requires { ⌜ n .transactions * transactionWidth + length (opt row (transactionWords (naming (stamp .packet)))) ≤ length (now transactions) ⌝ }
-    ensures { λ r. ⌜ now (packets .exit) ≡ sets (now (packets .entry)) (n .packets * packetWidth) (n .bytes ∷ stamp .time ∷ []) ⌝ }
-    ensures { λ r. ⌜ now (events .exit) ≡ sets (now (events .entry)) (n .events * eventWidth) (stamp .packet ∷ code ∷ []) ⌝ }
-    ensures { λ r. ⌜ now (transactions .exit) ≡ sets (now (transactions .entry)) (n .transactions * transactionWidth) (opt row (transactionWords (naming (stamp .packet)))) ⌝ }
+    requires { ⌜ (held .packets + 1) * packetWidth ≤ length (now packets) ⌝ }
+    requires { ⌜ (held .events + 1) * eventWidth ≤ length (now events) ⌝ }
+    requires { ⌜ held .transactions * transactionWidth + length (opt row (transactionWords (naming (stamp .packet)))) ≤ length (now transactions) ⌝ }
+    ensures { λ r. ⌜ now (packets .exit) ≡ sets (now (packets .entry)) (held .packets * packetWidth) (start ∷ stamp .time ∷ []) ⌝ }
+    ensures { λ r. ⌜ now (events .exit) ≡ sets (now (events .entry)) (held .events * eventWidth) (stamp .packet ∷ code ∷ []) ⌝ }
+    ensures { λ r. ⌜ now (transactions .exit) ≡ sets (now (transactions .entry)) (held .transactions * transactionWidth) (opt row (transactionWords (naming (stamp .packet)))) ⌝ }
 {
-    let p = n.packets;
-    let e = n.events;
-    rows::put2(packets, p * width::PACKET, n.bytes as u64, stamp.time);
+    let p = held.packets;
+    let e = held.events;
+    rows::put2(packets, p * width::PACKET, start as u64, stamp.time);
     rows::put2(events, e * width::EVENT, stamp.packet, code as u64);
-    put_transaction(row, transactions, n.transactions, stamp);
+    put_transaction(row, transactions, held.transactions, stamp);
 }
 
 // The record after an event.
@@ -227,7 +230,8 @@ pub fn event_in(
     let held = d.transaction;
     let style = held.style;
     let stamp = stamp_of(n, time);
-    let c = decide(d, devices, kind, table, room);
+    let rows = held_of(n, table);
+    let c = decide(d, devices, kind, table, rows, room);
     let sum = c.sum;
     if !sum.fits {
         return Inner {
@@ -246,7 +250,7 @@ pub fn event_in(
         end,
         held.id,
         start_pid(style),
-        written_of(stamp, d),
+        written_of(stamp, rows, d, table),
         n.endpoints,
         table,
         groups,
@@ -255,7 +259,16 @@ pub fn event_in(
         items,
         links,
     );
-    put_event(n, stamp, row, code, packets, events, transactions);
+    put_event(
+        n.bytes,
+        rows,
+        stamp,
+        row,
+        code,
+        packets,
+        events,
+        transactions,
+    );
     let written = event_rows(
         row,
         group,

@@ -4,22 +4,31 @@ use Prim.Native.Nat.{ℕ, zero, suc, _+_, _*_, _≤_, _<_}
 use native.Mathlib.Omega.{arith}
 use mathlib.Core.Bool.{Bool, true, false, not}
 use mathlib.Core.List.{List}
-use mathlib.Core.Path.{_≡_, refl, sym, ap, _∙_}
+use mathlib.Core.Path.{_≡_, refl, sym, ap, subst, _∙_}
 use lib.ListN.{length}
+use Rattle.details.specs.declared.Device.{Device}
+use Rattle.endpoints.specs.Table.{firstAt}
 use borrow.Author.Tests.{not-false}
 use Rattle.text.specs.Lines.{longest, refusedLine}
 use Rattle.text.specs.Lengths.{refused-fits}
 use Rattle.record.specs.AnswersLaws.{accepted}
-use Rattle.record.specs.RoomLaws.{Within, within}
+use Rattle.record.specs.FreshLaws.{fresh-first}
+use Rattle.record.specs.RoomLaws.{Within, roomy-is, all-held}
 use Rattle.record.specs.declared.Counts.{Counts}
 use Rattle.trace.specs.declared.clock.Clock.{Clock}
 use Rattle.rules.specs.Decoder.{finish}
 use Rattle.call.specs.Outcome.{accepts, countsAfter, decoderOf, isFull, worldAt}
-use Rattle.call.specs.OutcomeLaws.{same-room}
-use Rattle.call.specs.State.{Logs, State, roomOf}
+use Rattle.call.specs.OutcomeLaws.{same-firsts, same-room}
+use Rattle.call.specs.State.{Logs, State, heldAt, roomOf}
 use Rattle.events.specs.Call.{FinishCall, finishTestsOf}
 use Rattle.lines.specs.Listing.{listing, Counted, rowsOf}
 use Rattle.lines.specs.ListingLaws.{counted, listing-fits}
+use Rattle.start.specs.Detail.{Details}
+use Rattle.start.specs.Fresh.{made, noDevices}
+use Rattle.trace.specs.Trace.{nextAt}
+use Rattle.trace.specs.declared.Next.{Next}
+use Rattle.trace.specs.declared.Next.the-variants.{Packet, Event, Detail, Unknown, Cut, End}
+use Rattle.step.specs.Block.{Gives, Takes}
 use Rattle.run.specs.Run.{Runs, Ran}
 use Rattle.run.specs.RunLaws.{Same, run-unique}
 use Rattle.listing.specs.Prints.{mostInput, shown, Prints, textRoom}
@@ -33,21 +42,47 @@ prints-unique (Prints.runs h q) (Prints.runs k r) = let e = run-unique q r in λ
 
 -- ---- a run that finished
 
+-- no row has been given back
+abbrev Whole : State → Type 0
+Whole s = (k : ℕ) → firstAt k (s .table) ≡ 0
+
 -- finish answers 0 only where its rows have room
-finish-within : {a : ℕ} {s s′ : State} → FinishCall s a s′ → a ≡ 0 → Within (s′ .decoder .counts) (roomOf (s′ .logs))
+finish-within : {a : ℕ} {s s′ : State} → Whole s → FinishCall s a s′ → a ≡ 0 → Within (s′ .decoder .counts) (roomOf (s′ .logs))
 unfolding isFull decoderOf
-finish-within {a} {s} {s′} f e =
+finish-within {a} {s} {s′} z f e =
     let w = finish (worldAt s) in
     let q = accepted (finishTestsOf w s) (sym (f .answer) ∙ e) .0 in
     let left = f .left (ap accepts (sym (f .answer) ∙ e)) in
-    let h = within (countsAfter (s .decoder .counts) w) (roomOf (s .logs)) (not-false _ (q .full)) in
-    rw (left .decoder, same-room w (s .decoder .counts) (s .logs) (s′ .logs) (left .logs)) h
+    let r = roomy-is (s .table) (countsAfter (s .decoder .counts) w) (roomOf (s .logs)) (not-false _ (q .full)) in
+    let h = subst (λ (n : Counts). Within n (roomOf (s .logs))) (all-held (s .table) (countsAfter (s .decoder .counts) w) z) (r .held) in
+    rw (left .decoder, same-room w (heldAt s) (s .logs) (s′ .logs) (left .logs)) h
 
-runs-within : {trace : List ℕ} {at a p : ℕ} {c : Clock} {s s′ : State} → Runs trace at c s a p s′ → a ≡ 0 → Within (s′ .decoder .counts) (roomOf (s′ .logs))
-runs-within (Runs.ends x f) e = finish-within f e
-runs-within (Runs.stops x h) e = absurd (h e)
+-- a record leaves the first numbers
+gives-whole : (trace : List ℕ) (n : Next) (c : Clock) (s : State) (a : ℕ) (s′ : State) → Gives trace n c s a s′ → Whole s → Whole s′
+unfolding Details
+gives-whole trace (Packet ticks start end next) c s a s′ g z = λ k. same-firsts g k ∙ z k
+gives-whole trace (Event ticks kind code next) c s a s′ g z = λ k. same-firsts g k ∙ z k
+gives-whole trace (Detail address number direction kind max next) c s a s′ g z = λ k. same-firsts g k ∙ z k
+gives-whole trace Unknown c s a s′ g z = subst Whole (sym (g .1)) z
+gives-whole trace Cut c s a s′ g z = subst Whole (sym (g .1)) z
+gives-whole trace End c s a s′ g z = absurd g
+
+-- and so do the records of a block
+takes-whole : {trace : List ℕ} {at n m a p : ℕ} {c c′ : Clock} {s s′ : State} → Takes trace at c s n m a p c′ s′ → Whole s → Whole s′
+takes-whole (Takes.done h) z = z
+takes-whole {trace} {at} {a = a} {c = c} (Takes.stops g h) z = gives-whole trace (nextAt trace at) c _ a _ g z
+takes-whole {trace} {at} {c = c} (Takes.goes a g h x) z = takes-whole x (gives-whole trace (nextAt trace at) c _ a _ g z)
+
+runs-within : {trace : List ℕ} {at a p : ℕ} {c : Clock} {s s′ : State} → Whole s → Runs trace at c s a p s′ → a ≡ 0 → Within (s′ .decoder .counts) (roomOf (s′ .logs))
+runs-within z (Runs.ends x f) e = finish-within (takes-whole x z) f e
+runs-within z (Runs.stops x h) e = absurd (h e)
+
+-- a fresh decoder has given back none
+made-whole : (v : List Device) (t : List ℕ) (l : Logs) → Whole (made v t l)
+unfolding made
+made-whole v t l = fresh-first t
 
 pub ran-within : {trace t : List ℕ} {l : Logs} {a p : ℕ} {s : State} → Ran trace t l a p s → a ≡ 0 → Within (s .decoder .counts) (roomOf (s .logs))
 ran-within (Ran.wrong h) e = absurd (h e)
 ran-within (Ran.refused h m n) e = absurd (n e)
-ran-within (Ran.runs h m r) e = runs-within r e
+ran-within {t = t} {l} (Ran.runs h m r) e = runs-within (subst Whole (sym (m .accepted refl)) (made-whole noDevices t l)) r e

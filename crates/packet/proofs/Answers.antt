@@ -21,30 +21,32 @@ use Rattle.rules.specs.Transactions.{isDropped}
 use Rattle.rules.specs.Decoder.{handleRawPacket}
 use Rattle.rules.specs.declared.EventState.the-variants.{Idle}
 use Rattle.rules.specs.declared.Slot.the-variants.{Empty}
+use Rattle.update.specs.Update.{when}
 use Rattle.tally.specs.Tally.{Adds}
 use Rattle.tally.specs.declared.add.Tally.{Tally}
 use Rattle.tally.proofs.Added.{adds-none}
 use Rattle.tally.proofs.Steps.{packet-adds}
 use Rattle.record.specs.Answers.{Tests, firstOf, packetTests}
 use Rattle.record.specs.FormedLaws.{WellFormed}
-use Rattle.record.specs.Room.{fitting}
 use Rattle.record.specs.declared.Counts.{Counts}
 use Rattle.record.specs.declared.Decoder.{Decoder}
 use Rattle.plan.specs.Packet.{planOf, played}
 use Rattle.plan.specs.declared.Plan.{Plan}
 use Rattle.plan.proofs.Packet.{packet-is, dropped-is}
 use Rattle.plan.specs.Packet.{withPacket}
+use Rattle.plan.specs.Words.{planWords}
 use Rattle.call.specs.Outcome.{Answers, Left, DevicesOf, TableOf, countsAfter, decoderOf, isIll, isFull, isOver, accepts, worldAt}
 use Rattle.call.specs.OutcomeLaws.{sound, refused, accepted}
 use Rattle.call.specs.StateLaws.{word-each}
-use Rattle.call.specs.State.{Logs, State, logs, state, roomBy, roomOf}
+use Rattle.call.specs.State.{Logs, State, logs, state, heldAt, roomBy, roomOf}
 use Rattle.call.specs.Share.{Known}
 use Rattle.tally.specs.Passes.{planPasses}
 use Rattle.tally.specs.Suited.{Totalled}
-use Rattle.tally.specs.Tallies.{addCounts}
+use Rattle.tally.specs.Tallies.{addCounts, roomFor}
 use Rattle.tally.proofs.Counted.{same-adds}
 use Rattle.tally.proofs.Counts.{counts-after, world-has, state-full}
 use Rattle.tally.proofs.Formed.{waiting-is, packet-full-is, packet-over-is}
+use Rattle.tally.proofs.Least.{tally-words, passes-words}
 use Rattle.tally.proofs.Totals.{totalled-over}
 use Rattle.write_packet.specs.Asked.{PlanAsks}
 use Rattle.write_packet.specs.Desk.{Desk, desk, performed}
@@ -57,7 +59,7 @@ use Rattle.packet.specs.declared.change.Change.{Change}
 use Rattle.packet.specs.declared.inner.Inner.{Inner}
 use Rattle.packet.specs.declared.sum.Sum.{Sum}
 use Rattle.packet.proofs.Changes.{changed-none}
-use Rattle.packet.proofs.Left.{Begins, entryDesk, bytes-fit, packets-fit, asks, change-placed, left}
+use Rattle.packet.proofs.Left.{Begins, entryDesk, bytes-fit, packets-fit, in-words, asks, change-placed, left}
 
 -- ---- the answer, once the first tests are passed
 
@@ -93,16 +95,16 @@ module _ (packet : List ℕ) (time : ℕ) (s : State) (h : Passes packet s) (kno
   abbrev p : Plan
   p = planOf packet (worldAt s)
 
-  full-is : isFull s (handleRawPacket packet time (worldAt s)) ≡ not (fitting (addCounts (s .decoder .counts) (tallyOf (s .decoder) p (length packet))) (roomOf (s .logs)))
+  full-is : isFull s (handleRawPacket packet time (worldAt s)) ≡ not (roomFor (heldAt s) (s .decoder .counts) (tallyOf (s .decoder) p (length packet)) (roomOf (s .logs)))
   full-is = ap (isFull s) (packet-is packet time (worldAt s) live) ∙ packet-full-is packet time s (roomOf (s .logs)) (well packet time s h)
 
   over-is : isOver (handleRawPacket packet time (worldAt s)) ≡ planPasses p
   over-is = ap isOver (packet-is packet time (worldAt s) live) ∙ packet-over-is packet time s (roomOf (s .logs)) (well packet time s h) (totalled s known)
 
   -- the sum's answer is the call's
-  sum-answer : sumPlan (s .decoder) p (length packet) (roomOf (s .logs)) .answer ≡ firstOf (testsOf packet time s)
+  sum-answer : sumPlan (s .decoder) (heldAt s) p (length packet) (roomOf (s .logs)) .answer ≡ firstOf (testsOf packet time s)
   unfolding sumPlan
-  sum-answer = by (fitting (addCounts (s .decoder .counts) (tallyOf (s .decoder) p (length packet))) (roomOf (s .logs))) (planPasses p) full-is over-is ∙ sym (answer-is packet time s h)
+  sum-answer = by (roomFor (heldAt s) (s .decoder .counts) (tallyOf (s .decoder) p (length packet)) (roomOf (s .logs))) (planPasses p) full-is over-is ∙ sym (answer-is packet time s h)
     where
       by : (a o : Bool) {full over : Bool} → full ≡ not a → over ≡ o → sumBy a o (s .decoder) (tallyOf (s .decoder) p (length packet)) .answer ≡ cond full 7 (cond over 9 (cond (isDropped (s .decoder .slot) (s .decoder .transaction)) 8 0))
       by true true e f = rw (e, f)
@@ -110,12 +112,12 @@ module _ (packet : List ℕ) (time : ℕ) (s : State) (h : Passes packet s) (kno
       by false o e f = rw e
 
   -- a refused call leaves all as it was
-  pub refused-call : (a : ℕ) → a ≡ sumPlan (s .decoder) p (length packet) (roomOf (s .logs)) .answer → accepts a ≡ false
+  pub refused-call : (a : ℕ) → a ≡ sumPlan (s .decoder) (heldAt s) p (length packet) (roomOf (s .logs)) .answer → accepts a ≡ false
       → PacketCall packet time s a (state (s .decoder) (changed keeping (s .devices)) (s .table) (s .logs))
   refused-call a e r = subst (λ (v : List Device). PacketCall packet time s a (state (s .decoder) v (s .table) (s .logs))) (sym (changed-none keeping (s .devices) refl)) (refused a (e ∙ sum-answer) r)
 
-  pub accepted-call : (b : Begins packet s) (k : Desk) → k ≡ performed p (entryDesk time s) → (y z : List ℕ) → y ≡ sets (s .logs .bytes) (s .decoder .counts .bytes) packet → z ≡ sets (s .logs .packets) (s .decoder .counts .packets * packetWidth) (s .decoder .counts .bytes ∷ time ∷ [])
-      → PacketCall packet time s 0 (state (decoderBy (s .decoder) p (sumPlan (s .decoder) p (length packet) (roomOf (s .logs))) (k .hand)) (changed (changeBy p (s .decoder .counts .devices)) (s .devices)) (k .table) (logs y (k .devices) (k .endpoints) z (s .logs .events) (k .transactions) (k .groups) (k .statebytes) (k .states) (k .items) (k .links) (k .requests)))
+  pub accepted-call : (b : Begins packet s) (k : Desk) → k ≡ performed p (entryDesk time s) → (y z : List ℕ) → y ≡ sets (s .logs .bytes) (heldAt s .bytes) packet → z ≡ sets (s .logs .packets) (heldAt s .packets * packetWidth) (s .decoder .counts .bytes ∷ time ∷ [])
+      → PacketCall packet time s 0 (state (decoderBy (s .decoder) p (sumPlan (s .decoder) (heldAt s) p (length packet) (roomOf (s .logs))) (k .hand)) (changed (changeBy p (s .decoder .counts .devices)) (s .devices)) (k .table) (logs y (k .devices) (k .endpoints) z (s .logs .events) (k .transactions) (k .groups) (k .statebytes) (k .states) (k .items) (k .links) (k .requests)))
   accepted-call b k e y z f g = accepted 0 (sym (b .sum) ∙ sum-answer) refl (left packet time s b k e y z f g)
 
 -- ---- the same, of what the code has: each part with its equation
@@ -128,25 +130,34 @@ abbrev pub deskBy : Hand → State → Desk
 deskBy h s =
     desk h (s .table) (s .logs .devices) (s .logs .endpoints) (s .logs .transactions) (s .logs .groups) (s .logs .statebytes) (s .logs .states) (s .logs .items) (s .logs .links) (s .logs .requests)
 
-pub record Decided (packet : List ℕ) (s : State) (p : Plan) (n : Counts) (z : Sum) : Type 0 where
+pub record Decided (packet : List ℕ) (s : State) (p : Plan) (h n : Counts) (z : Sum) : Type 0 where
   pub passes : Passes packet s
   pub known : Known (s .table)
   pub live : isDropped (s .decoder .slot) (s .decoder .transaction) ≡ false
   pub many : length (s .devices) ≡ 64
   pub token : startPid (s .decoder .transaction .style) < 256
   pub first : getD packet 0 0 < 256
-  pub plan : p ≡ planOf packet (worldAt s)
+  -- the plan, which the code may have made in words
+  pub words : Bool
+  pub plan : p ≡ when words planWords (planOf packet (worldAt s))
+  pub rows : h ≡ heldAt s
   pub room : n ≡ roomOf (s .logs)
-  pub sum : z ≡ sumPlan (s .decoder) p (length packet) n
+  pub sum : z ≡ sumPlan (s .decoder) h p (length packet) n
 
-module _ (packet : List ℕ) (time : ℕ) (s : State) {plan : Plan} {room : Counts} {sum : Sum} (q : Decided packet s plan room sum) where
-  sum-at : sum ≡ sumPlan (s .decoder) (planOf packet (worldAt s)) (length packet) (roomOf (s .logs))
-  sum-at = q .sum ∙ λ i. sumPlan (s .decoder) (q .plan i) (length packet) (q .room i)
+-- a plan in words has the sum of the plan
+sum-words : (b : Bool) (d : Decoder) (held : Counts) (p : Plan) (len : ℕ) (room : Counts) → sumPlan d held (when b planWords p) len room ≡ sumPlan d held p len room
+unfolding sumPlan
+sum-words true d held p len room = λ i. sumOf (passes-words p i) d held (tally-words p len (d .counts .endpoints) (d .waiting) i) room
+sum-words false d held p len room = refl
+
+module _ (packet : List ℕ) (time : ℕ) (s : State) {plan : Plan} {rows room : Counts} {sum : Sum} (q : Decided packet s plan rows room sum) where
+  sum-at : sum ≡ sumPlan (s .decoder) (heldAt s) (planOf packet (worldAt s)) (length packet) (roomOf (s .logs))
+  sum-at = q .sum ∙ ((λ i. sumPlan (s .decoder) (q .rows i) (q .plan i) (length packet) (q .room i)) ∙ sum-words (q .words) (s .decoder) (heldAt s) (planOf packet (worldAt s)) (length packet) (roomOf (s .logs)))
 
   -- an answer that is not 0 is 7 or 9
   not-accepted : (sum .answer ≡ 0 → ⊥) → accepts (sum .answer) ≡ false
   unfolding sumPlan
-  not-accepted ne = ap (λ (z : Sum). accepts (z .answer)) sum-at ∙ by (fitting _ _) (planPasses _) (λ e. ne (ap (λ (z : Sum). z .answer) sum-at ∙ e))
+  not-accepted ne = ap (λ (z : Sum). accepts (z .answer)) sum-at ∙ by (roomFor (heldAt s) (s .decoder .counts) (tallyOf (s .decoder) (planOf packet (worldAt s)) (length packet)) (roomOf (s .logs))) (planPasses _) (λ e. ne (ap (λ (z : Sum). z .answer) sum-at ∙ e))
     where
       by : (a o : Bool) → (sumBy a o (s .decoder) (tallyOf (s .decoder) (planOf packet (worldAt s)) (length packet)) .answer ≡ 0 → ⊥) → accepts (sumBy a o (s .decoder) (tallyOf (s .decoder) (planOf packet (worldAt s)) (length packet)) .answer) ≡ false
       by true true h = refl
@@ -165,31 +176,43 @@ module _ (packet : List ℕ) (time : ℕ) (s : State) {plan : Plan} {room : Coun
     begins =
         record { ill = q .passes .ill; live = q .live; known = q .known; many = q .many; token = q .token; first = q .first; sum = sym (ap (λ (z : Sum). z .answer) sum-at) ∙ ok }
 
-    pub rows-fit : (s .decoder .counts .bytes + length packet ≤ length (s .logs .bytes)) × ((s .decoder .counts .packets + 1) * packetWidth ≤ length (s .logs .packets))
-    rows-fit = (bytes-fit packet time s begins, packets-fit packet time s begins)
+    -- there is room, so the plan's numbers are words
+    plan-is : plan ≡ planOf packet (worldAt s)
+    plan-is = q .plan ∙ by (q .words)
+      where
+        by : (b : Bool) → when b planWords (planOf packet (worldAt s)) ≡ planOf packet (worldAt s)
+        by true = in-words packet time s begins
+        by false = refl
+
+    pub rows-fit : (rows .bytes + length packet ≤ length (s .logs .bytes)) × ((rows .packets + 1) * packetWidth ≤ length (s .logs .packets))
+    rows-fit =
+        subst (λ (h : Counts). (h .bytes + length packet ≤ length (s .logs .bytes)) × ((h .packets + 1) * packetWidth ≤ length (s .logs .packets))) (sym (q .rows))
+        (bytes-fit packet time s begins, packets-fit packet time s begins)
 
     pub few-devices : s .decoder .counts .devices ≤ 64
     few-devices = well packet time s (q .passes) .counts .fewDevices
 
-    pub asks-by : {h : Hand} → h ≡ handOf time (s .decoder) → PlanAsks plan (deskBy h s)
+    pub asks-by : {h : Hand} → h ≡ handOf time (s .decoder) rows (s .table) → PlanAsks plan (deskBy h s)
     asks-by {h} e =
-        subst (λ (x : Plan). PlanAsks x (deskBy h s)) (sym (q .plan))
-        (subst (λ (x : Hand). PlanAsks (planOf packet (worldAt s)) (deskBy x s)) (sym e) (asks packet time s begins))
+        subst (λ (x : Plan). PlanAsks x (deskBy h s)) (sym plan-is)
+        (subst (λ (x : Hand). PlanAsks (planOf packet (worldAt s)) (deskBy x s)) (sym (e ∙ λ i. handOf time (s .decoder) (q .rows i) (s .table))) (asks packet time s begins))
 
     pub placed-by : {c : Change} → c ≡ changeBy plan (s .decoder .counts .devices) → Placed c
-    placed-by e = subst Placed (sym (e ∙ λ i. changeBy (q .plan i) (s .decoder .counts .devices))) (change-placed packet time s begins)
+    placed-by e = subst Placed (sym (e ∙ λ i. changeBy (plan-is i) (s .decoder .counts .devices))) (change-placed packet time s begins)
 
-    pub accepted-by : {h : Hand} {k : Desk} {x : Decoder} {c : Change} {y z : List ℕ} → h ≡ handOf time (s .decoder) → k ≡ performed plan (deskBy h s)
-        → y ≡ sets (s .logs .bytes) (s .decoder .counts .bytes) packet → z ≡ sets (s .logs .packets) (s .decoder .counts .packets * packetWidth) (s .decoder .counts .bytes ∷ time ∷ [])
+    pub accepted-by : {h : Hand} {k : Desk} {x : Decoder} {c : Change} {y z : List ℕ} → h ≡ handOf time (s .decoder) rows (s .table) → k ≡ performed plan (deskBy h s)
+        → y ≡ sets (s .logs .bytes) (rows .bytes) packet → z ≡ sets (s .logs .packets) (rows .packets * packetWidth) (s .decoder .counts .bytes ∷ time ∷ [])
         → x ≡ decoderBy (s .decoder) plan sum (k .hand) → c ≡ changeBy plan (s .decoder .counts .devices)
         → PacketCall packet time s 0 (state x (changed c (s .devices)) (k .table) (logs y (k .devices) (k .endpoints) z (s .logs .events) (k .transactions) (k .groups) (k .statebytes) (k .states) (k .items) (k .links) (k .requests)))
     accepted-by {h} {k} {x} {c} {y} {z} e1 e2 f g e3 e4 =
-        let k1 : k ≡ performed (planOf packet (worldAt s)) (entryDesk time s) = e2 ∙ λ i. performed (q .plan i) (deskBy (e1 i) s) in
-        let x1 : x ≡ decoderBy (s .decoder) (planOf packet (worldAt s)) (sumPlan (s .decoder) (planOf packet (worldAt s)) (length packet) (roomOf (s .logs))) (k .hand) = e3 ∙ λ i. decoderBy (s .decoder) (q .plan i) (sum-at i) (k .hand) in
-        let c1 : c ≡ changeBy (planOf packet (worldAt s)) (s .decoder .counts .devices) = e4 ∙ λ i. changeBy (q .plan i) (s .decoder .counts .devices) in
+        let k1 : k ≡ performed (planOf packet (worldAt s)) (entryDesk time s) = e2 ∙ λ i. performed (plan-is i) (deskBy ((e1 ∙ λ j. handOf time (s .decoder) (q .rows j) (s .table)) i) s) in
+        let y1 = f ∙ ap (λ (m : Counts). sets (s .logs .bytes) (m .bytes) packet) (q .rows) in
+        let z1 = g ∙ ap (λ (m : Counts). sets (s .logs .packets) (m .packets * packetWidth) (s .decoder .counts .bytes ∷ time ∷ [])) (q .rows) in
+        let x1 : x ≡ decoderBy (s .decoder) (planOf packet (worldAt s)) (sumPlan (s .decoder) (heldAt s) (planOf packet (worldAt s)) (length packet) (roomOf (s .logs))) (k .hand) = e3 ∙ λ i. decoderBy (s .decoder) (plan-is i) (sum-at i) (k .hand) in
+        let c1 : c ≡ changeBy (planOf packet (worldAt s)) (s .decoder .counts .devices) = e4 ∙ λ i. changeBy (plan-is i) (s .decoder .counts .devices) in
         subst (λ (a : Decoder). PacketCall packet time s 0 (state a (changed c (s .devices)) (k .table) (logs y (k .devices) (k .endpoints) z (s .logs .events) (k .transactions) (k .groups) (k .statebytes) (k .states) (k .items) (k .links) (k .requests)))) (sym x1)
-        (subst (λ (a : Change). PacketCall packet time s 0 (state (decoderBy (s .decoder) (planOf packet (worldAt s)) (sumPlan (s .decoder) (planOf packet (worldAt s)) (length packet) (roomOf (s .logs))) (k .hand)) (changed a (s .devices)) (k .table) (logs y (k .devices) (k .endpoints) z (s .logs .events) (k .transactions) (k .groups) (k .statebytes) (k .states) (k .items) (k .links) (k .requests)))) (sym c1)
-        (accepted-call packet time s (q .passes) (q .known) (q .live) begins k k1 y z f g))
+        (subst (λ (a : Change). PacketCall packet time s 0 (state (decoderBy (s .decoder) (planOf packet (worldAt s)) (sumPlan (s .decoder) (heldAt s) (planOf packet (worldAt s)) (length packet) (roomOf (s .logs))) (k .hand)) (changed a (s .devices)) (k .table) (logs y (k .devices) (k .endpoints) z (s .logs .events) (k .transactions) (k .groups) (k .statebytes) (k .states) (k .items) (k .links) (k .requests)))) (sym c1)
+        (accepted-call packet time s (q .passes) (q .known) (q .live) begins k k1 y z y1 z1))
 
 -- ---- a packet that drops the suspended transaction
 
@@ -214,12 +237,12 @@ module _ (packet : List ℕ) (time : ℕ) (s : State) (h : Passes packet s) (kno
   over-none : isOver world ≡ false
   over-none = totalled-over world (totalled s known)
 
-  sum-by : (fits : Bool) → fitting (addCounts (d .counts) t) (roomOf (s .logs)) ≡ fits
+  sum-by : (fits : Bool) → roomFor (heldAt s) (d .counts) t (roomOf (s .logs)) ≡ fits
       → firstOf (testsOf packet time s) ≡ cond fits 8 7
   sum-by fits e =
       answer-is packet time s h
       ∙ (ap (λ (v : World). cond (isFull s v) 7 (cond (isOver v) 9 (cond (isDropped (d .slot) (d .transaction)) 8 0))) world-is
-      ∙ (ap (λ (f : Bool). cond f 7 (cond (isOver world) 9 (cond (isDropped (d .slot) (d .transaction)) 8 0))) (state-full s adds ∙ ap not e)
+      ∙ (ap (λ (f : Bool). cond f 7 (cond (isOver world) 9 (cond (isDropped (d .slot) (d .transaction)) 8 0))) (state-full s (well packet time s h .begun) adds ∙ ap not e)
       ∙ (ap (λ (o : Bool). cond (not fits) 7 (cond o 9 (cond (isDropped (d .slot) (d .transaction)) 8 0))) over-none
       ∙ (ap (λ (o : Bool). cond (not fits) 7 (cond o 8 0)) dropped ∙ turn fits))))
     where
@@ -227,7 +250,7 @@ module _ (packet : List ℕ) (time : ℕ) (s : State) (h : Passes packet s) (kno
       turn true = refl
       turn false = refl
 
-  left-dropped : fitting (addCounts (d .counts) t) (roomOf (s .logs)) ≡ true → (y z : List ℕ) → y ≡ sets (s .logs .bytes) (d .counts .bytes) packet → z ≡ sets (s .logs .packets) (d .counts .packets * packetWidth) (d .counts .bytes ∷ time ∷ [])
+  left-dropped : roomFor (heldAt s) (d .counts) t (roomOf (s .logs)) ≡ true → (y z : List ℕ) → y ≡ sets (s .logs .bytes) (heldAt s .bytes) packet → z ≡ sets (s .logs .packets) (heldAt s .packets * packetWidth) (d .counts .bytes ∷ time ∷ [])
       → Left world (d .finished) s (state (droppedDecoder d (after.accepted d t)) (s .devices) (s .table) (logs y (s .logs .devices) (s .logs .endpoints) z (s .logs .events) (s .logs .transactions) (s .logs .groups) (s .logs .statebytes) (s .logs .states) (s .logs .items) (s .logs .links) (s .logs .requests)))
   unfolding decoderOf
   left-dropped e y z f g =
@@ -236,14 +259,14 @@ module _ (packet : List ℕ) (time : ℕ) (s : State) (h : Passes packet s) (kno
       record {
         decoder = λ i. record { counts = n i; slot = Empty; transaction = d .transaction; last = d .last; event = Idle; keepalive = d .keepalive; waiting = m i; finished = d .finished };
         devices = record { size = refl; there = λ i u. refl; beyond = λ i u. refl };
-        table = record { size = refl; entries = λ i u. refl; words = λ i u. well packet time s h .endpoints i u .words; beyond = λ i u. refl };
+        table = record { size = refl; entries = λ i u. refl; words = λ i u. well packet time s h .endpoints i u .words; beyond = λ i u. refl; firsts = λ k. refl };
         logs =
             each-log _
-            (f ∙ ap (sets (s .logs .bytes) (d .counts .bytes)) (sym (append-nil packet)) ∙ word-each (s .logs .bytes) (log 0 (world .journal)) (d .counts .bytes))
+            (f ∙ ap (sets (s .logs .bytes) (heldAt s .bytes)) (sym (append-nil packet)) ∙ word-each (s .logs .bytes) (log 0 (world .journal)) (heldAt s .bytes))
             refl refl g refl refl refl refl refl refl refl refl;
       }
 
-  sum-is : (b : Bool) → fitting (addCounts (d .counts) t) (roomOf (s .logs)) ≡ b → sumDropped d (length packet) (roomOf (s .logs)) ≡ sumBy b false d t
+  sum-is : (b : Bool) → roomFor (heldAt s) (d .counts) t (roomOf (s .logs)) ≡ b → sumDropped d (heldAt s) (length packet) (roomOf (s .logs)) ≡ sumBy b false d t
   unfolding sumDropped
   sum-is b e = ap (λ (c : Bool). sumBy c false d t) e
 
@@ -251,20 +274,20 @@ module _ (packet : List ℕ) (time : ℕ) (s : State) (h : Passes packet s) (kno
   abbrev stateBy : Decoder → List ℕ → List ℕ → State
   stateBy x y z = state x (s .devices) (s .table) (logs y (s .logs .devices) (s .logs .endpoints) z (s .logs .events) (s .logs .transactions) (s .logs .groups) (s .logs .statebytes) (s .logs .states) (s .logs .items) (s .logs .links) (s .logs .requests))
 
-  pub dropped-call : (r : Inner) (y z : List ℕ) → Drops d keeping packet time (roomOf (s .logs)) (s .logs .bytes) (s .logs .packets) r y z
+  pub dropped-call : (r : Inner) (y z : List ℕ) → Drops d (heldAt s) keeping packet time (roomOf (s .logs)) (s .logs .bytes) (s .logs .packets) r y z
       → PacketCall packet time s (r .answer) (state (r .decoder) (changed (r .change) (s .devices)) (s .table) (logs y (s .logs .devices) (s .logs .endpoints) z (s .logs .events) (s .logs .transactions) (s .logs .groups) (s .logs .statebytes) (s .logs .states) (s .logs .items) (s .logs .links) (s .logs .requests)))
   dropped-call r y z q =
       subst (λ (v : List Device). PacketCall packet time s (r .answer) (state (r .decoder) v (s .table) (logs y (s .logs .devices) (s .logs .endpoints) z (s .logs .events) (s .logs .transactions) (s .logs .groups) (s .logs .statebytes) (s .logs .states) (s .logs .items) (s .logs .links) (s .logs .requests))))
       (sym (ap (λ (c : Change). changed c (s .devices)) (q .change) ∙ changed-none keeping (s .devices) refl))
-      (by (fitting (addCounts (d .counts) t) (roomOf (s .logs))) refl)
+      (by (roomFor (heldAt s) (d .counts) t (roomOf (s .logs))) refl)
     where
-      by : (b : Bool) → fitting (addCounts (d .counts) t) (roomOf (s .logs)) ≡ b → PacketCall packet time s (r .answer) (state (r .decoder) (s .devices) (s .table) (logs y (s .logs .devices) (s .logs .endpoints) z (s .logs .events) (s .logs .transactions) (s .logs .groups) (s .logs .statebytes) (s .logs .states) (s .logs .items) (s .logs .links) (s .logs .requests)))
+      by : (b : Bool) → roomFor (heldAt s) (d .counts) t (roomOf (s .logs)) ≡ b → PacketCall packet time s (r .answer) (state (r .decoder) (s .devices) (s .table) (logs y (s .logs .devices) (s .logs .endpoints) z (s .logs .events) (s .logs .transactions) (s .logs .groups) (s .logs .statebytes) (s .logs .states) (s .logs .items) (s .logs .links) (s .logs .requests)))
       by true e =
           let q1 = sum-is true e in
           let a : r .answer ≡ 8 = q .answer ∙ ap (λ (z : Sum). cond (eqb (z .answer) 0) 8 (z .answer)) q1 in
           let c : r .decoder ≡ droppedDecoder d (after.accepted d t) = q .decoder ∙ ap (λ (z : Sum). cond (eqb (z .answer) 0) (droppedDecoder d z) d) q1 in
-          let u = q .bytes ∙ ap (λ (z : Sum). cond (eqb (z .answer) 0) (sets (s .logs .bytes) (d .counts .bytes) packet) (s .logs .bytes)) q1 in
-          let v = q .packets ∙ ap (λ (z : Sum). cond (eqb (z .answer) 0) (sets (s .logs .packets) (d .counts .packets * packetWidth) (d .counts .bytes ∷ time ∷ [])) (s .logs .packets)) q1 in
+          let u = q .bytes ∙ ap (λ (z : Sum). cond (eqb (z .answer) 0) (sets (s .logs .bytes) (heldAt s .bytes) packet) (s .logs .bytes)) q1 in
+          let v = q .packets ∙ ap (λ (z : Sum). cond (eqb (z .answer) 0) (sets (s .logs .packets) (heldAt s .packets * packetWidth) (d .counts .bytes ∷ time ∷ [])) (s .logs .packets)) q1 in
           accepted (r .answer) (a ∙ sym (sum-by true e)) (ap accepts a)
           (subst (λ (x : Decoder). Left (handleRawPacket packet time (worldAt s)) (d .finished) s (stateBy x y z)) (sym c)
           (subst (λ (x : World). Left x (d .finished) s (stateBy (droppedDecoder d (after.accepted d t)) y z)) (sym world-is) (left-dropped e y z u v)))
@@ -272,17 +295,18 @@ module _ (packet : List ℕ) (time : ℕ) (s : State) (h : Passes packet s) (kno
           let q1 = sum-is false e in
           let a : r .answer ≡ 7 = q .answer ∙ ap (λ (z : Sum). cond (eqb (z .answer) 0) 8 (z .answer)) q1 in
           let c : r .decoder ≡ d = q .decoder ∙ ap (λ (z : Sum). cond (eqb (z .answer) 0) (droppedDecoder d z) d) q1 in
-          let u = q .bytes ∙ ap (λ (z : Sum). cond (eqb (z .answer) 0) (sets (s .logs .bytes) (d .counts .bytes) packet) (s .logs .bytes)) q1 in
-          let v = q .packets ∙ ap (λ (z : Sum). cond (eqb (z .answer) 0) (sets (s .logs .packets) (d .counts .packets * packetWidth) (d .counts .bytes ∷ time ∷ [])) (s .logs .packets)) q1 in
+          let u = q .bytes ∙ ap (λ (z : Sum). cond (eqb (z .answer) 0) (sets (s .logs .bytes) (heldAt s .bytes) packet) (s .logs .bytes)) q1 in
+          let v = q .packets ∙ ap (λ (z : Sum). cond (eqb (z .answer) 0) (sets (s .logs .packets) (heldAt s .packets * packetWidth) (d .counts .bytes ∷ time ∷ [])) (s .logs .packets)) q1 in
           subst (λ (x : State). PacketCall packet time s (r .answer) x) (λ i. stateBy (sym c i) (sym u i) (sym v i)) (refused (r .answer) (a ∙ sym (sum-by false e)) (ap accepts a))
 
-  pub dropped-by : {none : Change} {room : Counts} (r : Inner) (y z : List ℕ) → none ≡ keeping → room ≡ roomOf (s .logs) → Drops d none packet time room (s .logs .bytes) (s .logs .packets) r y z
+  pub dropped-by : {none : Change} {rows room : Counts} (r : Inner) (y z : List ℕ) → none ≡ keeping → rows ≡ heldAt s → room ≡ roomOf (s .logs) → Drops d rows none packet time room (s .logs .bytes) (s .logs .packets) r y z
       → Placed (r .change) × PacketCall packet time s (r .answer) (state (r .decoder) (changed (r .change) (s .devices)) (s .table) (logs y (s .logs .devices) (s .logs .endpoints) z (s .logs .events) (s .logs .transactions) (s .logs .groups) (s .logs .statebytes) (s .logs .states) (s .logs .items) (s .logs .links) (s .logs .requests)))
-  dropped-by {none} {room} r y z e f q = (
+  dropped-by {none} {rows} {room} r y z e g f q = (
     none-placed (q .change ∙ e),
     dropped-call r y z
-        (subst (λ (c : Change). Drops d c packet time (roomOf (s .logs)) (s .logs .bytes) (s .logs .packets) r y z) e
-        (subst (λ (n : Counts). Drops d none packet time n (s .logs .bytes) (s .logs .packets) r y z) f q)),
+        (subst (λ (c : Change). Drops d (heldAt s) c packet time (roomOf (s .logs)) (s .logs .bytes) (s .logs .packets) r y z) e
+        (subst (λ (n : Counts). Drops d (heldAt s) none packet time n (s .logs .bytes) (s .logs .packets) r y z) f
+        (subst (λ (h : Counts). Drops d h none packet time room (s .logs .bytes) (s .logs .packets) r y z) g q))),
   )
 
 -- the room of the two logs that a packet's own rows go to

@@ -30,8 +30,10 @@ use Rattle.tally.specs.Tally.{wordsIn, inLog, wordsFor, Adds}
 use Rattle.tally.specs.declared.add.Tally.{Tally}
 use Rattle.update.specs.Update.{when, decideResume}
 use Rattle.record.specs.FormedLaws.{WellFormed}
-use Rattle.record.specs.Room.{fitting}
-use Rattle.record.specs.RoomLaws.{Within, within, Short}
+use Rattle.record.specs.TabledLaws.{first-kept}
+use Rattle.record.specs.Bools.{both}
+use Rattle.record.specs.Room.{fitting, numbered}
+use Rattle.record.specs.RoomLaws.{Within, within, Short, Numbered, numbered-is}
 use Rattle.record.specs.declared.Counts.{Counts}
 use Rattle.record.specs.declared.Decoder.{Decoder}
 use Rattle.plan.specs.Packet.{resumes, slotThen, going, oldEndpoint, transactionThen, planBy, planOf, played}
@@ -42,19 +44,21 @@ use Rattle.plan.proofs.Packet.{packet-is}
 use Rattle.plan.proofs.Played.{played-log, played-event, played-keepalive, played-slot, tiedTo, Tied, played-tied}
 use Rattle.plan.specs.Devices.{changes, addsDevice}
 use Rattle.plan.proofs.Devices.{played-devices, played-device-count, plan-behind}
-use Rattle.plan.proofs.Sound.{Sane, fits-packet, played-count}
+use Rattle.plan.proofs.Sound.{Sane, fits-packet, played-count, words-packet}
+use Rattle.plan.specs.Words.{planWords}
 use Rattle.call.specs.Outcome.{countsAfter, decoderOf, DevicesOf, TableOf, Appends, Left, isIll, worldAt}
 use Rattle.call.specs.OutcomeLaws.{sound}
 use Rattle.call.specs.StateLaws.{word-each}
-use Rattle.call.specs.State.{Logs, State, logs, state, roomBy, roomOf}
+use Rattle.call.specs.State.{Logs, State, logs, state, roomBy, roomOf, heldAt}
 use Rattle.call.specs.Share.{Known, tied}
 use Rattle.tally.specs.Passes.{planPasses}
-use Rattle.tally.specs.Tallies.{tallyPlan, addCounts}
+use Rattle.tally.specs.Tallies.{tallyPlan, addCounts, roomFor}
+use Rattle.tally.proofs.Least.{plan-links, plan-rows}
 use Rattle.tally.proofs.Counted.{played-adds}
 use Rattle.tally.proofs.Counts.{counts-after, world-has}
 use Rattle.tally.proofs.Formed.{three, old-stands, waiting-is}
 use Rattle.tally.proofs.Planned.{plan-suits}
-use Rattle.write.specs.Holds.{Space}
+use Rattle.write.specs.Holds.{Space, Worded}
 use Rattle.write_packet.specs.Asked.{RoomAll, PlanAsks}
 use Rattle.write_packet.specs.Desk.{Desk, desk, performed}
 use Rattle.write_packet.specs.Held.{HoldsAll, Matches, SpaceAll, Brought}
@@ -69,7 +73,7 @@ use Rattle.packet.proofs.Places.{plan-place}
 -- the desk at the call's entry
 abbrev pub entryDesk : ℕ → State → Desk
 entryDesk time s =
-    desk (handOf time (s .decoder)) (s .table) (s .logs .devices) (s .logs .endpoints) (s .logs .transactions) (s .logs .groups) (s .logs .statebytes) (s .logs .states) (s .logs .items) (s .logs .links) (s .logs .requests)
+    desk (handOf time (s .decoder) (heldAt s) (s .table)) (s .table) (s .logs .devices) (s .logs .endpoints) (s .logs .transactions) (s .logs .groups) (s .logs .statebytes) (s .logs .states) (s .logs .items) (s .logs .links) (s .logs .requests)
 
 -- what the code knows when it is to write: the tests that were passed, and what is known of the arguments
 pub record Begins (packet : List ℕ) (s : State) : Type 0 where
@@ -79,11 +83,12 @@ pub record Begins (packet : List ℕ) (s : State) : Type 0 where
   pub many : length (s .devices) ≡ 64
   pub token : startPid (s .decoder .transaction .style) < 256
   pub first : getD packet 0 0 < 256
-  pub sum : sumPlan (s .decoder) (planOf packet (worldAt s)) (length packet) (roomOf (s .logs)) .answer ≡ 0
+  pub sum : sumPlan (s .decoder) (heldAt s) (planOf packet (worldAt s)) (length packet) (roomOf (s .logs)) .answer ≡ 0
 
 -- a sum with the answer 0: there is room, and no total passes
-sum-room : (over : Bool) (d : Decoder) (t : Tally) (room : Counts) → sumOf over d t room .answer ≡ 0 → (fitting (addCounts (d .counts) t) room ≡ true) × ((over ≡ false) × (sumOf over d t room ≡ accepted d t))
-sum-room over d t room h = by (fitting (addCounts (d .counts) t) room) over h
+sum-room : (over : Bool) (d : Decoder) (held : Counts) (t : Tally) (room : Counts) → sumOf over d held t room .answer ≡ 0
+    → (roomFor held (d .counts) t room ≡ true) × ((over ≡ false) × (sumOf over d held t room ≡ accepted d t))
+sum-room over d held t room h = by (roomFor held (d .counts) t room) over h
   where
     by : (b o : Bool) → sumBy b o d t .answer ≡ 0 → (b ≡ true) × ((o ≡ false) × (sumBy b o d t ≡ accepted d t))
     by true true h = absurd (omega arith)
@@ -108,6 +113,10 @@ module _ (packet : List ℕ) (time : ℕ) (s : State) (b : Begins packet s) wher
   abbrev room : Counts
   room = roomOf (s .logs)
 
+  -- the rows held
+  abbrev n : Counts
+  n = heldAt s
+
   abbrev t : Tally
   t = tallyOf d p (length packet)
 
@@ -123,12 +132,19 @@ module _ (packet : List ℕ) (time : ℕ) (s : State) (b : Begins packet s) wher
 
   -- ---- room
 
-  summed : (fitting (addCounts (d .counts) t) room ≡ true) × ((planPasses p ≡ false) × (sumOf (planPasses p) d t room ≡ accepted d t))
+  summed : (roomFor n (d .counts) t room ≡ true) × ((planPasses p ≡ false) × (sumOf (planPasses p) d n t room ≡ accepted d t))
   unfolding sumPlan
-  summed = sum-room (planPasses p) d t room (b .sum)
+  summed = sum-room (planPasses p) d n t room (b .sum)
 
-  roomy : Within (addCounts (d .counts) t) room
-  roomy = within (addCounts (d .counts) t) room (summed .0)
+  fitted : (fitting (addCounts n t) room ≡ true) × (numbered (addCounts (d .counts) t) ≡ true)
+  fitted = both (fitting (addCounts n t) room) (numbered (addCounts (d .counts) t)) (summed .0)
+
+  roomy : Within (addCounts n t) room
+  roomy = within (addCounts n t) room (fitted .0)
+
+  -- the numbers then
+  numbers : Numbered (addCounts (d .counts) t)
+  numbers = numbered-is (addCounts (d .counts) t) (fitted .1)
 
   adds : Adds t w after
   adds =
@@ -166,11 +182,11 @@ module _ (packet : List ℕ) (time : ℕ) (s : State) (b : Begins packet s) wher
   events-are : log 4 (after .journal) ≡ []
   events-are = played-log 4 refl refl refl refl refl refl refl refl refl p packet time w
 
-  pub bytes-fit : d .counts .bytes + length packet ≤ length (s .logs .bytes)
+  pub bytes-fit : n .bytes + length packet ≤ length (s .logs .bytes)
   unfolding inLog addCounts roomBy
   bytes-fit = let e = ap length bytes-are in omega (arith, words 0, roomy .bytes, e)
 
-  pub packets-fit : (d .counts .packets + 1) * packetWidth ≤ length (s .logs .packets)
+  pub packets-fit : (n .packets + 1) * packetWidth ≤ length (s .logs .packets)
   unfolding inLog addCounts roomBy
   packets-fit = let e = ap length packets-are in omega (arith, words 3, roomy .packets, e)
 
@@ -183,8 +199,11 @@ module _ (packet : List ℕ) (time : ℕ) (s : State) (b : Begins packet s) wher
         special = let h = three well in omega (arith, h);
         room = let c = played-count packet time w in let e = adds .endpoints in let f = roomy .fewEndpoints in omega (arith, c, e, f);
         devices = well .counts .fewDevices;
-        transactions = λ j h. let e = well .endpoints j h .entry .transactions in let l = well .counts .links in let r = brief .links in omega (arith, e, l, r);
-        groups = λ j h. let e = well .endpoints j h .entry .groups in let l = well .counts .links in let r = brief .links in omega (arith, e, l, r);
+        links = d .counts .links;
+        few = λ j h. let e = well .endpoints j h .entry in record { transactions = e .transactions; groups = e .groups };
+        linked = let l = plan-links p (length packet) (d .counts .endpoints) (d .waiting) in omega (arith, l, numbers .links);
+        started = let l = plan-links p (length packet) (d .counts .endpoints) (d .waiting) in omega (arith, l, numbers .links);
+        rows = let r = plan-rows packet w (length packet) (d .counts .endpoints) (d .waiting) in omega (arith, r, numbers .transactions);
         fits = λ j h. fits-entry (s .table) j;
         old = old-stands well;
         token = b .token;
@@ -193,7 +212,11 @@ module _ (packet : List ℕ) (time : ℕ) (s : State) (b : Begins packet s) wher
 
   fits : PlanFits p packet time w
   unfolding planPasses
-  fits = fits-packet packet time w sane (λ q. other-false (p .closes) _ (summed .1 .0) q)
+  fits = fits-packet packet w sane time (λ q. other-false (p .closes) _ (summed .1 .0) q)
+
+  -- the plan that the code has made in words is the plan
+  pub in-words : planWords p ≡ p
+  in-words = words-packet packet w sane
 
   -- the old transaction, once it is resumed
   then-is : world2 p packet time w .transaction ≡ transactionThen (w .slot) (w .transactions) (w .endpoints (oldEndpoint (w .slot) (w .transaction))) (w .transaction)
@@ -228,10 +251,9 @@ module _ (packet : List ℕ) (time : ℕ) (s : State) (b : Begins packet s) wher
         linked = refl;
         link = refl;
         lastItem = refl;
-        groups = refl;
-        statebytes = refl;
-        items = refl;
-        transactions = refl;
+        groups = omega (arith, well .begun .groups);
+        statebytes = omega (arith, well .begun .statebytes);
+        items = omega (arith, well .begun .items);
         devices = refl;
         endpoints = refl;
       }
@@ -239,13 +261,23 @@ module _ (packet : List ℕ) (time : ℕ) (s : State) (b : Begins packet s) wher
   held : HoldsAll (entryDesk time s) after (performed p (entryDesk time s))
   held = played-holds p packet time w fits brought (all-start packet time w (entryDesk time s) refl refl matches)
 
+  -- the numbers that it ends with are words
+  worded : Worded after
+  unfolding addCounts
+  worded =
+      record {
+        groups = let e = adds .groups in let f = numbers .groups in omega (arith, e, f);
+        statebytes = let e = adds .statebytes in let f = numbers .statebytes in omega (arith, e, f);
+        items = let e = adds .items in let f = numbers .items in omega (arith, e, f);
+      }
+
   pub asks : PlanAsks p (entryDesk time s)
-  asks = ready p packet time w fits brought (all-start packet time w (entryDesk time s) refl refl matches) (room-all held space)
+  asks = ready p packet time w fits brought (all-start packet time w (entryDesk time s) refl refl matches) (room-all held space worded)
 
   -- ---- what it leaves
 
   abbrev sum : Sum
-  sum = sumPlan d p (length packet) room
+  sum = sumPlan d n p (length packet) room
 
   sum-is : sum ≡ accepted d t
   unfolding sumPlan
@@ -272,6 +304,10 @@ module _ (packet : List ℕ) (time : ℕ) (s : State) (b : Begins packet s) wher
         let l = now-held .memory .lastItem in
         λ i. record { counts = n i; slot = sym g i; transaction = transaction-is i; last = l i; event = sym v i; keepalive = sym a i; waiting = m i; finished = d .finished }
 
+    few : after .count ≤ 128
+    unfolding addCounts
+    few = let e = adds .endpoints in let f = roomy .fewEndpoints in omega (arith, e, f)
+
     table-is : TableOf after (s .table) (k .table)
     table-is =
         let a = now-held .table in
@@ -280,6 +316,7 @@ module _ (packet : List ℕ) (time : ℕ) (s : State) (b : Begins packet s) wher
           entries = now-held .memory .endpoints;
           words = a .stored;
           beyond = a .beyond;
+          firsts = λ j. first-kept a few j;
         }
 
   -- ---- the devices
@@ -327,22 +364,22 @@ module _ (packet : List ℕ) (time : ℕ) (s : State) (b : Begins packet s) wher
 
   -- ---- all of it
 
-  module _ (k : Desk) (e : k ≡ performed p (entryDesk time s)) (y z : List ℕ) (f : y ≡ sets (s .logs .bytes) (d .counts .bytes) packet) (g : z ≡ sets (s .logs .packets) (d .counts .packets * packetWidth) (d .counts .bytes ∷ time ∷ [])) where
-    logs-are : Appends after (d .counts) (s .logs) (logs y (k .devices) (k .endpoints) z (s .logs .events) (k .transactions) (k .groups) (k .statebytes) (k .states) (k .items) (k .links) (k .requests))
+  module _ (k : Desk) (e : k ≡ performed p (entryDesk time s)) (y z : List ℕ) (f : y ≡ sets (s .logs .bytes) (n .bytes) packet) (g : z ≡ sets (s .logs .packets) (n .packets * packetWidth) (d .counts .bytes ∷ time ∷ [])) where
+    logs-are : Appends after n (s .logs) (logs y (k .devices) (k .endpoints) z (s .logs .events) (k .transactions) (k .groups) (k .statebytes) (k .states) (k .items) (k .links) (k .requests))
     logs-are =
         let h = now-held k e in
         let m = h .memory in
         each-log _
-        (f ∙ ap (sets (s .logs .bytes) (d .counts .bytes)) (sym bytes-are) ∙ word-each (s .logs .bytes) (log 0 (after .journal)) (d .counts .bytes))
-        (h .devices .written ∙ word-each (s .logs .devices) (log 1 (after .journal)) (d .counts .devices))
+        (f ∙ ap (sets (s .logs .bytes) (n .bytes)) (sym bytes-are) ∙ word-each (s .logs .bytes) (log 0 (after .journal)) (n .bytes))
+        (h .devices .written ∙ word-each (s .logs .devices) (log 1 (after .journal)) (n .devices))
         (h .endpoints .written)
-        (g ∙ ap (sets (s .logs .packets) (d .counts .packets * packetWidth)) (sym packets-are))
-        (ap (sets (s .logs .events) (d .counts .events * eventWidth)) (sym events-are))
+        (g ∙ ap (sets (s .logs .packets) (n .packets * packetWidth)) (sym packets-are))
+        (ap (sets (s .logs .events) (n .events * eventWidth)) (sym events-are))
         (h .transactions .written)
         (m .groups .written)
-        (m .statebytes .written ∙ word-each (s .logs .statebytes) (log 7 (after .journal)) (d .counts .statebytes))
-        (m .states .written ∙ word-each (s .logs .states) (log 8 (after .journal)) (d .counts .states))
-        (m .items .written ∙ word-each (s .logs .items) (log 9 (after .journal)) (d .counts .items))
+        (m .statebytes .written ∙ word-each (s .logs .statebytes) (log 7 (after .journal)) (n .statebytes))
+        (m .states .written ∙ word-each (s .logs .states) (log 8 (after .journal)) (n .states))
+        (m .items .written ∙ word-each (s .logs .items) (log 9 (after .journal)) (n .items))
         (m .links .written)
         (h .requests .written)
 

@@ -15,11 +15,10 @@ use Rattle.rules.specs.World.{_▷_, stamp}
 use Rattle.tally.specs.Tally.{none, addPacket}
 use Rattle.update.specs.Update.{when}
 use Rattle.tally.specs.declared.add.Tally.{Tally}
-use Rattle.record.specs.Room.{fitting}
 use Rattle.record.specs.declared.Counts.{Counts}
 use Rattle.record.specs.declared.Decoder.{Decoder}
 use Rattle.write_packet.specs.declared.Hand.{Hand}
-use Rattle.tally.specs.Tallies.{tallyPlan, addCounts}
+use Rattle.tally.specs.Tallies.{tallyPlan, addCounts, roomFor}
 use Rattle.tally.specs.Passes.{planPasses}
 use Rattle.plan.specs.Devices.{changes, rowThen, addsDevice, addressOf}
 use Rattle.plan.specs.declared.Plan.{Plan}
@@ -41,8 +40,8 @@ sumBy true false d t = accepted d t
 sumBy true true d t = refusal d 9
 sumBy false over d t = refusal d 7
 
-abbrev pub sumOf : Bool → Decoder → Tally → Counts → Sum
-sumOf over d t room = sumBy (fitting (addCounts (d .counts) t) room) over d t
+abbrev pub sumOf : Bool → Decoder → Counts → Tally → Counts → Sum
+sumOf over d held t room = sumBy (roomFor held (d .counts) t room) over d t
 
 -- a packet of so many bytes that drops the suspended transaction; any other
 abbrev pub tallyOfDropped : ℕ → ℕ → Tally
@@ -51,25 +50,26 @@ tallyOfDropped waiting len = none waiting ▷ addPacket len
 abbrev pub tallyDropped : Decoder → ℕ → Tally
 tallyDropped d len = tallyOfDropped (d .waiting) len
 
-unfoldable pub sumDropped : Decoder → ℕ → Counts → Sum
-sumDropped d len room = sumOf false d (tallyDropped d len) room
+unfoldable pub sumDropped : Decoder → Counts → ℕ → Counts → Sum
+sumDropped d held len room = sumOf false d held (tallyDropped d len) room
 
 abbrev pub tallyOf : Decoder → Plan → ℕ → Tally
 tallyOf d p len = tallyPlan p len (d .counts .endpoints) (d .waiting)
 
-unfoldable pub sumPlan : Decoder → Plan → ℕ → Counts → Sum
-sumPlan d p len room = sumOf (planPasses p) d (tallyOf d p len) room
+unfoldable pub sumPlan : Decoder → Counts → Plan → ℕ → Counts → Sum
+sumPlan d held p len room = sumOf (planPasses p) d held (tallyOf d p len) room
 
 -- ---- the record
 
-abbrev pub handOf : ℕ → Decoder → Hand
-handOf time d =
+-- where the call begins to write: `held` rows are held
+abbrev pub handOf : ℕ → Decoder → Counts → List ℕ → Hand
+handOf time d held t =
     record {
-      written = writtenOf (stamp (d .counts .packets) time) d;
-      transactions = d .counts .transactions;
-      devices = d .counts .devices;
-      endpoints = d .counts .endpoints;
-      requests = d .counts .requests;
+      written = writtenOf (stamp (d .counts .packets) time) held d t;
+      transactions = held .transactions;
+      devices = held .devices;
+      endpoints = held .endpoints;
+      requests = held .requests;
     }
 
 abbrev pub droppedDecoder : Decoder → Sum → Decoder

@@ -17,6 +17,7 @@ use endpoints::Table;
 use plan::Plan;
 use record::Counts;
 use record::Decoder;
+use record::room::held_of;
 use rows::width;
 use rules::EventState;
 use rules::Slot;
@@ -27,14 +28,14 @@ use write_packet::perform;
 ghost use mathlib.Core.Bool.{false};
 ghost use mathlib.Core.List.{[], _∷_};
 ghost use mathlib.Core.Path.{_≡_};
-ghost use Prim.Native.Nat.{_+_, _*_, _≤_, _^_};
+ghost use Prim.Native.Nat.{_+_, _*_, _≤_};
 ghost use lib.ListN.{length};
 ghost use lib.Seq.{sets};
 ghost use Rattle.rows.specs.Widths.{packetWidth};
 ghost use Rattle.rules.specs.Transactions.{isDropped};
 ghost use Rattle.call.specs.State.{state, logs};
 ghost use Rattle.packet.specs.Call.{PacketCall};
-ghost use Rattle.tally.specs.Tallies.{Under};
+ghost use Rattle.tally.specs.Tallies.{Countable};
 ghost use Rattle.packet.specs.After.{handOf, droppedDecoder, decoderBy, changed, Placed};
 ghost use Rattle.packet.specs.Dropped.{Drops};
 ghost use Rattle.packet.specs.Lent.{SomeLent, ForLent};
@@ -57,17 +58,16 @@ fn is_dropped(slot: Slot, t: Transaction) -> bool
     }
 }
 
-// Where the call begins to write, and what it brings.
-pub fn hand_of(d: Decoder, time: u64) -> Hand
-    ensures { λ r. ⌜ r ≡ handOf time d ⌝ }
+// Where the call begins to write, behind the rows held, and what it brings.
+pub fn hand_of(d: Decoder, held: Counts, time: u64, table: &Table) -> Hand
+    ensures { λ r. ⌜ r ≡ handOf time d held (now (table .entry)) ⌝ }
 {
-    let n = d.counts;
     Hand {
-        written: written_of(stamp_of(n, time), d),
-        transactions: n.transactions,
-        devices: n.devices,
-        endpoints: n.endpoints,
-        requests: n.requests,
+        written: written_of(stamp_of(d.counts, time), held, d, table),
+        transactions: held.transactions,
+        devices: held.devices,
+        endpoints: held.endpoints,
+        requests: held.requests,
     }
 }
 
@@ -110,22 +110,30 @@ fn decoder_by(d: Decoder, plan: Plan, sum: Sum, h: Hand) -> Decoder
     }
 }
 
-// The packet's bytes, and its row.
-pub fn put_packet(n: Counts, packet: &[u8], time: u64, bytes: &mut [u8], packets: &mut [u64])
-    requires { ⌜ n .bytes + length (now packet) ≤ length (now bytes) ⌝ }
-    requires { ⌜ (n .packets + 1) * packetWidth ≤ length (now packets) ⌝ }
-    ensures { λ r. ⌜ now (bytes .exit) ≡ sets (now (bytes .entry)) (n .bytes) (now (packet .entry)) ⌝ }
-    ensures { λ r. ⌜ now (packets .exit) ≡ sets (now (packets .entry)) (n .packets * packetWidth) (n .bytes ∷ time ∷ []) ⌝ }
+// The packet's bytes, and its row, which names the first of them; behind the rows held.
+pub fn put_packet(
+    start: usize,
+    held: Counts,
+    packet: &[u8],
+    time: u64,
+    bytes: &mut [u8],
+    packets: &mut [u64],
+)
+    requires { ⌜ held .bytes + length (now packet) ≤ length (now bytes) ⌝ }
+    requires { ⌜ (held .packets + 1) * packetWidth ≤ length (now packets) ⌝ }
+    ensures { λ r. ⌜ now (bytes .exit) ≡ sets (now (bytes .entry)) (held .bytes) (now (packet .entry)) ⌝ }
+    ensures { λ r. ⌜ now (packets .exit) ≡ sets (now (packets .entry)) (held .packets * packetWidth) (start ∷ time ∷ []) ⌝ }
 {
-    let b = n.bytes;
-    let p = n.packets;
+    let b = held.bytes;
+    let p = held.packets;
     rows::put_bytes(bytes, b, packet);
-    rows::put2(packets, p * width::PACKET, b as u64, time);
+    rows::put2(packets, p * width::PACKET, start as u64, time);
 }
 
 // The packet drops the suspended transaction: its own rows are all that is written.
 fn drop_packet(
     d: Decoder,
+    held: Counts,
     none: Change,
     packet: &[u8],
     time: u64,
@@ -135,12 +143,12 @@ fn drop_packet(
 ) -> Inner
     requires { ⌜ length (now packet) ≤ 4096 ⌝ }
     requires { ⌜ d .waiting ≤ 128 ⌝ }
-    requires { ⌜ Under (2 ^ 40) (d .counts) ⌝ }
+    requires { ⌜ Countable held (d .counts) ⌝ }
     requires { ⌜ room .bytes ≤ length (now bytes) ⌝ }
     requires { ⌜ room .packets * packetWidth ≤ length (now packets) ⌝ }
-    ensures { λ r. ⌜ Drops d none (now (packet .entry)) time room (now (bytes .entry)) (now (packets .entry)) r (now (bytes .exit)) (now (packets .exit)) ⌝ }
+    ensures { λ r. ⌜ Drops d held none (now (packet .entry)) time room (now (bytes .entry)) (now (packets .entry)) r (now (bytes .exit)) (now (packets .exit)) ⌝ }
 {
-    let sum = sum_dropped(d, packet.len(), room);
+    let sum = sum_dropped(d, held, packet.len(), room);
     if sum.answer != 0 {
         return Inner {
             answer: sum.answer,
@@ -148,7 +156,8 @@ fn drop_packet(
             change: none,
         };
     }
-    put_packet(d.counts, packet, time, bytes, packets);
+    let n = d.counts;
+    put_packet(n.bytes, held, packet, time, bytes, packets);
     Inner {
         answer: 8,
         decoder: dropped_decoder(d, sum),
@@ -205,11 +214,12 @@ pub fn packet_in(
     let style = held.style;
     let _token = start_pid(style);
     let none = no_change();
+    let rows = held_of(n, table);
     if is_dropped(slot, held) {
-        return drop_packet(d, none, packet, time, room, bytes, packets);
+        return drop_packet(d, rows, none, packet, time, room, bytes, packets);
     }
     let plan = plan_near(d, near, table, packet);
-    let sum = sum_plan(d, plan, packet.len(), room);
+    let sum = sum_plan(d, rows, plan, packet.len(), room);
     if sum.answer != 0 {
         return Inner {
             answer: sum.answer,
@@ -218,10 +228,10 @@ pub fn packet_in(
         };
     }
     let change = change_of(plan, n.devices);
-    put_packet(n, packet, time, bytes, packets);
+    put_packet(n.bytes, rows, packet, time, bytes, packets);
     let hand = perform(
         plan,
-        hand_of(d, time),
+        hand_of(d, rows, time, table),
         table,
         device_rows,
         endpoint_rows,

@@ -2,16 +2,16 @@
 use plan::Plan;
 use record::Counts;
 use record::Decoder;
-use record::room::fits;
 use tally::add::tally_none;
 use tally::add::tally_packet;
 use tally::add_counts;
+use tally::has_room_for;
 use tally::plan_passes;
 use tally::tally_plan;
 ghost use mathlib.Core.Bool.{false};
 ghost use mathlib.Core.Path.{_≡_};
-ghost use Prim.Native.Nat.{_≤_, _^_};
-ghost use Rattle.tally.specs.Tallies.{Under};
+ghost use Prim.Native.Nat.{_≤_};
+ghost use Rattle.tally.specs.Tallies.{Countable};
 ghost use Rattle.packet.specs.After.{refusal, sumDropped, sumPlan};
 
 // The answers of 01's table.
@@ -41,20 +41,20 @@ fn refuse(d: Decoder, answer: u8) -> Sum
     }
 }
 
-// The packet that drops the suspended transaction: its own rows.
-pub fn sum_dropped(d: Decoder, len: usize, room: Counts) -> Sum
+// The packet that drops the suspended transaction: its own rows. The logs hold the rows `held`.
+pub fn sum_dropped(d: Decoder, held: Counts, len: usize, room: Counts) -> Sum
     requires { ⌜ len ≤ 4096 ⌝ }
     requires { ⌜ d .waiting ≤ 128 ⌝ }
-    requires { ⌜ Under (2 ^ 40) (d .counts) ⌝ }
-    ensures { λ r. ⌜ r ≡ sumDropped d len room ⌝ }
+    requires { ⌜ Countable held (d .counts) ⌝ }
+    ensures { λ r. ⌜ r ≡ sumDropped d held len room ⌝ }
 {
+    let n = d.counts;
     let t = tally_none(d.waiting);
     let t = tally_packet(len, t);
-    let counts = add_counts(d.counts, t);
-    if fits(counts, room) {
+    if has_room_for(held, n, t, room) {
         Sum {
             answer: 0,
-            counts,
+            counts: add_counts(n, t),
             waiting: t.waiting,
         }
     } else {
@@ -63,13 +63,13 @@ pub fn sum_dropped(d: Decoder, len: usize, room: Counts) -> Sum
 }
 
 // Any other, by its steps.
-pub fn sum_plan(d: Decoder, plan: Plan, len: usize, room: Counts) -> Sum
+pub fn sum_plan(d: Decoder, held: Counts, plan: Plan, len: usize, room: Counts) -> Sum
     requires { ⌜ len ≤ 4096 ⌝ }
     requires { ⌜ d .waiting ≤ 128 ⌝ }
-    requires { ⌜ Under (2 ^ 40) (d .counts) ⌝ }
+    requires { ⌜ Countable held (d .counts) ⌝ }
     requires { ⌜ d .counts .endpoints ≤ 128 ⌝ }
     requires { ⌜ plan .resume .endpoint ≡ false ⌝ }
-    ensures { λ r. ⌜ r ≡ sumPlan d plan len room ⌝ }
+    ensures { λ r. ⌜ r ≡ sumPlan d held plan len room ⌝ }
 {
     let n = d.counts;
     let begin = plan.begin;
@@ -78,14 +78,13 @@ pub fn sum_plan(d: Decoder, plan: Plan, len: usize, room: Counts) -> Sum
         return refuse(d, NO_ROOM);
     }
     let t = tally_plan(plan, len, endpoints, d.waiting);
-    let counts = add_counts(n, t);
-    if fits(counts, room) {
+    if has_room_for(held, n, t, room) {
         if plan_passes(plan) {
             return refuse(d, TOTAL);
         }
         return Sum {
             answer: 0,
-            counts,
+            counts: add_counts(n, t),
             waiting: t.waiting,
         };
     }

@@ -12,4 +12,5 @@ pub mod Olds
 pub mod Packet
 pub mod Small
 pub mod Bounded
+pub mod Words
 pub mod Sound

@@ -1,7 +1,7 @@
--- Bounds that the steps keep: an entry's counts grow by at most one with each step, and its bytes stay bytes.
+-- Bounds that the steps keep: an entry's counts grow by the rows that a step adds, and its bytes stay bytes.
 use mathlib.Core.Path.{_≡_, refl, sym, ap, subst, _∙_}
 use mathlib.Core.Bool.{Bool, true, false}
-use Prim.Native.Nat.{ℕ, suc, _+_, _^_, _<_, _≤_}
+use Prim.Native.Nat.{ℕ, _+_, _<_, _≤_}
 use native.Mathlib.Omega.{arith}
 use borrow.Author.Tests.{eqb-true, eqb-false}
 use lib.Dec.{eqb}
@@ -78,38 +78,34 @@ after-fits u pid h e f =
     start-fits : (e : Endpoint) → Fits e → Fits (startEntry e)
     start-fits e q = record { address = q .address; state = omega arith; first = q .first; last = q .last }
 
--- ---- counts: below 2^60, and at most k more
+-- ---- counts: at most a T rows and b G rows
 
-pub record Few (k : ℕ) (e : Endpoint) : Type 0 where
-  pub transactions : e .transactions < 2 ^ 60 + k
-  pub groups : e .groups < 2 ^ 60 + k
+pub record Few (a b : ℕ) (e : Endpoint) : Type 0 where
+  pub transactions : e .transactions ≤ a
+  pub groups : e .groups ≤ b
 
-pub record Small (k : ℕ) (e : Endpoint) : Type 0 where
-  pub few : Few k e
+pub record Small (a b : ℕ) (e : Endpoint) : Type 0 where
+  pub few : Few a b e
   pub fits : Fits e
 
-one-le : (b : Bool) → one b ≤ 1
-one-le true = omega arith
-one-le false = omega arith
+pub few-more : {a b c d : ℕ} {e : Endpoint} → a ≤ c → b ≤ d → Few a b e → Few c d e
+few-more h g f = record { transactions = omega (arith, h, f .transactions); groups = omega (arith, g, f .groups) }
 
-pub few-more : {k : ℕ} {e : Endpoint} → Few k e → Few (suc k) e
-few-more f = record { transactions = omega arith; groups = omega arith }
+pub small-more : {a b c d : ℕ} {e : Endpoint} → a ≤ c → b ≤ d → Small a b e → Small c d e
+small-more h g s = record { few = few-more h g (s .few); fits = s .fits }
 
-pub small-more : {k : ℕ} {e : Endpoint} → Small k e → Small (suc k) e
-small-more s = record { few = few-more (s .few); fits = s .fits }
-
-after-few : {k : ℕ} (u : Update) (pid : ℕ) (e : Endpoint) → Few k e → Few (suc k) (entryAfter u pid e)
+after-few : {a b : ℕ} (u : Update) (pid : ℕ) (e : Endpoint) → Few a b e → Few (a + one (u .link)) (b + one (u .start)) (entryAfter u pid e)
 after-few u pid e f =
-    record { transactions = omega (arith, own-adds (λ a. a .transactions) one no transactions-added u pid e, one-le (u .link), f .transactions); groups = omega (arith, own-adds (λ a. a .groups) no one groups-added u pid e, one-le (u .start), f .groups) }
+    record { transactions = omega (arith, own-adds (λ a. a .transactions) one no transactions-added u pid e, f .transactions); groups = omega (arith, own-adds (λ a. a .groups) no one groups-added u pid e, f .groups) }
 
-pub after-small : {k : ℕ} (u : Update) (pid : ℕ) → pid < 256 → (e : Endpoint) → Small k e → Small (suc k) (entryAfter u pid e)
+pub after-small : {a b : ℕ} (u : Update) (pid : ℕ) → pid < 256 → (e : Endpoint) → Small a b e → Small (a + one (u .link)) (b + one (u .start)) (entryAfter u pid e)
 after-small u pid h e s = record { few = after-few u pid e (s .few); fits = after-fits u pid h e (s .fits) }
 
-pub linked-small : {k : ℕ} (e : Endpoint) → Small k e → Small (suc k) (moreTransactions e)
-linked-small e s = record { few = record { transactions = omega (arith, s .few .transactions); groups = omega (arith, s .few .groups) }; fits = record { address = s .fits .address; state = s .fits .state; first = s .fits .first; last = s .fits .last } }
+pub linked-small : {a b : ℕ} (e : Endpoint) → Small a b e → Small (a + 1) b (moreTransactions e)
+linked-small e s = record { few = record { transactions = omega (arith, s .few .transactions); groups = s .few .groups }; fits = record { address = s .fits .address; state = s .fits .state; first = s .fits .first; last = s .fits .last } }
 
 -- as group_status leaves it
-pub group-small : {k : ℕ} (e : Endpoint) (t : Transaction) (d : Detail) (success complete : Bool) → Small k e → Small k (groupStatus e t d success complete .endpoint)
+pub group-small : {a b : ℕ} (e : Endpoint) (t : Transaction) (d : Detail) (success complete : Bool) → Small a b e → Small a b (groupStatus e t d success complete .endpoint)
 group-small e t d success complete s =
     let g = group-keeps e t d success complete in
     record {
@@ -117,67 +113,67 @@ group-small e t d success complete s =
       fits = record { address = omega (arith, g .address, s .fits .address); state = omega (arith, g .state, s .fits .state); first = omega (arith, g .first, s .fits .first); last = omega (arith, g .last, s .fits .last) };
     }
 
-pub new-small : (d address : ℕ) → address < 256 → Small 0 (newEndpoint d address)
+pub new-small : {a b : ℕ} (d address : ℕ) → address < 256 → Small a b (newEndpoint d address)
 new-small d address h = record { few = record { transactions = omega arith; groups = omega arith }; fits = record { address = h; state = omega arith; first = omega arith; last = omega arith } }
 
 -- ---- of every endpoint of a world
 
-abbrev pub FewAll : ℕ → World → Type 0
-FewAll k w = (j : ℕ) → j < w .count → Few k (w .endpoints j)
+abbrev pub FewAll : ℕ → ℕ → World → Type 0
+FewAll a b w = (j : ℕ) → j < w .count → Few a b (w .endpoints j)
 
 pub act-count : (u : Update) (x : ℕ) (w : World) → act u x w .count ≡ w .count
 act-count u x w = ap (λ (r : Rest). r .count) (act-rest u x w)
 
-pub act-few : {k : ℕ} (u : Update) (x : ℕ) (w : World) → FewAll k w → FewAll (suc k) (act u x w)
-act-few {k} u x w f j h = by (eqb j x) refl
+pub act-few : {a b : ℕ} (u : Update) (x : ℕ) (w : World) → FewAll a b w → FewAll (a + one (u .link)) (b + one (u .start)) (act u x w)
+act-few {a} {b} u x w f j h = by (eqb j x) refl
   where
-    before : Few k (w .endpoints j)
+    before : Few a b (w .endpoints j)
     before = f j (omega (arith, act-count u x w))
 
-    by : (b : Bool) → eqb j x ≡ b → Few (suc k) (act u x w .endpoints j)
+    by : (c : Bool) → eqb j x ≡ c → Few (a + one (u .link)) (b + one (u .start)) (act u x w .endpoints j)
     by true q =
         let o = act-adds-own (λ e. e .transactions) one no transactions-added u x w in
         let g = act-adds-own (λ e. e .groups) no one groups-added u x w in
-        subst (λ (i : ℕ). Few (suc k) (act u x w .endpoints i)) (sym (eqb-true j x q))
-        (let b = subst (λ (i : ℕ). Few k (w .endpoints i)) (eqb-true j x q) before in
-        record { transactions = omega (arith, one-le (u .link), b .transactions); groups = omega (arith, one-le (u .start), b .groups) })
+        subst (λ (i : ℕ). Few (a + one (u .link)) (b + one (u .start)) (act u x w .endpoints i)) (sym (eqb-true j x q))
+        (let k = subst (λ (i : ℕ). Few a b (w .endpoints i)) (eqb-true j x q) before in
+        record { transactions = omega (arith, k .transactions, o); groups = omega (arith, k .groups, g) })
     by false q =
         record { transactions = omega (arith, act-keeps-other (λ e. e .transactions) one no transactions-added u x j w (eqb-false j x q), before .transactions); groups = omega (arith, act-keeps-other (λ e. e .groups) no one groups-added u x j w (eqb-false j x q), before .groups) }
 
-pub change-few : {k : ℕ} (x : ℕ) (e : Endpoint) (w : World) → Few k e → FewAll k w → FewAll k (change x (becomes e) w)
-change-few {k} x e w g f j h = by (eqb j x)
+pub change-few : {a b : ℕ} (x : ℕ) (e : Endpoint) (w : World) → Few a b e → FewAll a b w → FewAll a b (change x (becomes e) w)
+change-few {a} {b} x e w g f j h = by (eqb j x)
   where
-    by : (b : Bool) → Few k (pick b e (w .endpoints j))
+    by : (c : Bool) → Few a b (pick c e (w .endpoints j))
     by true = g
     by false = f j h
 
-pub effect-few : {k : ℕ} (f : Effect) (x : ℕ) (w : World) → FewAll k w → FewAll k (effectStep f x w)
+pub effect-few : {a b : ℕ} (f : Effect) (x : ℕ) (w : World) → FewAll a b w → FewAll a b (effectStep f x w)
 effect-few f x w g j h =
     let b = g j (omega (arith, ap (λ (b : Base). b .count) (effect-base f x w))) in
     record { transactions = omega (arith, effect-keeps (λ e. e .transactions) (λ n i e. refl) (λ n e. refl) f x j w, b .transactions); groups = omega (arith, effect-keeps (λ e. e .groups) (λ n i e. refl) (λ n e. refl) f x j w, b .groups) }
 
 -- with a new endpoint
-push-few : {k : ℕ} (d address : ℕ) (w : World) → FewAll k w → FewAll k (pushEndpoint d address w)
-push-few {k} d address w f j h = by (eqb j (w .count)) refl
+push-few : {a b : ℕ} (d address : ℕ) (w : World) → FewAll a b w → FewAll a b (pushEndpoint d address w)
+push-few {a} {b} d address w f j h = by (eqb j (w .count)) refl
   where
-    by : (b : Bool) → eqb j (w .count) ≡ b → Few k (pick b (newEndpoint d address) (w .endpoints j))
+    by : (c : Bool) → eqb j (w .count) ≡ c → Few a b (pick c (newEndpoint d address) (w .endpoints j))
     by true q = record { transactions = omega arith; groups = omega arith }
     by false q = let ne = eqb-false j (w .count) q in f j (omega arith)
 
 module _ (id : ℕ) (s : Beginning) (w : World) where
-  pub opened-few : {k : ℕ} → FewAll k w → FewAll k (opened id s w)
+  pub opened-few : {a b : ℕ} → FewAll a b w → FewAll a b (opened id s w)
   unfolding opened
-  opened-few {k} f =
-      let a = when (s .row) (pushTransaction id) w in
-      let b = when (s .device) (addDevice (s .owner)) a in
-      let c = when (s .endpoint) (pushEndpoint (s .place) (s .number)) b in
-      when-holds (FewAll k) (s .types) (changeDevice (s .place) (typed (s .number) (s .kind))) c
-      (when-holds (FewAll k) (s .endpoint) (pushEndpoint (s .place) (s .number)) b
-      (when-holds (FewAll k) (s .device) (addDevice (s .owner)) a (when-holds (FewAll k) (s .row) (pushTransaction id) w f (λ v g. g)) (λ v g. g))
+  opened-few {a} {b} f =
+      let c = when (s .row) (pushTransaction id) w in
+      let d = when (s .device) (addDevice (s .owner)) c in
+      let e = when (s .endpoint) (pushEndpoint (s .place) (s .number)) d in
+      when-holds (FewAll a b) (s .types) (changeDevice (s .place) (typed (s .number) (s .kind))) e
+      (when-holds (FewAll a b) (s .endpoint) (pushEndpoint (s .place) (s .number)) d
+      (when-holds (FewAll a b) (s .device) (addDevice (s .owner)) c (when-holds (FewAll a b) (s .row) (pushTransaction id) w f (λ v g. g)) (λ v g. g))
       (push-few (s .place) (s .number)))
       (λ v g. g)
 
-  pub begun-few : {k : ℕ} → FewAll k w → FewAll (suc k) (begun id s w)
+  pub begun-few : {a b : ℕ} → FewAll a b w → FewAll (a + one (s .update .link)) (b + one (s .update .start)) (begun id s w)
   unfolding begun
   begun-few f = act-few (s .update) (s .transaction .endpoint) (withTransaction (s .transaction) (opened id s w)) (opened-few f)
 
@@ -201,7 +197,7 @@ module _ (id : ℕ) (s : Beginning) (w : World) where
   begun-count = act-count (s .update) (s .transaction .endpoint) (withTransaction (s .transaction) (opened id s w)) ∙ opened-count
 
 module _ (x : ℕ) (s : End) (w : World) where
-  pub ended-few : {k : ℕ} → Few k (s .entry) → FewAll k w → FewAll (suc k) (ended x s w)
+  pub ended-few : {a b : ℕ} → Few a b (s .entry) → FewAll a b w → FewAll (a + one (s .update .link)) (b + one (s .update .start)) (ended x s w)
   unfolding ended
   ended-few g f = effect-few (s .effect) x (act (s .update) x (change x (becomes (s .entry)) w)) (act-few (s .update) x (change x (becomes (s .entry)) w) (change-few x (s .entry) w g f))
 

@@ -19,24 +19,24 @@ use Rattle.rules.specs.declared.Slot.the-variants.{Current}
 use Rattle.tally.specs.Tally.{tallyUpdate}
 use Rattle.write_update.specs.Carried.{opened, closed}
 use Rattle.record.specs.Bools.{both}
-use Rattle.record.specs.Room.{fitting}
-use Rattle.record.specs.RoomLaws.{Within, fitting-within}
+use Rattle.record.specs.Room.{fitting, mostNumber, numbered}
+use Rattle.record.specs.RoomLaws.{Within, Numbered, fitting-within, is-numbered}
 use Rattle.record.specs.declared.Counts.{Counts}
 use Rattle.record.specs.declared.Decoder.{Decoder}
 use Rattle.plan.specs.Packet.{planOf}
 use Rattle.plan.specs.declared.Plan.{Plan}
 use Rattle.call.specs.Outcome.{worldAt}
-use Rattle.call.specs.State.{State, state, logs, roomBy, roomOf}
+use Rattle.call.specs.State.{State, state, logs, heldAt, roomBy, roomOf}
 use Rattle.endpoints.specs.Link.{T}
 use Rattle.tally.specs.Passes.{planPasses}
-use Rattle.tally.specs.Tallies.{tallyPlan, tallyBegin, addCounts}
+use Rattle.tally.specs.Tallies.{tallyPlan, tallyBegin, addCounts, roomFor}
 use Rattle.write_packet.specs.Desk.{begunDesk}
 use Rattle.write_packet.specs.Asked.{PlanAsks}
 use Rattle.packet.specs.After.{sumBy, sumPlan, tallyOf, handOf, changeBy, isChange}
 use Rattle.packet.proofs.Answers.{deskBy}
 use Rattle.packet.specs.Call.{PacketCall}
 use Rattle.packet.specs.declared.sum.Sum.{Sum}
-use Rattle.quick.specs.Begin.{onlyBegin, BeginOnly, beginCounts, beginRoom, beginDecoder, beginTable, beginState, BeginFits}
+use Rattle.quick.specs.Begin.{onlyBegin, BeginOnly, beginCounts, mostNumbers, beginRoom, beginDecoder, beginTable, beginState, BeginFits, BeginRoom}
 use Rattle.quick.proofs.Calls.{Enters, well, leftWith, shape-asks, shape-rows, shape-call}
 
 -- ---- the shape
@@ -78,33 +78,8 @@ plain n len a b =
     let long : n .bytes + (0 + len) ≡ n .bytes + len = omega arith in
     λ i. record { bytes = long i; devices = same (n .devices) i; endpoints = same (n .endpoints) i; packets = n .packets + 1; events = same (n .events) i; transactions = n .transactions + a; groups = same (n .groups) i; statebytes = same (n .statebytes) i; states = same (n .states) i; items = same (n .items) i; links = n .links + b; requests = same (n .requests) i }
 
-abbrev pub beginSum : Bool → Bool → ℕ → Decoder → Sum
-beginSum row l len d = record { answer = 0; counts = beginCounts row l len (d .counts); waiting = d .waiting }
-
-module _ (p : Plan) (t : Transaction) (slot : Slot) (d : Decoder) (len : ℕ) where
-  counts-by : (row l : Bool) → addCounts (d .counts) (tallyOf d (onlyBegin p row t l slot) len) ≡ beginCounts row l len (d .counts)
-  unfolding addCounts tallyPlan tallyBegin tallyUpdate
-  counts-by true true = plain (d .counts) len 1 1
-  counts-by true false = plain (d .counts) len 1 0
-  counts-by false true = plain (d .counts) len 0 1
-  counts-by false false = plain (d .counts) len 0 0
-
-  waiting-by : (row l : Bool) → tallyOf d (onlyBegin p row t l slot) len .waiting ≡ d .waiting
-  unfolding tallyPlan tallyBegin tallyUpdate
-  waiting-by true true = refl
-  waiting-by true false = refl
-  waiting-by false true = refl
-  waiting-by false false = refl
-
-  pub sum-by : (row l : Bool) (room : Counts) → fitting (beginCounts row l len (d .counts)) room ≡ true
-      → sumPlan d (onlyBegin p row t l slot) len room ≡ beginSum row l len d
-  unfolding sumPlan planPasses
-  sum-by row l room e =
-      ap (λ (b : Bool). sumBy b false d (tallyOf d (onlyBegin p row t l slot) len)) (ap (λ (n : Counts). fitting n room) (counts-by row l) ∙ e)
-      ∙ λ i. record { answer = 0; counts = counts-by row l i; waiting = waiting-by row l i }
-
--- the room, of counts that fitted before
-pub fits-by : (row l : Bool) (len : ℕ) (n room : Counts) → Within n room → BeginFits row l len n room → fitting (beginCounts row l len n) room ≡ true
+-- the rows, of those that fitted before
+fits-by : (row l : Bool) (len : ℕ) (n room : Counts) → Within n room → BeginFits row l len n room → fitting (beginCounts row l len n) room ≡ true
 fits-by row l len n room w f =
     fitting-within (beginCounts row l len n) room
     (record {
@@ -124,6 +99,44 @@ fits-by row l len n room w f =
       requests = w .requests;
     })
 
+-- and their numbers
+numbers-by : (row l : Bool) (len : ℕ) (n : Counts) → Numbered n → BeginFits row l len n mostNumbers → numbered (beginCounts row l len n) ≡ true
+numbers-by row l len n m f =
+    is-numbered (beginCounts row l len n)
+    (record { bytes = f .bytes; packets = f .packets; events = m .events; transactions = f .transactions; groups = m .groups; statebytes = m .statebytes; states = m .states; items = m .items; links = f .links })
+
+abbrev pub beginSum : Bool → Bool → ℕ → Decoder → Sum
+beginSum row l len d = record { answer = 0; counts = beginCounts row l len (d .counts); waiting = d .waiting }
+
+module _ (p : Plan) (t : Transaction) (slot : Slot) (d : Decoder) (len : ℕ) where
+  counts-by : (row l : Bool) (n : Counts) → addCounts n (tallyOf d (onlyBegin p row t l slot) len) ≡ beginCounts row l len n
+  unfolding addCounts tallyPlan tallyBegin tallyUpdate
+  counts-by true true n = plain n len 1 1
+  counts-by true false n = plain n len 1 0
+  counts-by false true n = plain n len 0 1
+  counts-by false false n = plain n len 0 0
+
+  waiting-by : (row l : Bool) → tallyOf d (onlyBegin p row t l slot) len .waiting ≡ d .waiting
+  unfolding tallyPlan tallyBegin tallyUpdate
+  waiting-by true true = refl
+  waiting-by true false = refl
+  waiting-by false true = refl
+  waiting-by false false = refl
+
+  -- the room, of rows and numbers that fitted before
+  room-by : (row l : Bool) (held room : Counts) → Within held room → Numbered (d .counts) → BeginRoom row l len held (d .counts) room → roomFor held (d .counts) (tallyOf d (onlyBegin p row t l slot) len) room ≡ true
+  room-by row l held room w m f =
+      let a : fitting (addCounts held (tallyOf d (onlyBegin p row t l slot) len)) room ≡ true = ap (λ (n : Counts). fitting n room) (counts-by row l held) ∙ fits-by row l len held room w (f .rows) in
+      let b : numbered (addCounts (d .counts) (tallyOf d (onlyBegin p row t l slot) len)) ≡ true = ap numbered (counts-by row l (d .counts)) ∙ numbers-by row l len (d .counts) m (f .numbers) in
+      λ i. a i && b i
+
+  pub sum-by : (row l : Bool) (held room : Counts) → Within held room → Numbered (d .counts) → BeginRoom row l len held (d .counts) room
+      → sumPlan d held (onlyBegin p row t l slot) len room ≡ beginSum row l len d
+  unfolding sumPlan planPasses
+  sum-by row l held room w m f =
+      ap (λ (b : Bool). sumBy b false d (tallyOf d (onlyBegin p row t l slot) len)) (room-by row l held room w m f)
+      ∙ λ i. record { answer = 0; counts = counts-by row l (d .counts) i; waiting = waiting-by row l i }
+
 -- ---- the steps
 
 pub left-by : (p : Plan) (t : Transaction) (packet : List ℕ) (time : ℕ) (s : State) (row l : Bool)
@@ -136,26 +149,25 @@ left-by p t packet time s false false = refl
 
 -- ---- a plan that comes to it
 
-abbrev pub BeginWants : State → Transaction → Type 0
-BeginWants s t = (t .endpoint < s .decoder .counts .endpoints) × ((s .decoder .counts .endpoints ≤ 128) × (entryAt (s .table) (t .endpoint) .transactions + 1 < 2 ^ 64))
+abbrev pub BeginWants : State → Transaction → Bool → Type 0
+BeginWants s t l = (t .endpoint < s .decoder .counts .endpoints) × ((s .decoder .counts .endpoints ≤ 128) × (entryAt (s .table) (t .endpoint) .transactions + one l < 2 ^ 64))
 
 pub record BeginPlan (packet : List ℕ) (time : ℕ) (s : State) (row : Bool) (t : Transaction) (l : Bool) : Type 0 where
   pub plan : Plan
   pub is : planOf packet (worldAt s) ≡ plan
-  pub summed : sumPlan (s .decoder) plan (length packet) (roomOf (s .logs)) ≡ beginSum row l (length packet) (s .decoder)
+  pub summed : sumPlan (s .decoder) (heldAt s) plan (length packet) (roomOf (s .logs)) ≡ beginSum row l (length packet) (s .decoder)
   pub left : leftWith plan (beginSum row l (length packet) (s .decoder)) packet time s ≡ beginState row t l packet time s
   pub kept : isChange (changeBy plan (s .decoder .counts .devices)) ≡ false
   -- what the code asks before it writes: the endpoint is there, and its count has room for one more
-  pub wants : PlanAsks plan (deskBy (handOf time (s .decoder)) s) → BeginWants s t
+  pub wants : PlanAsks plan (deskBy (handOf time (s .decoder) (heldAt s) (s .table)) s) → BeginWants s t l
 
 module _ (packet : List ℕ) (time : ℕ) (s : State) (h : Enters packet s) where
-  pub only-plan : {row : Bool} {t : Transaction} {l : Bool} → BeginOnly (planOf packet (worldAt s)) row t l Current → BeginFits row l (length packet) (s .decoder .counts) (roomOf (s .logs)) → BeginPlan packet time s row t l
+  pub only-plan : {row : Bool} {t : Transaction} {l : Bool} → BeginOnly (planOf packet (worldAt s)) row t l Current → BeginRoom row l (length packet) (heldAt s) (s .decoder .counts) (roomOf (s .logs)) → BeginPlan packet time s row t l
   only-plan {row} {t} {l} q f =
       record {
         plan = onlyBegin (planOf packet (worldAt s)) row t l Current;
         is = shape q;
-        summed = sum-by (planOf packet (worldAt s)) t Current (s .decoder) (length packet) row l (roomOf (s .logs))
-            (fits-by row l (length packet) (s .decoder .counts) (roomOf (s .logs)) (well packet time s h .counts) f);
+        summed = sum-by (planOf packet (worldAt s)) t Current (s .decoder) (length packet) row l (heldAt s) (roomOf (s .logs)) (well packet time s h .counts) (well packet time s h .numbered) f;
         left = left-by (planOf packet (worldAt s)) t packet time s row l;
         kept = refl;
         wants = λ a. (a .begin .there, (a .begin .few, a .begin .transactions));
@@ -167,34 +179,52 @@ module _ (packet : List ℕ) (time : ℕ) (s : State) (h : Enters packet s) wher
     pub begin-call : {s′ : State} → s′ ≡ beginState row t l packet time s → PacketCall packet time s 0 s′
     begin-call e = subst (PacketCall packet time s 0) (q .left ∙ sym e) (shape-call packet time s h (q .is) (q .summed) refl (q .kept))
 
-    pub begin-asks : BeginWants s t
+    pub begin-asks : BeginWants s t l
     begin-asks = q .wants (shape-asks packet time s h (q .is) (q .summed) refl)
 
-    pub begin-rows : (s .decoder .counts .bytes + length packet ≤ length (s .logs .bytes)) × ((s .decoder .counts .packets + 1) * packetWidth ≤ length (s .logs .packets))
+    pub begin-rows : (heldAt s .bytes + length packet ≤ length (s .logs .bytes)) × ((heldAt s .packets + 1) * packetWidth ≤ length (s .logs .packets))
     begin-rows = shape-rows packet time s h (q .is) (q .summed) refl
 
     -- of what the code has: each part with its equation (begin_only)
-    pub begin-by : {r : Decoder} {table bytes packets transactions rows : List ℕ}
-        → r ≡ beginDecoder (beginCounts row l (length packet) (s .decoder .counts)) t l (s .table) (s .decoder)
+    pub begin-by : {held : Counts} {r : Decoder} {table bytes packets transactions rows : List ℕ}
+        → held ≡ heldAt s
+        → r ≡ beginDecoder row t l (length packet) (s .table) (s .decoder)
         → table ≡ beginTable l (t .endpoint) (s .table)
-        → bytes ≡ sets (s .logs .bytes) (s .decoder .counts .bytes) packet
-        → packets ≡ sets (s .logs .packets) (s .decoder .counts .packets * packetWidth) (s .decoder .counts .bytes ∷ time ∷ [])
-        → transactions ≡ sets (s .logs .transactions) (s .decoder .counts .transactions * transactionWidth) (opt row (transactionWords (naming (s .decoder .counts .packets))))
-        → rows ≡ sets (s .logs .links) (s .decoder .counts .links * linkWidth) (opt l (T ∷ t .endpoint ∷ t .id ∷ 0 ∷ []))
+        → bytes ≡ sets (s .logs .bytes) (held .bytes) packet
+        → packets ≡ sets (s .logs .packets) (held .packets * packetWidth) (s .decoder .counts .bytes ∷ time ∷ [])
+        → transactions ≡ sets (s .logs .transactions) (held .transactions * transactionWidth) (opt row (transactionWords (naming (s .decoder .counts .packets))))
+        → rows ≡ sets (s .logs .links) (held .links * linkWidth) (opt l (T ∷ t .endpoint ∷ t .id ∷ 0 ∷ []))
         → PacketCall packet time s 0 (state r (s .devices) table (logs bytes (s .logs .devices) (s .logs .endpoints) packets (s .logs .events) transactions (s .logs .groups) (s .logs .statebytes) (s .logs .states) (s .logs .items) rows (s .logs .requests)))
-    begin-by p1 p2 p3 p4 p5 p6 =
+    begin-by {held} e p1 p2 q3 q4 q5 q6 =
+        let p3 = q3 ∙ ap (λ (h : Counts). sets (s .logs .bytes) (h .bytes) packet) e in
+        let p4 = q4 ∙ ap (λ (h : Counts). sets (s .logs .packets) (h .packets * packetWidth) (s .decoder .counts .bytes ∷ time ∷ [])) e in
+        let p5 = q5 ∙ ap (λ (h : Counts). sets (s .logs .transactions) (h .transactions * transactionWidth) (opt row (transactionWords (naming (s .decoder .counts .packets))))) e in
+        let p6 = q6 ∙ ap (λ (h : Counts). sets (s .logs .links) (h .links * linkWidth) (opt l (T ∷ t .endpoint ∷ t .id ∷ 0 ∷ []))) e in
         begin-call (λ i. state (p1 i) (s .devices) (p2 i) (logs (p3 i) (s .logs .devices) (s .logs .endpoints) (p4 i) (s .logs .events) (p5 i) (s .logs .groups) (s .logs .statebytes) (s .logs .states) (s .logs .items) (p6 i) (s .logs .requests)))
 
-pub begin-more : (s : State) (row l : Bool) (len : ℕ) → BeginFits row l len (s .decoder .counts) (roomOf (s .logs))
-    → ((s .decoder .counts .transactions + one row) * transactionWidth ≤ length (s .logs .transactions)) × ((s .decoder .counts .links + one l) * linkWidth ≤ length (s .logs .links))
+pub begin-more : (s : State) (row l : Bool) (len : ℕ) → BeginFits row l len (heldAt s) (roomOf (s .logs))
+    → ((heldAt s .transactions + one row) * transactionWidth ≤ length (s .logs .transactions)) × ((heldAt s .links + one l) * linkWidth ≤ length (s .logs .links))
 unfolding roomBy
 begin-more s row l len f = let a = f .transactions in let b = f .links in (omega (arith, a), omega (arith, b))
 
--- the four comparisons that begin_fits has made
-pub room-fits : (row l : Bool) (len : ℕ) (n room : Counts) → beginRoom (beginCounts row l len n) room ≡ true → BeginFits row l len n room
-room-fits row l len n room h =
-    let m = beginCounts row l len n in
-    let a = both ((leb (m .bytes) (room .bytes) && leb (m .packets) (room .packets)) && leb (m .transactions) (room .transactions)) _ h in
-    let b = both (leb (m .bytes) (room .bytes) && leb (m .packets) (room .packets)) _ (a .0) in
-    let c = both (leb (m .bytes) (room .bytes)) _ (b .0) in
-    record { bytes = leb-true _ _ (c .0); packets = leb-true _ _ (c .1); transactions = leb-true _ _ (b .1); links = leb-true _ _ (a .1) }
+-- the comparisons that begin_fits has made
+pub room-fits : (row l : Bool) (len : ℕ) (held n room : Counts) → beginRoom row l len held n room ≡ true → BeginRoom row l len held n room
+room-fits row l len held n room h =
+    let r1 = leb (held .bytes + len) (room .bytes) in
+    let r2 = leb (held .packets + 1) (room .packets) in
+    let r3 = leb (held .transactions + one row) (room .transactions) in
+    let r4 = leb (held .links + one l) (room .links) in
+    let n1 = leb (n .bytes + len) mostNumber in
+    let n2 = leb (n .packets + 1) mostNumber in
+    let n3 = leb (n .transactions + one row) mostNumber in
+    let a = both ((((((r1 && r2) && r3) && r4) && n1) && n2) && n3) _ h in
+    let b = both (((((r1 && r2) && r3) && r4) && n1) && n2) n3 (a .0) in
+    let c = both ((((r1 && r2) && r3) && r4) && n1) n2 (b .0) in
+    let d = both (((r1 && r2) && r3) && r4) n1 (c .0) in
+    let e = both ((r1 && r2) && r3) r4 (d .0) in
+    let f = both (r1 && r2) r3 (e .0) in
+    let g = both r1 r2 (f .0) in
+    record {
+      rows = record { bytes = leb-true _ _ (g .0); packets = leb-true _ _ (g .1); transactions = leb-true _ _ (f .1); links = leb-true _ _ (e .1) };
+      numbers = record { bytes = leb-true _ _ (d .1); packets = leb-true _ _ (c .1); transactions = leb-true _ _ (b .1); links = leb-true _ _ (a .1) };
+    }

@@ -15,7 +15,7 @@ use Rattle.plan.specs.declared.Plan.{Plan}
 use Rattle.call.specs.Outcome.{isIll, worldAt}
 use Rattle.call.specs.OutcomeLaws.{sound}
 use Rattle.call.specs.Share.{Known}
-use Rattle.call.specs.State.{State, state, logs, roomOf}
+use Rattle.call.specs.State.{State, state, logs, heldAt, roomOf}
 use Rattle.write_packet.specs.Asked.{PlanAsks}
 use Rattle.write_packet.specs.Desk.{Desk, performed}
 use Rattle.packet.specs.After.{sumPlan, handOf, decoderBy, changeBy, changed, isChange}
@@ -38,16 +38,16 @@ pub record Enters (packet : List ℕ) (s : State) : Type 0 where
 -- what the plan q with the sum z leaves, where it changes no device
 abbrev pub leftWith : Plan → Sum → List ℕ → ℕ → State → State
 leftWith q z packet time s =
-    let k = performed q (deskBy (handOf time (s .decoder)) s) in
+    let k = performed q (deskBy (handOf time (s .decoder) (heldAt s) (s .table)) s) in
     state (decoderBy (s .decoder) q z (k .hand)) (s .devices) (k .table)
-    (logs (sets (s .logs .bytes) (s .decoder .counts .bytes) packet) (k .devices) (k .endpoints) (sets (s .logs .packets) (s .decoder .counts .packets * packetWidth) (s .decoder .counts .bytes ∷ time ∷ [])) (s .logs .events) (k .transactions) (k .groups) (k .statebytes) (k .states) (k .items) (k .links) (k .requests))
+    (logs (sets (s .logs .bytes) (heldAt s .bytes) packet) (k .devices) (k .endpoints) (sets (s .logs .packets) (heldAt s .packets * packetWidth) (s .decoder .counts .bytes ∷ time ∷ [])) (s .logs .events) (k .transactions) (k .groups) (k .statebytes) (k .states) (k .items) (k .links) (k .requests))
 
 module _ (packet : List ℕ) (time : ℕ) (s : State) (h : Enters packet s) where
   pub well : WellFormed (s .decoder) (s .devices) (s .table) (roomOf (s .logs))
   well = sound s (h .ill) .0
 
-  module _ {q : Plan} {z : Sum} (e : planOf packet (worldAt s) ≡ q) (f : sumPlan (s .decoder) q (length packet) (roomOf (s .logs)) ≡ z) (ok : z .answer ≡ 0) where
-    decided : Decided packet s q (roomOf (s .logs)) z
+  module _ {q : Plan} {z : Sum} (e : planOf packet (worldAt s) ≡ q) (f : sumPlan (s .decoder) (heldAt s) q (length packet) (roomOf (s .logs)) ≡ z) (ok : z .answer ≡ 0) where
+    decided : Decided packet s q (heldAt s) (roomOf (s .logs)) z
     decided =
         record {
           passes = record { ill = h .ill; finished = h .finished; short = h .short };
@@ -56,20 +56,22 @@ module _ (packet : List ℕ) (time : ℕ) (s : State) (h : Enters packet s) wher
           many = h .many;
           token = h .token;
           first = h .first;
+          words = false;
           plan = sym e;
+          rows = refl;
           room = refl;
           sum = sym f;
         }
 
-    pub shape-asks : PlanAsks q (deskBy (handOf time (s .decoder)) s)
+    pub shape-asks : PlanAsks q (deskBy (handOf time (s .decoder) (heldAt s) (s .table)) s)
     shape-asks = asks-by packet time s decided ok refl
 
-    pub shape-rows : (s .decoder .counts .bytes + length packet ≤ length (s .logs .bytes)) × ((s .decoder .counts .packets + 1) * packetWidth ≤ length (s .logs .packets))
+    pub shape-rows : (heldAt s .bytes + length packet ≤ length (s .logs .bytes)) × ((heldAt s .packets + 1) * packetWidth ≤ length (s .logs .packets))
     shape-rows = rows-fit packet time s decided ok
 
     pub shape-call : isChange (changeBy q (s .decoder .counts .devices)) ≡ false → PacketCall packet time s 0 (leftWith q z packet time s)
     shape-call c =
-        let k = performed q (deskBy (handOf time (s .decoder)) s) in
+        let k = performed q (deskBy (handOf time (s .decoder) (heldAt s) (s .table)) s) in
         subst (λ (v : List Device). PacketCall packet time s 0 (state (decoderBy (s .decoder) q z (k .hand)) v (k .table) (leftWith q z packet time s .logs)))
         (changed-none (changeBy q (s .decoder .counts .devices)) (s .devices) c)
-        (accepted-by packet time s decided ok {h = handOf time (s .decoder)} {k = k} {x = decoderBy (s .decoder) q z (k .hand)} {c = changeBy q (s .decoder .counts .devices)} refl refl refl refl refl refl)
+        (accepted-by packet time s decided ok {h = handOf time (s .decoder) (heldAt s) (s .table)} {k = k} {x = decoderBy (s .decoder) q z (k .hand)} {c = changeBy q (s .decoder .counts .devices)} refl refl refl refl refl refl)

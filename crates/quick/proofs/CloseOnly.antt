@@ -20,7 +20,6 @@ use Rattle.tally.specs.Tally.{tallyUpdate, none as nothing, addPacket}
 use Rattle.tally.specs.declared.add.Tally.{Tally}
 use Rattle.write_update.specs.Carried.{opened, closed}
 use Rattle.record.specs.Bools.{both}
-use Rattle.record.specs.Room.{fitting}
 use Rattle.record.specs.declared.Counts.{Counts}
 use Rattle.record.specs.declared.Decoder.{Decoder}
 use Rattle.plan.specs.Devices.{addsDevice}
@@ -29,9 +28,10 @@ use Rattle.plan.specs.Step.{endOf}
 use Rattle.plan.specs.declared.End.{End}
 use Rattle.plan.specs.declared.Plan.{Plan}
 use Rattle.call.specs.Outcome.{worldAt}
-use Rattle.call.specs.State.{State, state, logs, roomOf}
+use Rattle.call.specs.State.{State, state, logs, heldAt, roomOf}
 use Rattle.tally.specs.Passes.{planPasses}
-use Rattle.tally.specs.Tallies.{tallyPlan, tallyBegin, tallyEnd, addCounts}
+use Rattle.tally.specs.Tallies.{tallyPlan, tallyBegin, tallyEnd, roomFor}
+use Rattle.tally.proofs.Bounds.{Small, small-none, more, packet-small, end-small}
 use Rattle.write_packet.specs.Asked.{PlanAsks, EndReady, EndsIf}
 use Rattle.write_packet.specs.Desk.{desk, begunDesk, endedDesk}
 use Rattle.write_packet.specs.declared.Hand.{Hand}
@@ -62,42 +62,43 @@ shape {p} h =
 
 -- ---- the sum
 
+-- it is small, as all that one packet adds
+pub close-small : (e : End) (len : ℕ) (d : Decoder) → len ≤ 4096 → d .waiting ≤ 128 → d .counts .endpoints ≤ 128 → Small 65536 (closeTally e len d)
+unfolding closeTally
+close-small e len d a b c = more (end-small (packet-small (small-none (d .waiting)) len a) e (d .counts .endpoints) c) 65536 (omega arith)
+
 module _ (p : Plan) (t : Transaction) (e : End) (slot : Slot) (d : Decoder) (len : ℕ) where
-  tally-by : tallyOf d (onlyClose p t e slot) len ≡ closeTally e len d
+  pub tally-by : tallyOf d (onlyClose p t e slot) len ≡ closeTally e len d
   unfolding tallyPlan tallyBegin tallyUpdate closeTally
   tally-by = let same : d .counts .endpoints + 0 ≡ d .counts .endpoints = omega arith in ap (λ (n : ℕ). tallyEnd e n (nothing (d .waiting) ▷ addPacket len)) same
 
-  pub sum-by : (room : Counts) → CloseFits e len d room → sumPlan d (onlyClose p t e slot) len room ≡ accepted d (closeTally e len d)
+  pub sum-by : (held room : Counts) → CloseFits e len d held room → sumPlan d held (onlyClose p t e slot) len room ≡ accepted d (closeTally e len d)
   unfolding sumPlan planPasses
-  sum-by room f =
-      ap (λ (x : Tally). sumBy (fitting (addCounts (d .counts) x) room) (passes (e .effect) (e .entry .total)) d x) tally-by
+  sum-by held room f =
+      ap (λ (x : Tally). sumBy (roomFor held (d .counts) x room) (passes (e .effect) (e .entry .total)) d x) tally-by
       ∙ λ i. sumBy (f .fits i) (f .total i) d (closeTally e len d)
 
 -- ---- the steps
 
--- what the code has counted is the sum's
-abbrev pub counted : End → ℕ → Decoder → Close
-counted e len d = record { taken = true; counts = addCounts (d .counts) (closeTally e len d); waiting = closeTally e len d .waiting }
-
 left-by : (p : Plan) (t : Transaction) (e : End) (packet : List ℕ) (time : ℕ) (s : State)
-    → leftWith (onlyClose p t e Empty) (accepted (s .decoder) (closeTally e (length packet) (s .decoder))) packet time s ≡ closeState t e (counted e (length packet) (s .decoder)) packet time s
+    → leftWith (onlyClose p t e Empty) (accepted (s .decoder) (closeTally e (length packet) (s .decoder))) packet time s ≡ closeState t e (closeTally e (length packet) (s .decoder)) packet time s
 unfolding begunDesk endedDesk opened closed
 left-by p t e packet time s = refl
 
 -- ---- the call
 
 module _ (packet : List ℕ) (time : ℕ) (s : State) (h : Enters packet s) where
-  module _ {t : Transaction} {e : End} (q : CloseOnly (planOf packet (worldAt s)) t e Empty) (f : CloseFits e (length packet) (s .decoder) (roomOf (s .logs))) where
-    summed : sumPlan (s .decoder) (onlyClose (planOf packet (worldAt s)) t e Empty) (length packet) (roomOf (s .logs)) ≡ accepted (s .decoder) (closeTally e (length packet) (s .decoder))
-    summed = sum-by (planOf packet (worldAt s)) t e Empty (s .decoder) (length packet) (roomOf (s .logs)) f
+  module _ {t : Transaction} {e : End} (q : CloseOnly (planOf packet (worldAt s)) t e Empty) (f : CloseFits e (length packet) (s .decoder) (heldAt s) (roomOf (s .logs))) where
+    summed : sumPlan (s .decoder) (heldAt s) (onlyClose (planOf packet (worldAt s)) t e Empty) (length packet) (roomOf (s .logs)) ≡ accepted (s .decoder) (closeTally e (length packet) (s .decoder))
+    summed = sum-by (planOf packet (worldAt s)) t e Empty (s .decoder) (length packet) (heldAt s) (roomOf (s .logs)) f
 
-    pub close-only-call : {s′ : State} → s′ ≡ closeState t e (counted e (length packet) (s .decoder)) packet time s → PacketCall packet time s 0 s′
+    pub close-only-call : {s′ : State} → s′ ≡ closeState t e (closeTally e (length packet) (s .decoder)) packet time s → PacketCall packet time s 0 s′
     close-only-call c =
         subst (PacketCall packet time s 0) (left-by (planOf packet (worldAt s)) t e packet time s ∙ sym c)
         (shape-call packet time s h (shape q) summed refl (f .device))
 
     -- what carrying the end out asks, of the logs that are lent for it
-    pub close-only-asks : EndReady (t .endpoint) (t .id) (startPid (t .style)) e (desk (closeHand t time (s .decoder)) (s .table) (s .logs .devices) [] [] (s .logs .groups) (s .logs .statebytes) (s .logs .states) (s .logs .items) (s .logs .links) (s .logs .requests))
+    pub close-only-asks : EndReady (t .endpoint) (t .id) (startPid (t .style)) e (desk (closeHand t time (s .decoder) (heldAt s) (s .table)) (s .table) (s .logs .devices) [] [] (s .logs .groups) (s .logs .statebytes) (s .logs .states) (s .logs .items) (s .logs .links) (s .logs .requests))
     unfolding begunDesk endedDesk opened closed
     close-only-asks =
         let a = shape-asks packet time s h (shape q) summed refl in
@@ -108,16 +109,16 @@ module _ (packet : List ℕ) (time : ℕ) (s : State) (h : Enters packet s) wher
           effect = record { devices = a .room .devices; links = a .room .memory .links; requests = a .room .requests };
         }
 
-    pub close-only-rows : (s .decoder .counts .bytes + length packet ≤ length (s .logs .bytes)) × ((s .decoder .counts .packets + 1) * packetWidth ≤ length (s .logs .packets))
+    pub close-only-rows : (heldAt s .bytes + length packet ≤ length (s .logs .bytes)) × ((heldAt s .packets + 1) * packetWidth ≤ length (s .logs .packets))
     close-only-rows = shape-rows packet time s h (shape q) summed refl
 
 -- ---- the same, of what the code has decided (end_by, close_of)
 
 -- the tests that close_of has put together
-pub taken-fits : (closes : Bool) (e : End) (d : Decoder) (len : ℕ) (room : Counts) → closeOf closes e d len room .taken ≡ true → (closes ≡ true) × CloseFits e len d room
-taken-fits closes e d len room h =
+pub taken-fits : (closes : Bool) (e : End) (d : Decoder) (held : Counts) (len : ℕ) (room : Counts) → closeOf closes e d held len room .taken ≡ true → (closes ≡ true) × CloseFits e len d held room
+taken-fits closes e d held len room h =
     let a = both closes _ h in
-    let b = both (fitting (addCounts (d .counts) (closeTally e len d)) room) _ (a .1) in
+    let b = both (roomFor held (d .counts) (closeTally e len d) room) _ (a .1) in
     let c = both (not (passes (e .effect) (e .entry .total))) (not (addsDevice (e .effect))) (b .1) in
     (a .0, record { fits = b .0; total = not-true _ (c .0); device = not-true _ (c .1) })
   where
@@ -144,27 +145,29 @@ module _ (q : Shape) (d : Decoder) (old : Detail) (table : List ℕ) {x : ℕ} {
 
 -- ---- what close_only asks of end_if, and what it leaves
 
-pub close-ready : (t : Transaction) (e : End) (time : ℕ) (d : Decoder) (table v g m s i l q : List ℕ) {x : Decoder} {h : Hand} {pid : ℕ} → x ≡ holding t d → h ≡ handOf time x → pid ≡ startPid (t .style)
-    → EndsIf true (t .endpoint) (t .id) (startPid (t .style)) e (desk (closeHand t time d) table v [] [] g m s i l q)
+pub close-ready : (t : Transaction) (e : End) (time : ℕ) (d : Decoder) (held : Counts) (table v g m s i l q : List ℕ) {x : Decoder} {h : Hand} {pid : ℕ} → x ≡ holding t d → h ≡ handOf time x held table → pid ≡ startPid (t .style)
+    → EndsIf true (t .endpoint) (t .id) (startPid (t .style)) e (desk (closeHand t time d held table) table v [] [] g m s i l q)
     → EndsIf true (t .endpoint) (t .id) pid e (desk h table v [] [] g m s i l q)
-close-ready t e time d table v g m s i l q {h = h} e1 e2 e3 r =
+close-ready t e time d held table v g m s i l q {h = h} e1 e2 e3 r =
     subst (λ (p : ℕ). EndsIf true (t .endpoint) (t .id) p e (desk h table v [] [] g m s i l q)) (sym e3)
-    (subst (λ (y : Hand). EndsIf true (t .endpoint) (t .id) (startPid (t .style)) e (desk y table v [] [] g m s i l q)) (sym (e2 ∙ ap (handOf time) e1)) r)
+    (subst (λ (y : Hand). EndsIf true (t .endpoint) (t .id) (startPid (t .style)) e (desk y table v [] [] g m s i l q)) (sym (e2 ∙ ap (λ (y : Decoder). handOf time y held table) e1)) r)
 
-pub close-on : (t : Transaction) (e : End) (c : Close) (packet : List ℕ) (time : ℕ) (s : State) {x r : Decoder} {h h′ : Hand} {pid : ℕ} {table b v p g m st i l q : List ℕ}
-    → x ≡ holding t (s .decoder) → h ≡ handOf time x → pid ≡ startPid (t .style)
+pub close-on : (t : Transaction) (e : End) (z : Tally) {held : Counts} (packet : List ℕ) (time : ℕ) (s : State) {x r : Decoder} {h h′ : Hand} {pid : ℕ} {table b v p g m st i l q : List ℕ}
+    → held ≡ heldAt s → x ≡ holding t (s .decoder) → h ≡ handOf time x held (s .table) → pid ≡ startPid (t .style)
     → desk h′ table v (s .logs .endpoints) (s .logs .transactions) g m st i l q
     ≡ endedDesk (t .endpoint) (t .id) pid e (desk h (s .table) (s .logs .devices) (s .logs .endpoints) (s .logs .transactions) (s .logs .groups) (s .logs .statebytes) (s .logs .states) (s .logs .items) (s .logs .links) (s .logs .requests))
-    → b ≡ sets (s .logs .bytes) (s .decoder .counts .bytes) packet → p ≡ sets (s .logs .packets) (s .decoder .counts .packets * packetWidth) (s .decoder .counts .bytes ∷ time ∷ [])
-    → r ≡ closedDecoder t c (h′ .written) (s .decoder)
-    → state r (s .devices) table (logs b v (s .logs .endpoints) p (s .logs .events) (s .logs .transactions) g m st i l q) ≡ closeState t e c packet time s
-close-on t e c packet time s {table = table} {v = v} {g = g} {m = m} {st = st} {i = i} {l = l} {q = q} e1 e2 e3 e4 e5 e6 e7 =
+    → b ≡ sets (s .logs .bytes) (held .bytes) packet → p ≡ sets (s .logs .packets) (held .packets * packetWidth) (s .decoder .counts .bytes ∷ time ∷ [])
+    → r ≡ closedDecoder t z (h′ .written) (s .decoder)
+    → state r (s .devices) table (logs b v (s .logs .endpoints) p (s .logs .events) (s .logs .transactions) g m st i l q) ≡ closeState t e z packet time s
+close-on t e z {held} packet time s {table = table} {v = v} {g = g} {m = m} {st = st} {i = i} {l = l} {q = q} e0 e1 e2 e3 e4 f5 f6 e7 =
     let g₀ = s .logs in
-    let k = e4 ∙ λ j. endedDesk (t .endpoint) (t .id) (e3 j) e (desk ((e2 ∙ ap (handOf time) e1) j) (s .table) (g₀ .devices) (g₀ .endpoints) (g₀ .transactions) (g₀ .groups) (g₀ .statebytes) (g₀ .states) (g₀ .items) (g₀ .links) (g₀ .requests)) in
+    let e5 = f5 ∙ ap (λ (y : Counts). sets (g₀ .bytes) (y .bytes) packet) e0 in
+    let e6 = f6 ∙ ap (λ (y : Counts). sets (g₀ .packets) (y .packets * packetWidth) (s .decoder .counts .bytes ∷ time ∷ [])) e0 in
+    let k = e4 ∙ λ j. endedDesk (t .endpoint) (t .id) (e3 j) e (desk ((e2 ∙ λ m. handOf time (e1 m) (e0 m) (s .table)) j) (s .table) (g₀ .devices) (g₀ .endpoints) (g₀ .transactions) (g₀ .groups) (g₀ .statebytes) (g₀ .states) (g₀ .items) (g₀ .links) (g₀ .requests)) in
     (λ j. state (e7 j) (s .devices) table (logs (e5 j) v (g₀ .endpoints) (e6 j) (g₀ .events) (g₀ .transactions) g m st i l q))
-    ∙ λ j. state (closedDecoder t c (k j .hand .written) (s .decoder)) (s .devices) (k j .table) (logs (sets (g₀ .bytes) (s .decoder .counts .bytes) packet) (k j .devices) (g₀ .endpoints) (sets (g₀ .packets) (s .decoder .counts .packets * packetWidth) (s .decoder .counts .bytes ∷ time ∷ [])) (g₀ .events) (g₀ .transactions) (k j .groups) (k j .statebytes) (k j .states) (k j .items) (k j .links) (k j .requests))
+    ∙ λ j. state (closedDecoder t z (k j .hand .written) (s .decoder)) (s .devices) (k j .table) (logs (sets (g₀ .bytes) (heldAt s .bytes) packet) (k j .devices) (g₀ .endpoints) (sets (g₀ .packets) (heldAt s .packets * packetWidth) (s .decoder .counts .bytes ∷ time ∷ [])) (g₀ .events) (g₀ .transactions) (k j .groups) (k j .statebytes) (k j .states) (k j .items) (k j .links) (k j .requests))
 
--- and with the counts of close_of
-pub close-counted : (t : Transaction) (e : End) (packet : List ℕ) (time : ℕ) (s : State) (closes : Bool) (room : Counts) {c : Close} → c ≡ closeOf closes e (s .decoder) (length packet) room
-    → closeState t e c packet time s ≡ closeState t e (counted e (length packet) (s .decoder)) packet time s
-close-counted t e packet time s closes room p = ap (λ (c : Close). closeState t e c packet time s) p
+-- and with the rows of close_of
+pub close-counted : (t : Transaction) (e : End) (packet : List ℕ) (time : ℕ) (s : State) (closes : Bool) (held room : Counts) {c : Close} → c ≡ closeOf closes e (s .decoder) held (length packet) room
+    → closeState t e (c .tally) packet time s ≡ closeState t e (closeTally e (length packet) (s .decoder)) packet time s
+close-counted t e packet time s closes held room p = ap (λ (c : Close). closeState t e (c .tally) packet time s) p

@@ -1,10 +1,11 @@
 -- What quick_in has decided, of each of the two shapes: the tests that were passed, and the plan.
 use mathlib.Core.Path.{_≡_, refl, sym, ap, subst, _∙_}
 use mathlib.Core.Bool.{Bool, true, false, _&&_}
-use mathlib.Core.List.{List}
-use Prim.Native.Nat.{ℕ, _+_, _<_, _^_}
-use native.Mathlib.Omega.{arith}
+use mathlib.Core.List.{List, []}
+use Prim.Native.Nat.{ℕ, _+_, _*_, _<_, _≤_}
 use lib.ListN.{length, getD}
+use Rattle.rows.specs.One.{one}
+use Rattle.rows.specs.Widths.{packetWidth, transactionWidth, linkWidth}
 use Rattle.details.specs.declared.Detail.{Detail}
 use Rattle.details.specs.declared.Device.{Device}
 use Rattle.endpoints.specs.Table.{entryAt}
@@ -13,7 +14,9 @@ use Rattle.transaction.specs.declared.Transaction.{Transaction}
 use Rattle.rules.specs.Endpoints.{detailOf}
 use Rattle.rules.specs.Transactions.{isDropped}
 use Rattle.rules.specs.declared.Slot.the-variants.{Empty}
-use Rattle.tally.specs.Tallies.{Under}
+use Rattle.tally.specs.Tallies.{Sums}
+use Rattle.write_packet.specs.Asked.{EndsIf}
+use Rattle.write_packet.specs.Desk.{desk}
 use Rattle.record.specs.Bools.{both}
 use Rattle.record.specs.declared.Counts.{Counts}
 use Rattle.record.specs.declared.Decoder.{Decoder}
@@ -22,7 +25,7 @@ use Rattle.plan.specs.Step.{endOf}
 use Rattle.plan.specs.declared.End.{End}
 use Rattle.call.specs.Outcome.{worldAt}
 use Rattle.call.specs.Share.{Known}
-use Rattle.call.specs.State.{State, Logs, state, roomOf}
+use Rattle.call.specs.State.{State, Logs, state, heldAt, roomOf}
 use Rattle.packet.specs.After.{keeping, changed}
 use Rattle.packet.specs.Call.{PacketCall}
 use Rattle.packet.specs.Lent.{Lent}
@@ -30,8 +33,8 @@ use Rattle.packet.specs.declared.change.Change.{Change}
 use Rattle.packet.proofs.Answers.{Passes}
 use Rattle.packet.proofs.Changes.{changed-none}
 use Rattle.decide.specs.declared.near.Near.{Near}
-use Rattle.quick.specs.Begin.{Begins, beginCounts, beginRoom, BeginFits}
-use Rattle.quick.specs.Close.{CloseOnly, endBy, closeOf, CloseFits}
+use Rattle.quick.specs.Begin.{Begins, beginRoom, BeginRoom}
+use Rattle.quick.specs.Close.{CloseOnly, endBy, closeTally, closeOf, CloseFits, closeHand}
 use Rattle.quick.specs.Shaped.{Shaped, heldEnd}
 use Rattle.quick.specs.declared.close.Close.{Close}
 use Rattle.quick.specs.declared.shape.Shape.{Shape}
@@ -56,17 +59,17 @@ enters m live =
 pub record BeginTaken (packet : List ℕ) (s : State) (q : Shape) : Type 0 where
   pub enters : Enters packet s
   pub plan : Begins (planOf packet (worldAt s)) (worldAt s) (q .row) (q .transaction) (q .link)
-  pub fits : BeginFits (q .row) (q .link) (length packet) (s .decoder .counts) (roomOf (s .logs))
+  pub fits : BeginRoom (q .row) (q .link) (length packet) (heldAt s) (s .decoder .counts) (roomOf (s .logs))
 
-pub begin-taken : (packet : List ℕ) (s : State) (q : Shape) {n room : Counts} {f : Bool} → Meets packet s → Shaped q (planOf packet (worldAt s)) (worldAt s)
-    → n ≡ beginCounts (q .row) (q .link) (length packet) (s .decoder .counts) → room ≡ roomOf (s .logs) → f ≡ beginRoom n room → (q .begins && f) ≡ true → BeginTaken packet s q
-begin-taken packet s q {n} {room} {f} m h e1 e2 e3 t =
+pub begin-taken : (packet : List ℕ) (s : State) (q : Shape) {held room : Counts} {f : Bool} → Meets packet s → Shaped q (planOf packet (worldAt s)) (worldAt s)
+    → held ≡ heldAt s → room ≡ roomOf (s .logs) → f ≡ beginRoom (q .row) (q .link) (length packet) held (s .decoder .counts) room → (q .begins && f) ≡ true → BeginTaken packet s q
+begin-taken packet s q {held} {room} {f} m h e1 e2 e3 t =
     let g = both (q .begins) f t in
     let b = h .begins (g .0) in
     record {
       enters = enters m (b .live);
       plan = b .plan;
-      fits = room-fits (q .row) (q .link) (length packet) (s .decoder .counts) (roomOf (s .logs)) (sym (e3 ∙ λ i. beginRoom (e1 i) (e2 i)) ∙ g .1);
+      fits = room-fits (q .row) (q .link) (length packet) (heldAt s) (s .decoder .counts) (roomOf (s .logs)) (sym (e3 ∙ λ i. beginRoom (q .row) (q .link) (length packet) (e1 i) (s .decoder .counts) (e2 i)) ∙ g .1);
     }
 
 -- ---- close-only
@@ -74,13 +77,13 @@ begin-taken packet s q {n} {room} {f} m h e1 e2 e3 t =
 pub record CloseTaken (packet : List ℕ) (s : State) (q : Shape) (e : End) : Type 0 where
   pub enters : Enters packet s
   pub plan : CloseOnly (planOf packet (worldAt s)) (q .transaction) e Empty
-  pub fits : CloseFits e (length packet) (s .decoder) (roomOf (s .logs))
+  pub fits : CloseFits e (length packet) (s .decoder) (heldAt s) (roomOf (s .logs))
 
-pub close-taken : (packet : List ℕ) (s : State) (q : Shape) (old : Detail) {room : Counts} {e : End} {c : Close} → Meets packet s → Shaped q (planOf packet (worldAt s)) (worldAt s)
-    → room ≡ roomOf (s .logs) → old ≡ detailOf (oldEndpoint (s .decoder .slot) (s .decoder .transaction)) (worldAt s)
-    → e ≡ endBy q (s .decoder) old (s .table) → c ≡ closeOf (q .closes) e (s .decoder) (length packet) room → c .taken ≡ true → CloseTaken packet s q e
-close-taken packet s q old {room} {e} {c} m h e1 e2 e3 e4 t =
-    let g = taken-fits (q .closes) e (s .decoder) (length packet) room (sym (ap (λ (x : Close). x .taken) e4) ∙ t) in
+pub close-taken : (packet : List ℕ) (s : State) (q : Shape) (old : Detail) {held room : Counts} {e : End} {c : Close} → Meets packet s → Shaped q (planOf packet (worldAt s)) (worldAt s)
+    → held ≡ heldAt s → room ≡ roomOf (s .logs) → old ≡ detailOf (oldEndpoint (s .decoder .slot) (s .decoder .transaction)) (worldAt s)
+    → e ≡ endBy q (s .decoder) old (s .table) → c ≡ closeOf (q .closes) e (s .decoder) held (length packet) room → c .taken ≡ true → CloseTaken packet s q e
+close-taken packet s q old {held} {room} {e} {c} m h e0 e1 e2 e3 e4 t =
+    let g = taken-fits (q .closes) e (s .decoder) held (length packet) room (sym (ap (λ (x : Close). x .taken) e4) ∙ t) in
     let b = h .closes (g .0) in
     let x = oldEndpoint (s .decoder .slot) (s .decoder .transaction) in
     let end : e ≡ heldEnd (q .success) (q .transaction) (worldAt s) =
@@ -88,7 +91,7 @@ close-taken packet s q old {room} {e} {c} m h e1 e2 e3 e4 t =
     record {
       enters = enters m (b .live);
       plan = subst (λ (y : End). CloseOnly (planOf packet (worldAt s)) (q .transaction) y Empty) (sym end) (b .plan);
-      fits = subst (λ (y : Counts). CloseFits e (length packet) (s .decoder) y) e1 (g .1);
+      fits = subst (λ (y : Counts). CloseFits e (length packet) (s .decoder) (heldAt s) y) e1 (subst (λ (y : Counts). CloseFits e (length packet) (s .decoder) y room) e0 (g .1));
     }
 
 -- ---- the devices stay
@@ -98,8 +101,24 @@ pub kept-devices : (packet : List ℕ) (time : ℕ) (s : State) {a : ℕ} {x : D
 kept-devices packet time s {a} {x} {table} {l} {c} e p =
     subst (λ (v : List Device). PacketCall packet time s a (state x v table l)) (sym (ap (λ (y : Change). changed y (s .devices)) e ∙ changed-none keeping (s .devices) refl)) p
 
--- ---- the sums are words
+-- ---- what is asked of the rows held, of those that held_of gives
 
-pub counts-small : (n : Counts) (len : ℕ) → Under (2 ^ 40) n → len < 4097
-    → (n .bytes + len < 2 ^ 63) × ((n .packets + 1 < 2 ^ 63) × ((n .transactions < 2 ^ 63) × (n .links < 2 ^ 63)))
-counts-small n len u h = (omega (arith, u .bytes), (omega (arith, u .packets), (omega (arith, u .transactions), omega (arith, u .links))))
+pub begin-lent : (packet : List ℕ) (s : State) (row l : Bool) {held : Counts} → held ≡ heldAt s
+    → heldAt s .bytes + length packet ≤ length (s .logs .bytes) → (heldAt s .packets + 1) * packetWidth ≤ length (s .logs .packets)
+    → (heldAt s .transactions + one row) * transactionWidth ≤ length (s .logs .transactions) → (heldAt s .links + one l) * linkWidth ≤ length (s .logs .links)
+    → (held .bytes + length packet ≤ length (s .logs .bytes)) × (((held .packets + 1) * packetWidth ≤ length (s .logs .packets)) × (((held .transactions + one row) * transactionWidth ≤ length (s .logs .transactions)) × ((held .links + one l) * linkWidth ≤ length (s .logs .links))))
+begin-lent packet s row l e a b c d =
+    subst (λ (h : Counts). (h .bytes + length packet ≤ length (s .logs .bytes)) × (((h .packets + 1) * packetWidth ≤ length (s .logs .packets)) × (((h .transactions + one row) * transactionWidth ≤ length (s .logs .transactions)) × ((h .links + one l) * linkWidth ≤ length (s .logs .links))))) (sym e)
+    (a, (b, (c, d)))
+
+pub close-lent : (packet : List ℕ) (time : ℕ) (s : State) (closes : Bool) (room : Counts) (t : Transaction) {held : Counts} {end : End} {c : Close} → held ≡ heldAt s → c ≡ closeOf closes end (s .decoder) held (length packet) room
+    → Sums (s .decoder .counts) (closeTally end (length packet) (s .decoder))
+    → heldAt s .bytes + length packet ≤ length (s .logs .bytes) → (heldAt s .packets + 1) * packetWidth ≤ length (s .logs .packets)
+    → EndsIf true (t .endpoint) (t .id) (startPid (t .style)) end (desk (closeHand t time (s .decoder) (heldAt s) (s .table)) (s .table) (s .logs .devices) [] [] (s .logs .groups) (s .logs .statebytes) (s .logs .states) (s .logs .items) (s .logs .links) (s .logs .requests))
+    → Sums (s .decoder .counts) (c .tally) × ((held .bytes + length packet ≤ length (s .logs .bytes)) × (((held .packets + 1) * packetWidth ≤ length (s .logs .packets))
+    × EndsIf true (t .endpoint) (t .id) (startPid (t .style)) end (desk (closeHand t time (s .decoder) held (s .table)) (s .table) (s .logs .devices) [] [] (s .logs .groups) (s .logs .statebytes) (s .logs .states) (s .logs .items) (s .logs .links) (s .logs .requests))))
+close-lent packet time s closes room t {held} {end} {c} e f w a b k = (
+  subst (λ (x : Close). Sums (s .decoder .counts) (x .tally)) (sym f) w,
+  subst (λ (h : Counts). (h .bytes + length packet ≤ length (s .logs .bytes)) × (((h .packets + 1) * packetWidth ≤ length (s .logs .packets)) × EndsIf true (t .endpoint) (t .id) (startPid (t .style)) end (desk (closeHand t time (s .decoder) h (s .table)) (s .table) (s .logs .devices) [] [] (s .logs .groups) (s .logs .statebytes) (s .logs .states) (s .logs .items) (s .logs .links) (s .logs .requests)))) (sym e)
+      (a, (b, k)),
+)

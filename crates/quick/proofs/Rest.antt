@@ -44,7 +44,7 @@ use Rattle.plan.specs.Step.{endBy, endOf}
 use Rattle.plan.specs.declared.End.{End}
 use Rattle.plan.specs.declared.Plan.{Plan}
 use Rattle.call.specs.Outcome.{worldAt}
-use Rattle.call.specs.State.{State, state, logs, roomOf}
+use Rattle.call.specs.State.{State, state, logs, heldAt, roomOf}
 use Rattle.tally.specs.Passes.{planPasses}
 use Rattle.tally.specs.Tally.{tallyUpdate}
 use Rattle.tally.specs.Tallies.{tallyPlan, tallyEnd}
@@ -53,8 +53,8 @@ use Rattle.write_packet.specs.Desk.{Desk, desk, begunDesk, endedDesk}
 use Rattle.packet.specs.After.{sumPlan, handOf, decoderBy}
 use Rattle.packet.specs.declared.sum.Sum.{Sum}
 use Rattle.packet.proofs.Answers.{deskBy}
-use Rattle.quick.specs.Begin.{onlyBegin, BeginOnly, restEnd, unended, BeginRest, Begins, beginState, BeginFits}
-use Rattle.quick.proofs.BeginOnly.{shape, beginSum, sum-by, fits-by, left-by, BeginWants, BeginPlan, only-plan}
+use Rattle.quick.specs.Begin.{onlyBegin, BeginOnly, restEnd, unended, BeginRest, Begins, beginState, BeginRoom}
+use Rattle.quick.proofs.BeginOnly.{shape, beginSum, sum-by, left-by, BeginWants, BeginPlan, only-plan}
 use Rattle.quick.proofs.Calls.{Enters, well, leftWith}
 
 -- ---- an entry stored as it was loaded
@@ -94,10 +94,10 @@ abbrev withRest : Plan → Endpoint → Plan
 withRest q e = record { resumes = q .resumes; resume = q .resume; ends = true; old = q .old; brought = q .brought; end = restEnd e; begin = q .begin; closes = q .closes; close = q .close; slot = q .slot }
 
 -- the sum is that of the plan without the end
-rest-sum : (p : Plan) (e : Endpoint) (row : Bool) (t : Transaction) (l : Bool) (d : Decoder) (len : ℕ) (room : Counts)
-    → sumPlan d (withRest (onlyBegin p row t l Current) e) len room ≡ sumPlan d (onlyBegin p row t l Current) len room
+rest-sum : (p : Plan) (e : Endpoint) (row : Bool) (t : Transaction) (l : Bool) (d : Decoder) (held : Counts) (len : ℕ) (room : Counts)
+    → sumPlan d held (withRest (onlyBegin p row t l Current) e) len room ≡ sumPlan d held (onlyBegin p row t l Current) len room
 unfolding sumPlan planPasses tallyPlan tallyEnd tallyUpdate
-rest-sum p e row t l d len room = refl
+rest-sum p e row t l d held len room = refl
 
 module _ (packet : List ℕ) (time : ℕ) (s : State) (h : Enters packet s) where
   module _ {row : Bool} {t : Transaction} {l : Bool} (q : BeginRest (planOf packet (worldAt s)) (worldAt s) row t l) where
@@ -108,7 +108,7 @@ module _ (packet : List ℕ) (time : ℕ) (s : State) (h : Enters packet s) wher
     e = entryAt (s .table) (p .old)
 
     abbrev k : Desk
-    k = deskBy (handOf time (s .decoder)) s
+    k = deskBy (handOf time (s .decoder) (heldAt s) (s .table)) s
 
     rest-shape : planOf packet (worldAt s) ≡ withRest (onlyBegin p row t l Current) e
     rest-shape =
@@ -125,22 +125,22 @@ module _ (packet : List ℕ) (time : ℕ) (s : State) (h : Enters packet s) wher
     abbrev after : Sum → Desk → State
     after z y =
         state (decoderBy (s .decoder) (onlyBegin p row t l Current) z (y .hand)) (s .devices) (y .table)
-        (logs (sets (s .logs .bytes) (s .decoder .counts .bytes) packet) (y .devices) (y .endpoints) (sets (s .logs .packets) (s .decoder .counts .packets * packetWidth) (s .decoder .counts .bytes ∷ time ∷ [])) (s .logs .events) (y .transactions) (y .groups) (y .statebytes) (y .states) (y .items) (y .links) (y .requests))
+        (logs (sets (s .logs .bytes) (heldAt s .bytes) packet) (y .devices) (y .endpoints) (sets (s .logs .packets) (heldAt s .packets * packetWidth) (s .decoder .counts .bytes ∷ time ∷ [])) (s .logs .events) (y .transactions) (y .groups) (y .statebytes) (y .states) (y .items) (y .links) (y .requests))
 
-    pub rest-plan : BeginFits row l (length packet) (s .decoder .counts) (roomOf (s .logs)) → BeginPlan packet time s row t l
+    pub rest-plan : BeginRoom row l (length packet) (heldAt s) (s .decoder .counts) (roomOf (s .logs)) → BeginPlan packet time s row t l
     rest-plan f =
         let z = beginSum row l (length packet) (s .decoder) in
         record {
           plan = withRest (onlyBegin p row t l Current) e;
           is = rest-shape;
-          summed = rest-sum p e row t l (s .decoder) (length packet) (roomOf (s .logs))
-              ∙ sum-by p t Current (s .decoder) (length packet) row l (roomOf (s .logs)) (fits-by row l (length packet) (s .decoder .counts) (roomOf (s .logs)) (well packet time s h .counts) f);
+          summed = rest-sum p e row t l (s .decoder) (heldAt s) (length packet) (roomOf (s .logs))
+              ∙ sum-by p t Current (s .decoder) (length packet) row l (heldAt s) (roomOf (s .logs)) (well packet time s h .counts) (well packet time s h .numbered) f;
           left = ap (λ (y : Desk). after z (begunDesk (onlyBegin p row t l Current .begin) y)) rested ∙ left-by p t packet time s row l;
           kept = refl;
           wants = λ a. let b = subst (λ (y : Desk). BeginAsks (onlyBegin p row t l Current .begin) y) rested (a .begin) in (b .there, (b .few, b .transactions));
         }
 
-  pub begins-plan : {row : Bool} {t : Transaction} {l : Bool} → Begins (planOf packet (worldAt s)) (worldAt s) row t l → BeginFits row l (length packet) (s .decoder .counts) (roomOf (s .logs)) → BeginPlan packet time s row t l
+  pub begins-plan : {row : Bool} {t : Transaction} {l : Bool} → Begins (planOf packet (worldAt s)) (worldAt s) row t l → BeginRoom row l (length packet) (heldAt s) (s .decoder .counts) (roomOf (s .logs)) → BeginPlan packet time s row t l
   begins-plan (inl q) f = only-plan packet time s h q f
   begins-plan (inr q) f = rest-plan q f
 

@@ -23,11 +23,12 @@ use Rattle.rules.specs.declared.Slot.{Slot}
 use Rattle.rules.specs.declared.Slot.the-variants.{Current}
 use Rattle.update.specs.Update.{when, links}
 use Rattle.update.specs.declared.Then.the-variants.{Keep, Last}
+use Rattle.record.specs.Room.{mostNumber}
 use Rattle.record.specs.declared.Counts.{Counts}
 use Rattle.record.specs.declared.Decoder.{Decoder}
 use Rattle.plan.specs.declared.End.{End}
 use Rattle.plan.specs.declared.Plan.{Plan}
-use Rattle.call.specs.State.{State, state, logs}
+use Rattle.call.specs.State.{State, state, logs, heldAt}
 
 -- ---- the shape: a transaction row where `row` says so, a T row where l does; t is the transaction then. What is under a flag that is off is p's
 
@@ -113,11 +114,11 @@ beginCounts row l len n =
 abbrev pub beginLink : Bool → List ℕ → Transaction → Transaction
 beginLink l table t = when l (withLink (entryAt table (t .endpoint) .transactions)) t
 
--- with these counts
-abbrev pub beginDecoder : Counts → Transaction → Bool → List ℕ → Decoder → Decoder
-beginDecoder n t l table d =
+-- after a packet of so many bytes
+abbrev pub beginDecoder : Bool → Transaction → Bool → ℕ → List ℕ → Decoder → Decoder
+beginDecoder row t l len table d =
     record {
-      counts = n;
+      counts = beginCounts row l len (d .counts);
       slot = Current;
       transaction = beginLink l table t;
       last = d .last;
@@ -133,32 +134,64 @@ beginTable l x table = when l (λ v. storeAt v x (moreTransactions (entryAt v x)
 abbrev pub beginState : Bool → Transaction → Bool → List ℕ → ℕ → State → State
 beginState row t l packet time s =
     let n = s .decoder .counts in
+    let h = heldAt s in
     let g = s .logs in
     state
-    (beginDecoder (beginCounts row l (length packet) n) t l (s .table) (s .decoder))
+    (beginDecoder row t l (length packet) (s .table) (s .decoder))
     (s .devices)
     (beginTable l (t .endpoint) (s .table))
     (logs
-    (sets (g .bytes) (n .bytes) packet)
+    (sets (g .bytes) (h .bytes) packet)
     (g .devices)
     (g .endpoints)
-    (sets (g .packets) (n .packets * packetWidth) (n .bytes ∷ time ∷ []))
+    (sets (g .packets) (h .packets * packetWidth) (n .bytes ∷ time ∷ []))
     (g .events)
-    (sets (g .transactions) (n .transactions * transactionWidth) (opt row (transactionWords (naming (n .packets)))))
+    (sets (g .transactions) (h .transactions * transactionWidth) (opt row (transactionWords (naming (n .packets)))))
     (g .groups)
     (g .statebytes)
     (g .states)
     (g .items)
-    (sets (g .links) (n .links * linkWidth) (opt l (kind.T ∷ t .endpoint ∷ t .id ∷ 0 ∷ [])))
+    (sets (g .links) (h .links * linkWidth) (opt l (kind.T ∷ t .endpoint ∷ t .id ∷ 0 ∷ [])))
     (g .requests))
 
--- ---- room: four comparisons, of the counts after it
+-- ---- room: of the four logs that get rows, behind the rows held and by their numbers
 
-abbrev pub beginRoom : Counts → Counts → Bool
-beginRoom n room = ((leb (n .bytes) (room .bytes) && leb (n .packets) (room .packets)) && leb (n .transactions) (room .transactions)) && leb (n .links) (room .links)
+-- the greatest numbers of next rows
+abbrev pub mostNumbers : Counts
+mostNumbers =
+    record {
+      bytes = mostNumber;
+      devices = mostNumber;
+      endpoints = mostNumber;
+      packets = mostNumber;
+      events = mostNumber;
+      transactions = mostNumber;
+      groups = mostNumber;
+      statebytes = mostNumber;
+      states = mostNumber;
+      items = mostNumber;
+      links = mostNumber;
+      requests = mostNumber;
+    }
+
+-- the comparisons as the code makes them
+abbrev pub beginRoom : Bool → Bool → ℕ → Counts → Counts → Counts → Bool
+beginRoom row l len held n room =
+    ((((((leb (held .bytes + len) (room .bytes)
+    && leb (held .packets + 1) (room .packets))
+    && leb (held .transactions + one row) (room .transactions))
+    && leb (held .links + one l) (room .links))
+    && leb (n .bytes + len) mostNumber)
+    && leb (n .packets + 1) mostNumber)
+    && leb (n .transactions + one row) mostNumber)
+    && leb (n .links + one l) mostNumber
 
 pub record BeginFits (row l : Bool) (len : ℕ) (n room : Counts) : Type 0 where
   pub bytes : n .bytes + len ≤ room .bytes
   pub packets : n .packets + 1 ≤ room .packets
   pub transactions : n .transactions + one row ≤ room .transactions
   pub links : n .links + one l ≤ room .links
+
+pub record BeginRoom (row l : Bool) (len : ℕ) (held n room : Counts) : Type 0 where
+  pub rows : BeginFits row l len held room
+  pub numbers : BeginFits row l len n mostNumbers

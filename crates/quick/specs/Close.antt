@@ -15,10 +15,10 @@ use Rattle.rules.specs.declared.EventState.the-variants.{Idle}
 use Rattle.rules.specs.declared.Slot.{Slot}
 use Rattle.rules.specs.declared.Slot.the-variants.{Empty}
 use Rattle.update.specs.Effect.{passes}
-use Rattle.tally.specs.Tallies.{tallyEnd, addCounts}
+use Rattle.tally.specs.Tallies.{tallyEnd, addCounts, roomFor}
 use Rattle.tally.specs.Tally.{none as nothing, addPacket}
 use Rattle.tally.specs.declared.add.Tally.{Tally}
-use Rattle.record.specs.Room.{fitting}
+use Rattle.record.specs.Room.{heldOf}
 use Rattle.record.specs.declared.Counts.{Counts}
 use Rattle.record.specs.declared.Decoder.{Decoder}
 use Rattle.plan.specs.Devices.{addsDevice}
@@ -27,7 +27,7 @@ use Rattle.plan.specs.Step.{endOf}
 use Rattle.plan.specs.declared.End.{End}
 use Rattle.plan.specs.declared.Plan.{Plan}
 use Rattle.call.specs.Share.{tied}
-use Rattle.call.specs.State.{State, state, logs}
+use Rattle.call.specs.State.{State, state, logs, heldAt}
 use Rattle.write.specs.declared.Written.{Written}
 use Rattle.write_packet.specs.Desk.{Desk, desk, endedDesk}
 use Rattle.write_packet.specs.declared.Hand.{Hand}
@@ -74,17 +74,13 @@ unfoldable pub closeTally : End → ℕ → Decoder → Tally
 closeTally e len d = nothing (d .waiting) ▷ addPacket len ▷ tallyEnd e (d .counts .endpoints)
 
 -- what is tested: there is room, no byte total passes, and no device is added
-abbrev pub closeOf : Bool → End → Decoder → ℕ → Counts → Close
-closeOf closes e d len room =
-    let n = addCounts (d .counts) (closeTally e len d) in
-    record {
-      taken = closes && (fitting n room && (not (passes (e .effect) (e .entry .total)) && not (addsDevice (e .effect))));
-      counts = n;
-      waiting = closeTally e len d .waiting;
-    }
+abbrev pub closeOf : Bool → End → Decoder → Counts → ℕ → Counts → Close
+closeOf closes e d held len room =
+    let t = closeTally e len d in
+    record { taken = closes && (roomFor held (d .counts) t room && (not (passes (e .effect) (e .entry .total)) && not (addsDevice (e .effect)))); tally = t }
 
-pub record CloseFits (e : End) (len : ℕ) (d : Decoder) (room : Counts) : Type 0 where
-  pub fits : fitting (addCounts (d .counts) (closeTally e len d)) room ≡ true
+pub record CloseFits (e : End) (len : ℕ) (d : Decoder) (held room : Counts) : Type 0 where
+  pub fits : roomFor held (d .counts) (closeTally e len d) room ≡ true
   pub total : passes (e .effect) (e .entry .total) ≡ false
   pub device : addsDevice (e .effect) ≡ false
 
@@ -96,31 +92,32 @@ holding t d =
     record { counts = d .counts; slot = d .slot; transaction = t; last = d .last; event = d .event; keepalive = d .keepalive; waiting = d .waiting; finished = d .finished }
 
 -- where the call begins to write, with the T row of t
-abbrev pub closeHand : Transaction → ℕ → Decoder → Hand
-closeHand t time d = handOf time (holding t d)
+abbrev pub closeHand : Transaction → ℕ → Decoder → Counts → List ℕ → Hand
+closeHand t time d held table = handOf time (holding t d) held table
 
 abbrev pub entered : Transaction → ℕ → State → Desk
 entered t time s =
-    desk (closeHand t time (s .decoder)) (s .table) (s .logs .devices) (s .logs .endpoints) (s .logs .transactions) (s .logs .groups) (s .logs .statebytes) (s .logs .states) (s .logs .items) (s .logs .links) (s .logs .requests)
+    desk (closeHand t time (s .decoder) (heldAt s) (s .table)) (s .table) (s .logs .devices) (s .logs .endpoints) (s .logs .transactions) (s .logs .groups) (s .logs .statebytes) (s .logs .states) (s .logs .items) (s .logs .links) (s .logs .requests)
 
-abbrev pub closedDecoder : Transaction → Close → Written → Decoder → Decoder
-closedDecoder t c h d =
-    record { counts = c .counts; slot = Empty; transaction = tied t h; last = h .last; event = Idle; keepalive = d .keepalive; waiting = c .waiting; finished = d .finished }
+abbrev pub closedDecoder : Transaction → Tally → Written → Decoder → Decoder
+closedDecoder t z h d =
+    record { counts = addCounts (d .counts) z; slot = Empty; transaction = tied t h; last = h .last; event = Idle; keepalive = d .keepalive; waiting = z .waiting; finished = d .finished }
 
-abbrev pub closeState : Transaction → End → Close → List ℕ → ℕ → State → State
-closeState t e c packet time s =
-    let n = s .decoder .counts in
+-- with these rows added
+abbrev pub closeState : Transaction → End → Tally → List ℕ → ℕ → State → State
+closeState t e z packet time s =
+    let h = heldAt s in
     let g = s .logs in
     let k = endedDesk (t .endpoint) (t .id) (startPid (t .style)) e (entered t time s) in
     state
-    (closedDecoder t c (k .hand .written) (s .decoder))
+    (closedDecoder t z (k .hand .written) (s .decoder))
     (s .devices)
     (k .table)
     (logs
-    (sets (g .bytes) (n .bytes) packet)
+    (sets (g .bytes) (h .bytes) packet)
     (k .devices)
     (g .endpoints)
-    (sets (g .packets) (n .packets * packetWidth) (n .bytes ∷ time ∷ []))
+    (sets (g .packets) (h .packets * packetWidth) (s .decoder .counts .bytes ∷ time ∷ []))
     (g .events)
     (g .transactions)
     (k .groups)
@@ -131,10 +128,11 @@ closeState t e c packet time s =
     (k .requests))
 
 -- the same over what close_only is lent, whatever the devices and the other logs hold
-abbrev pub OnClose : Transaction → End → Close → List ℕ → ℕ → Decoder
+abbrev pub OnClose : Transaction → End → Tally → Counts → List ℕ → ℕ → Decoder
     → List ℕ → List ℕ → List ℕ → List ℕ → List ℕ → List ℕ → List ℕ → List ℕ → List ℕ → List ℕ
     → Decoder → List ℕ → List ℕ → List ℕ → List ℕ → List ℕ → List ℕ → List ℕ → List ℕ → List ℕ → List ℕ → Type 0
-OnClose t e c packet time d table b v p g m s i l q d′ table′ b′ v′ p′ g′ m′ s′ i′ l′ q′ =
+OnClose t e z held packet time d table b v p g m s i l q d′ table′ b′ v′ p′ g′ m′ s′ i′ l′ q′ =
     (devices : List Device) (endpoints events transactions : List ℕ)
+    → held ≡ heldOf table (d .counts)
     → state d′ devices table′ (logs b′ v′ endpoints p′ events transactions g′ m′ s′ i′ l′ q′)
-    ≡ closeState t e c packet time (state d devices table (logs b v endpoints p events transactions g m s i l q))
+    ≡ closeState t e z packet time (state d devices table (logs b v endpoints p events transactions g m s i l q))

@@ -11,6 +11,7 @@ use record::Decoder;
 use rows::width;
 use rules::EventState;
 use rules::Slot;
+use tally::up_to;
 use transaction::Transaction;
 use write::leaf::put_transaction;
 ghost use mathlib.Core.List.{[], _∷_};
@@ -24,14 +25,12 @@ ghost use Rattle.rows.specs.Widths.{packetWidth, transactionWidth, linkWidth};
 ghost use Rattle.endpoints.specs.Link.{T};
 ghost use Rattle.endpoints.specs.Table.{entryAt};
 ghost use Rattle.rules.specs.Rows.{naming, transactionWords};
-ghost use Rattle.quick.specs.Begin.{beginCounts, beginRoom, beginLink, beginDecoder, beginTable};
+ghost use Rattle.tally.specs.Tallies.{Countable};
+ghost use Rattle.quick.specs.Begin.{mostNumbers, beginCounts, beginRoom, BeginFits, beginLink, beginDecoder, beginTable};
 
-// The counts after it.
-pub fn begin_counts(row: bool, l: bool, len: usize, n: Counts) -> Counts
-    requires { ⌜ n .bytes + len < 2 ^ 63 ⌝ }
-    requires { ⌜ n .packets + 1 < 2 ^ 63 ⌝ }
-    requires { ⌜ n .transactions < 2 ^ 63 ⌝ }
-    requires { ⌜ n .links < 2 ^ 63 ⌝ }
+// The numbers of the next rows after it, where n were numbered.
+fn begin_counts(row: bool, l: bool, len: usize, n: Counts) -> Counts
+    requires { ⌜ BeginFits row l len n mostNumbers ⌝ }
     ensures { λ r. ⌜ r ≡ beginCounts row l len n ⌝ }
 {
     let transactions = n.transactions + flag_word(row) as usize;
@@ -44,14 +43,22 @@ pub fn begin_counts(row: bool, l: bool, len: usize, n: Counts) -> Counts
     n
 }
 
-// Whether there is room for them, in the four logs whose counts change.
-pub fn begin_fits(n: Counts, room: Counts) -> bool
-    ensures { λ r. ⌜ r ≡ beginRoom n room ⌝ }
+// Whether there is room for it, in the four logs that get rows: behind the rows held, and by their numbers.
+pub fn begin_fits(row: bool, l: bool, len: usize, held: Counts, n: Counts, room: Counts) -> bool
+    requires { ⌜ len ≤ 4096 ⌝ }
+    requires { ⌜ Countable held n ⌝ }
+    ensures { λ r. ⌜ r ≡ beginRoom row l len held n room ⌝ }
 {
-    (n.bytes <= room.bytes)
-        & (n.packets <= room.packets)
-        & (n.transactions <= room.transactions)
-        & (n.links <= room.links)
+    let rows = flag_word(row) as usize;
+    let links = flag_word(l) as usize;
+    (held.bytes + len <= room.bytes)
+        & (held.packets + 1 <= room.packets)
+        & (held.transactions + rows <= room.transactions)
+        & (held.links + links <= room.links)
+        & up_to(n.bytes, len)
+        & up_to(n.packets, 1)
+        & up_to(n.transactions, rows)
+        & up_to(n.links, links)
 }
 
 // The T row of the transaction, where it is to have one, as the link row at n.
@@ -63,7 +70,7 @@ fn begin_link(
     links: &mut [u64],
 ) -> Transaction
     requires { ⌜ t .endpoint < 128 ⌝ }
-    requires { ⌜ entryAt (now table) (t .endpoint) .transactions + 1 < 2 ^ 64 ⌝ }
+    requires { ⌜ entryAt (now table) (t .endpoint) .transactions + one l < 2 ^ 64 ⌝ }
     requires { ⌜ (n + one l) * linkWidth ≤ length (now links) ⌝ }
     ensures { λ r. ⌜ r ≡ beginLink l (now (table .entry)) t ⌝ }
     ensures { λ r. ⌜ now (table .exit) ≡ beginTable l (t .endpoint) (now (table .entry)) ⌝ }
@@ -84,12 +91,12 @@ fn begin_link(
     t
 }
 
-// The packet of these bytes at this time; t is the transaction then, and `counts` those after it.
+// The packet of these bytes at this time, behind the rows held; t is the transaction then.
 pub fn begin_only(
     row: bool,
     t: Transaction,
     l: bool,
-    counts: Counts,
+    held: Counts,
     d: Decoder,
     packet: &[u8],
     time: u64,
@@ -100,25 +107,26 @@ pub fn begin_only(
     links: &mut [u64],
 ) -> Decoder
     requires { ⌜ t .endpoint < 128 ⌝ }
-    requires { ⌜ entryAt (now table) (t .endpoint) .transactions + 1 < 2 ^ 64 ⌝ }
-    requires { ⌜ d .counts .bytes + length (now packet) ≤ length (now bytes) ⌝ }
-    requires { ⌜ (d .counts .packets + 1) * packetWidth ≤ length (now packets) ⌝ }
-    requires { ⌜ (d .counts .transactions + one row) * transactionWidth ≤ length (now transactions) ⌝ }
-    requires { ⌜ (d .counts .links + one l) * linkWidth ≤ length (now links) ⌝ }
-    ensures { λ r. ⌜ r ≡ beginDecoder counts t l (now (table .entry)) d ⌝ }
+    requires { ⌜ entryAt (now table) (t .endpoint) .transactions + one l < 2 ^ 64 ⌝ }
+    requires { ⌜ BeginFits row l (length (now packet)) (d .counts) mostNumbers ⌝ }
+    requires { ⌜ held .bytes + length (now packet) ≤ length (now bytes) ⌝ }
+    requires { ⌜ (held .packets + 1) * packetWidth ≤ length (now packets) ⌝ }
+    requires { ⌜ (held .transactions + one row) * transactionWidth ≤ length (now transactions) ⌝ }
+    requires { ⌜ (held .links + one l) * linkWidth ≤ length (now links) ⌝ }
+    ensures { λ r. ⌜ r ≡ beginDecoder row t l (length (now (packet .entry))) (now (table .entry)) d ⌝ }
     ensures { λ r. ⌜ now (table .exit) ≡ beginTable l (t .endpoint) (now (table .entry)) ⌝ }
-    ensures { λ r. ⌜ now (bytes .exit) ≡ sets (now (bytes .entry)) (d .counts .bytes) (now (packet .entry)) ⌝ }
-    ensures { λ r. ⌜ now (packets .exit) ≡ sets (now (packets .entry)) (d .counts .packets * packetWidth) (d .counts .bytes ∷ time ∷ []) ⌝ }
-    ensures { λ r. ⌜ now (transactions .exit) ≡ sets (now (transactions .entry)) (d .counts .transactions * transactionWidth) (opt row (transactionWords (naming (d .counts .packets)))) ⌝ }
-    ensures { λ r. ⌜ now (links .exit) ≡ sets (now (links .entry)) (d .counts .links * linkWidth) (opt l (T ∷ t .endpoint ∷ t .id ∷ 0 ∷ [])) ⌝ }
+    ensures { λ r. ⌜ now (bytes .exit) ≡ sets (now (bytes .entry)) (held .bytes) (now (packet .entry)) ⌝ }
+    ensures { λ r. ⌜ now (packets .exit) ≡ sets (now (packets .entry)) (held .packets * packetWidth) (d .counts .bytes ∷ time ∷ []) ⌝ }
+    ensures { λ r. ⌜ now (transactions .exit) ≡ sets (now (transactions .entry)) (held .transactions * transactionWidth) (opt row (transactionWords (naming (d .counts .packets)))) ⌝ }
+    ensures { λ r. ⌜ now (links .exit) ≡ sets (now (links .entry)) (held .links * linkWidth) (opt l (T ∷ t .endpoint ∷ t .id ∷ 0 ∷ [])) ⌝ }
 {
     let n = d.counts;
     let stamp = stamp_of(n, time);
-    put_packet(n, packet, time, bytes, packets);
-    put_transaction(row, transactions, n.transactions, stamp);
-    let transaction = begin_link(l, t, n.links, table, links);
+    put_packet(n.bytes, held, packet, time, bytes, packets);
+    put_transaction(row, transactions, held.transactions, stamp);
+    let transaction = begin_link(l, t, held.links, table, links);
     Decoder {
-        counts,
+        counts: begin_counts(row, l, packet.len(), n),
         slot: Slot::Current,
         transaction,
         last: d.last,

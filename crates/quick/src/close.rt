@@ -13,13 +13,13 @@ use packet::inner::put_packet;
 use plan::End;
 use record::Counts;
 use record::Decoder;
-use record::room::fits;
 use rules::EventState;
 use rules::Slot;
 use tally::add::Tally;
 use tally::add::tally_none;
 use tally::add::tally_packet;
 use tally::add_counts;
+use tally::has_room_for;
 use tally::tally_end;
 use transaction::Transaction;
 use transaction::payload::start_pid;
@@ -33,18 +33,17 @@ ghost use Prim.Native.Nat.{_+_, _*_, _^_, _≤_};
 ghost use lib.ListN.{length};
 ghost use Rattle.rows.specs.Widths.{packetWidth};
 ghost use Rattle.transaction.specs.Payload.{startPid};
-ghost use Rattle.tally.specs.Tallies.{Under};
+ghost use Rattle.tally.specs.Tallies.{Countable, Sums};
 ghost use Rattle.decide.specs.Ready.{Ready};
 ghost use Rattle.write_packet.specs.Asked.{EndsIf};
 ghost use Rattle.write_packet.specs.Desk.{desk};
 ghost use Rattle.quick.specs.Close.{endBy, closeTally, closeOf, holding, closeHand, closedDecoder, OnClose};
 
-// Whether the packet is taken, and what the record counts then.
+// Whether the packet is taken, and the rows that it adds.
 pub struct Close {
     // It ends the transaction, there is room, no byte total passes 2^64 - 1, and no device is added.
     pub taken: bool,
-    pub counts: Counts,
-    pub waiting: usize,
+    pub tally: Tally,
 }
 
 // The end of the transaction that is held, where the packet is of that shape; old is what is known of its endpoint.
@@ -76,25 +75,23 @@ fn close_tally(end: End, len: usize, d: Decoder) -> Tally
     tally_end(end, n.endpoints, t)
 }
 
-// Reckoned before anything is written.
-pub fn close_of(closes: bool, end: End, d: Decoder, len: usize, room: Counts) -> Close
+// Reckoned before anything is written; the logs hold the rows `held`.
+pub fn close_of(closes: bool, end: End, d: Decoder, held: Counts, len: usize, room: Counts) -> Close
     requires { ⌜ len ≤ 4096 ⌝ }
     requires { ⌜ d .waiting ≤ 128 ⌝ }
     requires { ⌜ d .counts .endpoints ≤ 128 ⌝ }
-    requires { ⌜ Under (2 ^ 40) (d .counts) ⌝ }
-    ensures { λ r. ⌜ r ≡ closeOf closes end d len room ⌝ }
+    requires { ⌜ Countable held (d .counts) ⌝ }
+    ensures { λ r. ⌜ r ≡ closeOf closes end d held len room ⌝ }
 {
     let tally = close_tally(end, len, d);
-    let counts = add_counts(d.counts, tally);
     let entry = end.entry;
     let effect = end.effect;
     let over = total_passes(effect, entry.total);
     let adds = adds_device(effect);
-    let fits = fits(counts, room);
+    let fits = has_room_for(held, d.counts, tally, room);
     Close {
         taken: closes & (fits & (!over & !adds)),
-        counts,
-        waiting: tally.waiting,
+        tally,
     }
 }
 
@@ -107,29 +104,30 @@ fn holding(t: Transaction, d: Decoder) -> Decoder
     d
 }
 
-fn closed_decoder(t: Transaction, c: Close, d: Decoder, h: Hand) -> Decoder
-    ensures { λ r. ⌜ r ≡ closedDecoder t c (h .written) d ⌝ }
+fn closed_decoder(t: Transaction, tally: Tally, d: Decoder, h: Hand) -> Decoder
+    requires { ⌜ Sums (d .counts) tally ⌝ }
+    ensures { λ r. ⌜ r ≡ closedDecoder t tally (h .written) d ⌝ }
 {
-    let counts = c.counts;
     let written = h.written;
     let transaction = tie(t, written);
     Decoder {
-        counts,
+        counts: add_counts(d.counts, tally),
         slot: Slot::Empty,
         transaction,
         last: written.last,
         event: EventState::Idle,
         keepalive: d.keepalive,
-        waiting: c.waiting,
+        waiting: tally.waiting,
         finished: d.finished,
     }
 }
 
-// The packet of these bytes at this time; t is the transaction that ends.
+// The packet of these bytes at this time, behind the rows held; t is the transaction that ends.
 pub fn close_only(
     t: Transaction,
     end: End,
-    c: Close,
+    tally: Tally,
+    held: Counts,
     d: Decoder,
     packet: &[u8],
     time: u64,
@@ -144,15 +142,17 @@ pub fn close_only(
     links: &mut [u64],
     requests: &mut [u64],
 ) -> Decoder
-    requires { ⌜ d .counts .bytes + length (now packet) ≤ length (now bytes) ⌝ }
-    requires { ⌜ (d .counts .packets + 1) * packetWidth ≤ length (now packets) ⌝ }
-    requires { ⌜ EndsIf true (t .endpoint) (t .id) (startPid (t .style)) end (desk (closeHand t time d) (now table) (now «device_rows») [] [] (now groups) (now statebytes) (now states) (now items) (now links) (now requests)) ⌝ }
-    ensures { λ r. ⌜ OnClose t end c (now (packet .entry)) time d (now (table .entry)) (now (bytes .entry)) (now («device_rows» .entry)) (now (packets .entry)) (now (groups .entry)) (now (statebytes .entry)) (now (states .entry)) (now (items .entry)) (now (links .entry)) (now (requests .entry)) r (now (table .exit)) (now (bytes .exit)) (now («device_rows» .exit)) (now (packets .exit)) (now (groups .exit)) (now (statebytes .exit)) (now (states .exit)) (now (items .exit)) (now (links .exit)) (now (requests .exit)) ⌝ }
+    requires { ⌜ Sums (d .counts) tally ⌝ }
+    requires { ⌜ held .bytes + length (now packet) ≤ length (now bytes) ⌝ }
+    requires { ⌜ (held .packets + 1) * packetWidth ≤ length (now packets) ⌝ }
+    requires { ⌜ EndsIf true (t .endpoint) (t .id) (startPid (t .style)) end (desk (closeHand t time d held (now table)) (now table) (now «device_rows») [] [] (now groups) (now statebytes) (now states) (now items) (now links) (now requests)) ⌝ }
+    ensures { λ r. ⌜ OnClose t end tally held (now (packet .entry)) time d (now (table .entry)) (now (bytes .entry)) (now («device_rows» .entry)) (now (packets .entry)) (now (groups .entry)) (now (statebytes .entry)) (now (states .entry)) (now (items .entry)) (now (links .entry)) (now (requests .entry)) r (now (table .exit)) (now (bytes .exit)) (now («device_rows» .exit)) (now (packets .exit)) (now (groups .exit)) (now (statebytes .exit)) (now (states .exit)) (now (items .exit)) (now (links .exit)) (now (requests .exit)) ⌝ }
 {
-    put_packet(d.counts, packet, time, bytes, packets);
+    let n = d.counts;
+    put_packet(n.bytes, held, packet, time, bytes, packets);
     let style = t.style;
     let pid = start_pid(style);
-    let hand = hand_of(holding(t, d), time);
+    let hand = hand_of(holding(t, d), held, time, table);
     let hand = end_if(
         true,
         t.endpoint,
@@ -169,5 +169,5 @@ pub fn close_only(
         links,
         requests,
     );
-    closed_decoder(t, c, d, hand)
+    closed_decoder(t, tally, d, hand)
 }

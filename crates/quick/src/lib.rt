@@ -3,7 +3,6 @@ mod begin;
 mod close;
 mod shape;
 
-use crate::begin::begin_counts;
 use crate::begin::begin_fits;
 use crate::begin::begin_only;
 use crate::close::close_of;
@@ -19,6 +18,7 @@ use packet::change::no_change;
 use packet::inner::Inner;
 use packet::inner::packet_in;
 use record::Decoder;
+use record::room::held_of;
 use transaction::payload::start_pid;
 ghost use mathlib.Core.Bool.{false};
 ghost use mathlib.Core.Path.{_≡_};
@@ -76,14 +76,14 @@ pub fn quick_in(
     let style = held.style;
     let _token = start_pid(style);
     let none = no_change();
+    let rows = held_of(d.counts, table);
     let q = shape_of(d, near, table, packet);
-    let counts = begin_counts(q.row, q.link, packet.len(), d.counts);
-    if q.begins & begin_fits(counts, room) {
+    if q.begins & begin_fits(q.row, q.link, packet.len(), rows, d.counts, room) {
         let decoder = begin_only(
             q.row,
             q.transaction,
             q.link,
-            counts,
+            rows,
             d,
             packet,
             time,
@@ -100,12 +100,13 @@ pub fn quick_in(
         };
     }
     let end = end_by(q, d, near.old, table);
-    let c = close_of(q.closes, end, d, packet.len(), room);
+    let c = close_of(q.closes, end, d, rows, packet.len(), room);
     if c.taken {
         let decoder = close_only(
             q.transaction,
             end,
-            c,
+            c.tally,
+            rows,
             d,
             packet,
             time,

@@ -21,7 +21,7 @@ use Rattle.endpoints.specs.declared.Phase.the-variants.{None, Early, Active, En
 use Rattle.rules.specs.World.{noItem}
 use Rattle.rules.specs.declared.Slot.{Slot}
 use Rattle.rules.specs.declared.Slot.the-variants.{Empty, Current, Suspended}
-use Rattle.record.specs.Room.{fitting}
+use Rattle.record.specs.Room.{roomy}
 use Rattle.record.specs.declared.Counts.{Counts}
 use Rattle.record.specs.declared.Decoder.{Decoder}
 
@@ -169,7 +169,7 @@ waitingIs d table = eqb (d .waiting) (waiting table (d .counts .endpoints))
 -- 01, answer 1: "the record is not well formed" exactly where this is false
 unfoldable pub wellFormed : Decoder → List Device → List ℕ → Counts → Bool
 wellFormed d devices table room =
-    fitting (d .counts) room
+    roomy table (d .counts) room
     && specialsStand (d .counts) devices table
     && eventRests table
     && every (endpointFormed (d .counts) table) 0 (d .counts .endpoints)

@@ -20,7 +20,8 @@ use Rattle.endpoints.specs.declared.Phase.the-variants.{None, Early, Active, En
 use Rattle.rules.specs.World.{noItem}
 use Rattle.record.specs.Bools.{both, and, implied, imply, either-true, or-left, or-right, every-at, every-true}
 use Rattle.record.specs.Formed.{standing, wordsStored, entryFormed, endpointFormed, heldStyle, mayLack, heldFormed, holds, special, specialsStand, lastNames, wellFormed, Stored}
-use Rattle.record.specs.RoomLaws.{Within, within, fitting-within}
+use Rattle.record.specs.Room.{heldOf}
+use Rattle.record.specs.RoomLaws.{Within, Begun, Numbered, roomy-is, is-roomy}
 use Rattle.record.specs.declared.Counts.{Counts}
 use Rattle.record.specs.declared.Decoder.{Decoder}
 
@@ -225,7 +226,9 @@ resting Active h = absurd (false≢true h)
 resting Ended h = absurd (false≢true h)
 
 pub record WellFormed (d : Decoder) (devices : List Device) (table : List ℕ) (room : Counts) : Type 0 where
-  pub counts : Within (d .counts) room
+  pub begun : Begun table (d .counts)
+  pub counts : Within (heldOf table (d .counts)) room
+  pub numbered : Numbered (d .counts)
   pub specials : SpecialsStand (d .counts) devices table
   pub rests : entryAt table 0 .phase ≡ None
   pub endpoints : (i : ℕ) → i < d .counts .endpoints → EndpointFormed (d .counts) table i
@@ -242,8 +245,11 @@ well d devices table room h =
     let h3 = both _ _ (h4 .0) in
     let h2 = both _ _ (h3 .0) in
     let h1 = both _ _ (h2 .0) in
+    let r = roomy-is table (d .counts) room (h1 .0) in
     record {
-      counts = within _ _ (h1 .0);
+      begun = r .begun;
+      counts = r .held;
+      numbered = r .numbered;
       specials = specials _ _ _ (h1 .1);
       rests = resting _ (h2 .1);
       endpoints = λ i v. endpoint (d .counts) table i (every-at (endpointFormed (d .counts) table) (d .counts .endpoints) 0 i (h3 .1) (omega arith) (omega arith));
@@ -266,7 +272,7 @@ well-formed d devices table room w =
     (and _ _
     (and _ _
     (and _ _
-    (and _ _ (fitting-within _ _ (w .counts)) (specials-stand _ _ _ (w .specials)))
+    (and _ _ (is-roomy _ _ _ (record { begun = w .begun; held = w .counts; numbered = w .numbered })) (specials-stand _ _ _ (w .specials)))
     (rw rests))
     (every-true (endpointFormed (d .counts) table) (d .counts .endpoints) 0 (λ i u v. endpoint-formed (d .counts) table i (w .endpoints i (omega arith)))))
     (imply _ _ (λ g. held-formed _ _ _ (w .held g))))

@@ -1,6 +1,6 @@
 -- Laws (proved): a fresh decoder is well formed in every room that it fits, and stands for the world that the rules begin with; a refused one is well formed
 -- in none.
-use Prim.Native.Nat.{ℕ, zero, suc, _*_, _<_, _≤_}
+use Prim.Native.Nat.{ℕ, zero, suc, _+_, _*_, _<_, _≤_}
 use native.Mathlib.Omega.{arith}
 use mathlib.Core.Path.{_≡_, refl, sym, ap, _∙_}
 use mathlib.Core.Bool.{Bool, true, false, false≢true}
@@ -13,7 +13,7 @@ use Rattle.details.specs.Details.{fresh}
 use Rattle.endpoints.specs.Phases.{inPhase, waiting}
 use Rattle.endpoints.specs.PhasesLaws.{count-none, phase-entry}
 use Rattle.details.specs.Search.{blank}
-use Rattle.endpoints.specs.Table.{words, phaseWord, entryAt, storeAt, newEndpoint}
+use Rattle.endpoints.specs.Table.{words, phaseWord, entryAt, storeAt, firstAt, newEndpoint}
 use Rattle.endpoints.specs.TableLaws.{Fits, load-store-same, load-store-other}
 use Rattle.endpoints.specs.Word as word
 use Rattle.details.specs.declared.Device.{Device}
@@ -23,7 +23,8 @@ use Rattle.rules.specs.World.{World}
 use Rattle.record.specs.Formed.{wellFormed, Stored}
 use Rattle.record.specs.FormedLaws.{EntryFormed, well, well-formed}
 use Rattle.record.specs.Fresh.{countsOf, freshDecoder, freshDevices, clearTable, freshTable, refusedDecoder}
-use Rattle.record.specs.RoomLaws.{Within}
+use Rattle.record.specs.Room.{heldOf}
+use Rattle.record.specs.RoomLaws.{Within, Begun}
 use Rattle.record.specs.StoredLaws.{stored-same, stored-other, length-store}
 use Rattle.record.specs.TabledLaws.{store-past}
 use Rattle.record.specs.World.{worldOf}
@@ -74,6 +75,17 @@ pub record Agrees (w v : World) : Type 0 where
   pub stateBytes : w .stateBytes ≡ v .stateBytes
   pub items : w .items ≡ v .items
 
+-- behind the three entries of a fresh table all is 0
+pub fresh-beyond : (table : List ℕ) (i : ℕ) → 3 * word.width ≤ i → getD (freshTable table) i 0 ≡ 0
+unfolding freshTable
+fresh-beyond table i h =
+    store-past _ 2 _ i (omega arith) ∙ (store-past _ 1 _ i (omega arith) ∙ (store-past _ 0 _ i (omega arith) ∙ clear-word (length table) i))
+
+-- so each log begins at 0
+pub fresh-first : (table : List ℕ) (k : ℕ) → firstAt k (freshTable table) ≡ 0
+unfolding firstAt
+fresh-first table k = fresh-beyond table (word.firsts + k) (omega arith)
+
 module _ (table : List ℕ) (l : length table ≡ word.table) where
   length-0 : length (clearTable table) ≡ word.table
   length-0 = length-replicate (length table) 0 ∙ l
@@ -100,11 +112,25 @@ module _ (table : List ℕ) (l : length table ≡ word.table) where
   fresh-stored (suc (suc zero)) h = stored-same _ 2 _ length-2 (omega arith) (new-fits 0x12 (omega arith))
   fresh-stored (suc (suc (suc i))) h = absurd (omega arith)
 
-  -- behind the three entries all is 0
-  pub fresh-beyond : (i : ℕ) → 3 * word.width ≤ i → getD (freshTable table) i 0 ≡ 0
-  unfolding freshTable
-  fresh-beyond i h =
-      store-past _ 2 _ i (omega arith) ∙ (store-past _ 1 _ i (omega arith) ∙ (store-past _ 0 _ i (omega arith) ∙ clear-word (length table) i))
+  -- so it holds all that it numbers
+  fresh-held : (room : Counts) → Within (countsOf 1 3) room → Within (heldOf (freshTable table) (countsOf 1 3)) room
+  fresh-held room w =
+      record {
+        bytes = omega (arith, w .bytes);
+        devices = omega (arith, w .devices);
+        fewDevices = omega (arith, w .fewDevices);
+        endpoints = omega (arith, w .endpoints);
+        fewEndpoints = omega (arith, w .fewEndpoints);
+        packets = omega (arith, w .packets);
+        events = omega (arith, w .events);
+        transactions = omega (arith, w .transactions);
+        groups = omega (arith, w .groups);
+        statebytes = omega (arith, w .statebytes);
+        states = omega (arith, w .states);
+        items = omega (arith, w .items);
+        links = omega (arith, w .links);
+        requests = omega (arith, w .requests);
+      }
 
   none-waits : waiting (freshTable table) 3 ≡ 0
   none-waits =
@@ -123,7 +149,19 @@ module _ (table : List ℕ) (l : length table ≡ word.table) where
       let e2 = fresh-entry 2 (omega arith) in
       well-formed _ _ _ _
       (record {
-        counts = w;
+        begun = record {
+          bytes = let e = fresh-first table 0 in omega (arith, e);
+          packets = let e = fresh-first table 3 in omega (arith, e);
+          events = let e = fresh-first table 4 in omega (arith, e);
+          transactions = let e = fresh-first table 5 in omega (arith, e);
+          groups = let e = fresh-first table 6 in omega (arith, e);
+          statebytes = let e = fresh-first table 7 in omega (arith, e);
+          states = let e = fresh-first table 8 in omega (arith, e);
+          items = let e = fresh-first table 9 in omega (arith, e);
+          links = let e = fresh-first table 10 in omega (arith, e);
+        };
+        counts = fresh-held room w;
+        numbered = record { bytes = omega arith; packets = omega arith; events = omega arith; transactions = omega arith; groups = omega arith; statebytes = omega arith; states = omega arith; items = omega arith; links = omega arith };
         specials = record {
           some = omega arith;
           address = first-device devices h;

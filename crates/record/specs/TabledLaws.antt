@@ -1,5 +1,5 @@
 -- Laws (proved): a table of n endpoints while a call writes on it: their rows are words as `store` writes them, and the words behind them are as they were.
-use Prim.Native.Nat.{ℕ, suc, _*_, _<_, _≤_}
+use Prim.Native.Nat.{ℕ, suc, _+_, _*_, _<_, _≤_}
 use native.Mathlib.Omega.{arith}
 use mathlib.Core.Path.{_≡_, refl, _∙_}
 use mathlib.Core.Bool.{Bool, true, false}
@@ -12,7 +12,7 @@ use Rattle.endpoints.specs.EachLaws.{each-else}
 use Rattle.endpoints.specs.Each.{becomes, cleared, ended, stateWord, nextStates}
 use Rattle.endpoints.specs.PhasesLaws.{length-cleared, length-ended}
 use Rattle.endpoints.specs.StatesLaws.{length-next}
-use Rattle.endpoints.specs.Table.{words, entryAt, storeAt}
+use Rattle.endpoints.specs.Table.{words, entryAt, storeAt, firstAt}
 use Rattle.endpoints.specs.TableLaws.{Fits, fits-entry}
 use Rattle.endpoints.specs.Word as word
 use Rattle.endpoints.specs.declared.Endpoint.{Endpoint}
@@ -93,3 +93,8 @@ tabled-more {n} {t₀} {t} h few e f =
       stored = store-stored (suc n) t n e (h .size) few f (λ i u ne. h .stored i (omega arith));
       beyond = λ i u. store-past t n e i u ∙ h .beyond i (omega arith);
     }
+
+-- the first numbers stand behind all entries, and stay
+pub first-kept : {n : ℕ} {t₀ t : List ℕ} → Tabled n t₀ t → n ≤ 128 → (k : ℕ) → firstAt k t ≡ firstAt k t₀
+unfolding firstAt
+first-kept h few k = h .beyond (word.firsts + k) (omega arith)

@@ -2,7 +2,7 @@
 use crate::Counts;
 use crate::Decoder;
 use crate::NO_ITEM;
-use crate::room::fits;
+use crate::room::has_room;
 use details::Device;
 use details::EVENT_EP_NUM;
 use details::FRAMING_EP_NUM;
@@ -197,7 +197,7 @@ pub fn well_formed(d: Decoder, devices: [Device; 64], table: &Table, room: Count
     let counts = d.counts;
     let slot = d.slot;
     let t = d.transaction;
-    if fits(counts, room) {
+    if has_room(counts, table, room) {
         specials_stand(counts, devices, table)
             & event_rests(table)
             & endpoints_formed(counts, table)

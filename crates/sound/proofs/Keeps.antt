@@ -1,5 +1,5 @@
 -- What specs/Kept.antt claims: every call keeps `sound`, since it keeps the four parts of it on worlds, and a fresh decoder has it.
-use Prim.Native.Nat.{ℕ, zero, suc, _<_}
+use Prim.Native.Nat.{ℕ, zero, suc, _<_, _+_}
 use native.Mathlib.Omega.{arith}
 use mathlib.Core.Path.{_≡_, refl, ap, _∙_, subst}
 use mathlib.Core.Bool.{Bool, true, false}
@@ -24,8 +24,9 @@ use Rattle.rules.proofs.Tokened.{tokened-after}
 use Rattle.record.specs.Answers.{Tests, firstOf, detailTests}
 use Rattle.record.specs.AnswersLaws.{Passed, accepted, answer-8}
 use Rattle.record.specs.Bools.{either-true}
-use Rattle.record.specs.Room.{fitting}
-use Rattle.record.specs.RoomLaws.{Within, within}
+use Rattle.record.specs.Room.{roomy}
+use Rattle.record.specs.FormedLaws.{WellFormed}
+use Rattle.record.specs.RoomLaws.{Roomy, roomy-is, roomy-same}
 use Rattle.record.specs.FreshLaws.{Agrees}
 use Rattle.record.specs.declared.Counts.{Counts}
 use Rattle.call.specs.Outcome.{isIll, isFull, countsAfter, Answers, accepts, worldAt}
@@ -52,39 +53,44 @@ passed q h = by (either-true (eqb (firstOf q) 0) (eqb (firstOf q) 8) h)
     by (inl e) = accepted q (eqb-true (firstOf q) 0 e) .0
     by (inr e) = answer-8 q (eqb-true (firstOf q) 8 e) .0
 
-pub room-left : (s : State) (w : World) → isFull s w ≡ false → Within (countsAfter (s .decoder .counts) w) (roomOf (s .logs))
+pub room-left : (s : State) (w : World) → isFull s w ≡ false → Roomy (s .table) (countsAfter (s .decoder .counts) w) (roomOf (s .logs))
 unfolding isFull
-room-left s w h = within _ _ (not-true (fitting (countsAfter (s .decoder .counts) w) (roomOf (s .logs))) h)
+room-left s w h = roomy-is _ _ _ (not-true (roomy (s .table) (countsAfter (s .decoder .counts) w) (roomOf (s .logs))) h)
 
 -- a detail appends nothing: its room is that of the record
-still : (s : State) (f : ℕ → Device) (room : Counts) → Within (s .decoder .counts) room → Within (countsAfter (s .decoder .counts) (withDevices f (worldAt s))) room
+still : (s : State) (f : ℕ → Device) → countsAfter (s .decoder .counts) (withDevices f (worldAt s)) ≡ s .decoder .counts
 unfolding countsAfter
-still s f room w =
-    record {
-      bytes = w .bytes;
-      devices = w .devices;
-      fewDevices = w .fewDevices;
-      endpoints = w .endpoints;
-      fewEndpoints = w .fewEndpoints;
-      packets = w .packets;
-      events = omega (arith, w .events);
-      transactions = w .transactions;
-      groups = w .groups;
-      statebytes = w .statebytes;
-      states = omega (arith, w .states);
-      items = w .items;
-      links = omega (arith, w .links);
-      requests = omega (arith, w .requests);
+still s f =
+    let n = s .decoder .counts in
+    λ i. record {
+      bytes = n .bytes;
+      devices = n .devices;
+      endpoints = n .endpoints;
+      packets = n .packets;
+      events = none (n .events) i;
+      transactions = n .transactions;
+      groups = n .groups;
+      statebytes = n .statebytes;
+      states = none (n .states) i;
+      items = n .items;
+      links = none (n .links) i;
+      requests = none (n .requests) i;
     }
+  where
+    none : (m : ℕ) → m + 0 ≡ m
+    none m = omega arith
 
-pub detail-room : (address number direction kind max : ℕ) (s : State) → Within (s .decoder .counts) (roomOf (s .logs))
-    → Within (countsAfter (s .decoder .counts) (handleDetail address number direction kind max (worldAt s))) (roomOf (s .logs))
+pub detail-room : (address number direction kind max : ℕ) (s : State) → WellFormed (s .decoder) (s .devices) (s .table) (roomOf (s .logs))
+    → Roomy (s .table) (countsAfter (s .decoder .counts) (handleDetail address number direction kind max (worldAt s))) (roomOf (s .logs))
 unfolding handleDetail
 detail-room address number direction kind max s w = on (deviceFor address (worldAt s))
   where
-    on : (g : Found) → Within (countsAfter (s .decoder .counts) (setDetailOn g number direction kind max (worldAt s))) (roomOf (s .logs))
-    on (At i) = still s _ (roomOf (s .logs)) w
-    on Nothing = still s (worldAt s .devices) (roomOf (s .logs)) w
+    before : Roomy (s .table) (s .decoder .counts) (roomOf (s .logs))
+    before = record { begun = w .begun; held = w .counts; numbered = w .numbered }
+
+    on : (g : Found) → Roomy (s .table) (countsAfter (s .decoder .counts) (setDetailOn g number direction kind max (worldAt s))) (roomOf (s .logs))
+    on (At i) = roomy-same (λ k. refl) (still s _) before
+    on Nothing = roomy-same (λ k. refl) (still s (worldAt s .devices)) before
 
 -- ---- a fresh decoder
 
@@ -112,7 +118,7 @@ sound-fresh v t l s m ht hv =
 -- ---- every call
 
 -- one that is accepted leaves what the rules leave, and any other leaves all as it was
-keeps : (k : Call) (s : State) (q : Tests) (f : Bool) (a : ℕ) (s′ : State) → (Passed q → Within (countsAfter (s .decoder .counts) (call k (worldAt s))) (roomOf (s .logs)))
+keeps : (k : Call) (s : State) (q : Tests) (f : Bool) (a : ℕ) (s′ : State) → (Passed q → Roomy (s .table) (countsAfter (s .decoder .counts) (call k (worldAt s))) (roomOf (s .logs)))
     → Answers q (call k (worldAt s)) f s a s′ → isSound s ≡ true → isSound s′ ≡ true
 keeps k s q f a s′ room x h = by (accepts (firstOf q)) refl
   where
@@ -144,7 +150,7 @@ pub sound-detail : (address number direction kind max : ℕ) → Keeps (Details 
 unfolding Details
 sound-detail address number direction kind max s a s′ x h =
     keeps (detail address number direction kind max) s (detailTests (isIll s) (s .decoder .finished) number direction kind (deviceFor address (worldAt s))) (s .decoder .finished) a s′
-    (λ p. detail-room address number direction kind max s (sound s (sound-well s h) .0 .counts)) x h
+    (λ p. detail-room address number direction kind max s (sound s (sound-well s h) .0)) x h
 
 pub kept : Kept
 kept = record { well = sound-well; fresh = sound-fresh; packet = sound-packet; event = sound-event; detail = sound-detail; finish = sound-finish }

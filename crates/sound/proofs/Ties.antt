@@ -31,11 +31,11 @@ use Rattle.rules.proofs.Counted.{written-width}
 use Rattle.record.specs.Bools.{both, and, nor, or-right, every-at, every-true}
 use Rattle.record.specs.Formed.{standing, heldStyle, mayLack, holds, every}
 use Rattle.record.specs.FormedLaws.{EntryFormed, HeldFormed, Special, resting, WellFormed, well-formed}
-use Rattle.record.specs.RoomLaws.{Within, Short, long-short}
+use Rattle.record.specs.RoomLaws.{Roomy, roomy-same, Short, long-short}
 use Rattle.record.specs.declared.Counts.{Counts}
 use Rattle.call.specs.Outcome.{isIll, countsAfter, decoderOf, Left, worldAt}
 use Rattle.call.specs.OutcomeLaws.{same-room, sound, waiting-entries}
-use Rattle.call.specs.State.{State, state, roomOf}
+use Rattle.call.specs.State.{State, state, heldAt, roomOf}
 use Rattle.sound.specs.Fit.{linkRows, Fit, inHand, brings, Paid}
 use Rattle.sound.specs.Sound.{isPaid, soundIn, isSound}
 
@@ -219,12 +219,15 @@ module _ (s s′ : State) (w : World) (f : Bool) (left : Left w f s s′) (fit :
   entries : (i : ℕ) → i < w .count → entryAt (s′ .table) i ≡ w .endpoints i
   entries = left .table .entries
 
-  formed : (room : Counts) → Tokened w → Linked w → Within (countsAfter (s .decoder .counts) w) room → WellFormed (decoderOf (s .decoder .counts) f w) (s′ .devices) (s′ .table) room
+  formed : (room : Counts) → Tokened w → Linked w → Roomy (s .table) (countsAfter (s .decoder .counts) w) room → WellFormed (decoderOf (s .decoder .counts) f w) (s′ .devices) (s′ .table) room
   unfolding decoderOf countsAfter
-  formed room token link within =
+  formed room token link roomy =
       let three = fit .three in
+      let r = roomy-same (left .table .firsts) refl roomy in
       record {
-        counts = within;
+        begun = r .begun;
+        counts = r .held;
+        numbered = r .numbered;
         specials =
             record {
               some = fit .device;
@@ -252,11 +255,11 @@ module _ (s s′ : State) (w : World) (f : Bool) (left : Left w f s s′) (fit :
   unfolding decoderOf countsAfter
   paid-there i u = let q = entries i u in rw q (paid i u)
 
-  pub left-sound : Short (roomOf (s .logs)) → Within (countsAfter (s .decoder .counts) w) (roomOf (s .logs)) → Tokened w → Linked w → isSound s′ ≡ true
+  pub left-sound : Short (roomOf (s .logs)) → Roomy (s .table) (countsAfter (s .decoder .counts) w) (roomOf (s .logs)) → Tokened w → Linked w → isSound s′ ≡ true
   left-sound short within token link = ap isSound same ∙ sound-is there (rw room short) (formed (roomOf (s′ .logs)) token link (rw room within)) paid-there
     where
       same : s′ ≡ there
       same = λ i. record { decoder = left .decoder i; devices = s′ .devices; table = s′ .table; logs = s′ .logs }
 
       room : roomOf (s′ .logs) ≡ roomOf (s .logs)
-      room = same-room w (s .decoder .counts) (s .logs) (s′ .logs) (left .logs)
+      room = same-room w (heldAt s) (s .logs) (s′ .logs) (left .logs)

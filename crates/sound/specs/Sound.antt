@@ -1,6 +1,6 @@
 -- Inner (cited by private contracts alone): the invariant `sound`: a call is not answered 1, and no endpoint's payloads pass the packet bytes logged even when
 -- they are added up.
-use Prim.Native.Nat.{ℕ, _+_, _^_, _<_}
+use Prim.Native.Nat.{ℕ, _+_}
 use mathlib.Core.Bool.{Bool, not, _&&_, _||_}
 use mathlib.Core.List.{List}
 use lib.Dec.{leb}
@@ -27,7 +27,3 @@ soundIn d devices table room =
 
 abbrev pub isSound : State → Bool
 isSound s = soundIn (s .decoder) (s .devices) (s .table) (roomOf (s .logs))
-
--- what the test adds up are words
-abbrev pub Summable : Decoder → List ℕ → Type 0
-Summable d table = (i : ℕ) → i < d .counts .endpoints → paying d table i < 2 ^ 64

@@ -9,11 +9,13 @@ use record::Counts;
 use record::Decoder;
 use rules::Slot;
 use transaction::Transaction;
-ghost use Prim.Native.Nat.{_+_, _^_, _<_, _≤_};
+ghost use Prim.Native.Nat.{_+_, _<_, _≤_};
+ghost use lib.Dec.{leb};
+ghost use Rattle.transaction.specs.Table.{pick};
 ghost use mathlib.Core.Path.{_≡_};
 ghost use Rattle.record.specs.Formed.{every, holds};
-ghost use Rattle.sound.specs.Fit.{inHand, brings};
-ghost use Rattle.sound.specs.Sound.{paying, isPaid, soundIn, Summable};
+ghost use Rattle.sound.specs.Fit.{brings};
+ghost use Rattle.sound.specs.Sound.{isPaid, soundIn};
 
 // Whether the slot holds a transaction.
 fn is_held(slot: Slot) -> bool
@@ -26,16 +28,11 @@ fn is_held(slot: Slot) -> bool
     }
 }
 
-// What an endpoint has in hand: its control payload, and one that waits.
-fn in_hand(e: Endpoint) -> u64
-    requires { ⌜ inHand e < 2 ^ 64 ⌝ }
-    ensures { λ r. ⌜ r ≡ inHand e ⌝ }
+// The payload that waits at an endpoint.
+fn waiting(e: Endpoint) -> u64
+    ensures { λ r. ⌜ r ≡ pick (e .pending) (e .pendinglength) 0 ⌝ }
 {
-    if e.pending {
-        e.payload + e.pendinglength
-    } else {
-        e.payload
-    }
+    if e.pending { e.pendinglength } else { 0 }
 }
 
 // What the transaction, where it is held, may bring to endpoint i.
@@ -51,20 +48,42 @@ fn brought(slot: Slot, t: Transaction, i: usize) -> u64
     }
 }
 
-// Together they do not pass the packet bytes.
+// Whether three numbers together do not pass `most`. They are taken from it one by one: their sum may be no word.
+fn together_within(a: u64, b: u64, c: u64, most: u64) -> bool
+    ensures { λ r. ⌜ r ≡ leb (a + b + c) most ⌝ }
+{
+    if a > most {
+        return false;
+    }
+    let left = most - a;
+    if b > left {
+        return false;
+    }
+    if c > left - b {
+        return false;
+    }
+    true
+}
+
+// What an endpoint has in hand, its control payload and one that waits, and what may be brought to it: together they do not pass the packet bytes.
 fn endpoint_paid(d: Decoder, table: &Table, i: usize) -> bool
-    requires { ⌜ (i < 128) × (paying d (now table) i < 2 ^ 64) ⌝ }
+    requires { ⌜ i < 128 ⌝ }
     ensures { λ r. ⌜ r ≡ isPaid d (now (table .entry)) i ⌝ }
 {
     let counts = d.counts;
     let slot = d.slot;
     let t = d.transaction;
     let e = load(table, i);
-    in_hand(e) + brought(slot, t, i) <= counts.bytes as u64
+    together_within(
+        e.payload,
+        waiting(e),
+        brought(slot, t, i),
+        counts.bytes as u64,
+    )
 }
 
 fn endpoints_paid(d: Decoder, table: &Table) -> bool
-    requires { ⌜ (d .counts .endpoints ≤ 128) × Summable d (now table) ⌝ }
+    requires { ⌜ d .counts .endpoints ≤ 128 ⌝ }
     ensures { λ r. ⌜ r ≡ every (isPaid d (now (table .entry))) 0 (d .counts .endpoints) ⌝ }
 {
     let counts = d.counts;

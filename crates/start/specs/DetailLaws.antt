@@ -102,7 +102,7 @@ same-decoder s f h =
     none m = omega arith
 
 same-table : (s : State) (f : ℕ → Device) → isIll s ≡ false → TableOf (withDevices f (worldAt s)) (s .table) (s .table)
-same-table s f h = record { size = refl; entries = λ i u. refl; words = λ i u. sound s h .0 .endpoints i u .words; beyond = λ i u. refl }
+same-table s f h = record { size = refl; entries = λ i u. refl; words = λ i u. sound s h .0 .endpoints i u .words; beyond = λ i u. refl; firsts = λ k. refl }
 
 -- ---- the outcome, by the tests in their order
 
@@ -225,7 +225,9 @@ module _ (address number direction kind max : ℕ) (s : State) where
         (ap not
         (well-formed _ _ _ _
         (record {
+          begun = w .begun;
           counts = w .counts;
+          numbered = w .numbered;
           specials = record { some = p .some; address = first-stays ∙ p .address; three = p .three; event = p .event; invalid = p .invalid; framing = p .framing };
           rests = w .rests;
           endpoints = w .endpoints;

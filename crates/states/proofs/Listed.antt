@@ -10,7 +10,8 @@ use Rattle.rules.specs.Demand.{finishing}
 use Rattle.rules.specs.Rows.{Row, log}
 use Rattle.text.specs.Lines.{stateLine}
 use Rattle.trace.specs.declared.clock.Clock.{Clock}
-use Rattle.record.specs.RoomLaws.{Within}
+use Rattle.record.specs.RoomLaws.{Within, all-held}
+use Rattle.record.specs.declared.Counts.{Counts}
 use Rattle.call.specs.OutcomeLaws.{sound}
 use Rattle.call.specs.State.{Logs, State, roomBy, roomOf}
 use Rattle.lines.specs.Listing.{stateBytes, stateLines}
@@ -19,6 +20,7 @@ use Rattle.run.specs.Run.Runs.{ends, stops}
 use Rattle.run.specs.Run.Ran.{wrong, refused, runs}
 use Rattle.demands.specs.Sequence.{Sequence, made, then, Meets}
 use Rattle.demands.proofs.Blocks.{block-sequence}
+use Rattle.demands.proofs.Kept.{kept}
 use Rattle.demands.proofs.Meets.{meets}
 use Rattle.states.specs.Whole.{rows, bytesAt, Whole, Comes, ListedWhole}
 use Rattle.states.proofs.Tiled.{Stepped, wider, stepped}
@@ -31,7 +33,7 @@ pub whole : {js : List Row} {s : State} → Sequence js s → Whole s
 unfolding roomBy stateLines
 whole {js} {s} q =
     let h : Meets js s = meets q in
-    let fits : Within (s .decoder .counts) (roomOf (s .logs)) = sound s (h .well) .0 .counts in
+    let fits : Within (s .decoder .counts) (roomOf (s .logs)) = subst (λ (n : Counts). Within n (roomOf (s .logs))) (all-held (s .table) (s .decoder .counts) (kept q .firsts)) (sound s (h .well) .0 .counts) in
     let n = rows s in
     let m = s .decoder .counts .statebytes in
     let states = s .logs .states in

@@ -59,6 +59,6 @@ pub record Comes (s : State) : Type 0 where
 
 pub record ListedWhole : Type 0 where
   pub sequence : {js : List Row} {s : State} → Sequence js s → Whole s
-  -- a run that finished is such a sequence, so what is listed of it is whole; the table has its 2,176 words, as the program's has
+  -- a run that finished is such a sequence, so what is listed of it is whole; the table has its 2,704 words, as the program's has
   pub comes : {trace t : List ℕ} {l : Logs} {a p : ℕ} {s : State} → length t ≡ word.table → Ran trace t l a p s → a ≡ 0 → Comes s
   pub run : {trace t : List ℕ} {l : Logs} {a p : ℕ} {s : State} → length t ≡ word.table → Ran trace t l a p s → a ≡ 0 → Whole s

@@ -112,7 +112,7 @@ module _ {b : Bool} {t a : List ℕ} {at₀ n e at : ℕ} {c₀ c : Clock} {s₀
   well = kept .well s (g .fits .sound (k .ready))
 
   pub streaming-ready : Ready (s .decoder) (s .table)
-  streaming-ready = let w = sound s well in ready (s .decoder) (s .devices) (s .table) (roomOf (s .logs)) (w .0) (w .1)
+  streaming-ready = let w = sound s well in ready (s .decoder) (s .devices) (s .table) (roomOf (s .logs)) (w .0)
 
   pub streaming-bounds : (p .start ≤ p .end) × (p .end ≤ length t)
   streaming-bounds =

@@ -1,6 +1,9 @@
 -- A tally stays small: a step adds at most 4096 to any of its numbers, and an item only moves those that wait to the links.
 use Prim.Native.Nat.{ℕ, _+_, _-_, _≤_, _^_}
 use native.Mathlib.Omega.{arith}
+use mathlib.Core.Bool.{true}
+use mathlib.Core.List.{List}
+use mathlib.Core.Path.{_≡_, refl, sym, subst}
 use mathlib.Core.Bool.{Bool, true, false, not}
 use Rattle.rows.specs.One.{one}
 use Rattle.group.specs.Step.{isActive}
@@ -16,9 +19,14 @@ use Rattle.plan.specs.declared.Begin.{Begin}
 use Rattle.plan.specs.declared.End.{End}
 use Rattle.plan.specs.declared.Ending.{Ending}
 use Rattle.plan.specs.declared.Plan.{Plan}
+use Rattle.details.specs.declared.Device.{Device}
+use Rattle.record.specs.Bools.{both}
+use Rattle.record.specs.FormedLaws.{WellFormed}
+use Rattle.record.specs.declared.Decoder.{Decoder}
+use Rattle.record.specs.Room.{fitting, numbered, heldOf}
 use Rattle.record.specs.RoomLaws as room
 use Rattle.record.specs.declared.Counts.{Counts}
-use Rattle.tally.specs.Tallies.{Under, endpointsThen, tallyBegin, tallyEnd, tallyPlan, tallyEnding, waitAnew, waitingThen, tallyRows, tallyKeepalive, tallyEvent}
+use Rattle.tally.specs.Tallies.{Under, Sums, Countable, roomFor, addCounts, endpointsThen, tallyBegin, tallyEnd, tallyPlan, tallyEnding, waitAnew, waitingThen, tallyRows, tallyKeepalive, tallyEvent}
 
 -- no number passes k, links and those that wait taken together
 pub record Small (k : ℕ) (t : Tally) : Type 0 where
@@ -176,3 +184,20 @@ reset-small e act n m a g h l =
 
 pub under : (n most : Counts) → room.Within n most → room.Short most → Under (2 ^ 40) n
 under n most h s = record { bytes = let a = h .bytes in let b = s .bytes in omega (arith, a, b); devices = let a = h .devices in let b = s .devices in omega (arith, a, b); endpoints = let a = h .endpoints in let b = s .endpoints in omega (arith, a, b); packets = let a = h .packets in let b = s .packets in omega (arith, a, b); events = let a = h .events in let b = s .events in omega (arith, a, b); transactions = let a = h .transactions in let b = s .transactions in omega (arith, a, b); groups = let a = h .groups in let b = s .groups in omega (arith, a, b); statebytes = let a = h .statebytes in let b = s .statebytes in omega (arith, a, b); states = let a = h .states in let b = s .states in omega (arith, a, b); items = let a = h .items in let b = s .items in omega (arith, a, b); links = let a = h .links in let b = s .links in omega (arith, a, b); requests = let a = h .requests in let b = s .requests in omega (arith, a, b) }
+
+-- small counts and small tallies have sums that are words
+pub sums : (n : Counts) (t : Tally) → Under (2 ^ 40) n → Within (2 ^ 40) t → Sums n t
+sums n t h s = record { bytes = let a = h .bytes in let b = s .bytes in omega (arith, a, b); devices = let a = h .devices in let b = s .devices in omega (arith, a, b); endpoints = let a = h .endpoints in let b = s .endpoints in omega (arith, a, b); packets = let a = h .packets in let b = s .packets in omega (arith, a, b); events = let a = h .events in let b = s .events in omega (arith, a, b); transactions = let a = h .transactions in let b = s .transactions in omega (arith, a, b); groups = let a = h .groups in let b = s .groups in omega (arith, a, b); statebytes = let a = h .statebytes in let b = s .statebytes in omega (arith, a, b); states = let a = h .states in let b = s .states in omega (arith, a, b); items = let a = h .items in let b = s .items in omega (arith, a, b); links = let a = h .links in let b = s .links in omega (arith, a, b); requests = let a = h .requests in let b = s .requests in omega (arith, a, b) }
+
+-- and so have those that there is room for
+pub sums-room : {held n : Counts} (t : Tally) (most : Counts) → Countable held n → Within (2 ^ 40) t → roomFor held n t most ≡ true → Sums n t
+unfolding addCounts
+sums-room {held} {n} t most c s h =
+    let z = room.numbered-is (addCounts n t) (both (fitting (addCounts held t) most) (numbered (addCounts n t)) h .1) in
+    record { bytes = let a = z .bytes in omega (arith, a); devices = let a = c .few .devices in let b = s .devices in omega (arith, a, b, c .devices); endpoints = let a = c .few .endpoints in let b = s .endpoints in omega (arith, a, b, c .endpoints); packets = let a = z .packets in omega (arith, a); events = let a = z .events in omega (arith, a); transactions = let a = z .transactions in omega (arith, a); groups = let a = z .groups in omega (arith, a); statebytes = let a = z .statebytes in omega (arith, a); states = let a = z .states in omega (arith, a); items = let a = z .items in omega (arith, a); links = let a = z .links in omega (arith, a); requests = let a = c .few .requests in let b = s .requests in omega (arith, a, b, c .requests) }
+
+-- of a record that is well formed on logs that are not too long, and the rows that these hold
+pub countable-by : {d : Decoder} {devices : List Device} {table : List ℕ} {most held : Counts} → WellFormed d devices table most → room.Short most → held ≡ heldOf table (d .counts) → Countable held (d .counts)
+countable-by {d} {table = table} {most} w s e =
+    subst (λ (h : Counts). Countable h (d .counts)) (sym e)
+    (record { few = under (heldOf table (d .counts)) most (w .counts) s; numbered = w .numbered; devices = refl; endpoints = refl; requests = refl })

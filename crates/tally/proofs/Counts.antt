@@ -1,6 +1,6 @@
 -- A tally that is right gives the counts that a call ends with; so answer 7 can be told before anything is written.
 use mathlib.Core.Path.{_≡_, refl, ap, _∙_}
-use mathlib.Core.Bool.{not}
+use mathlib.Core.Bool.{true, not}
 use mathlib.Core.List.{List}
 use Prim.Native.Nat.{ℕ, _+_, _/_}
 use native.Mathlib.Omega.{arith}
@@ -11,19 +11,20 @@ use Rattle.rules.specs.World.{World}
 use Rattle.tally.specs.Tally.{wordsIn, inLog, wordsFor, Adds}
 use Rattle.rules.specs.World.{waitingOf}
 use Rattle.tally.specs.declared.add.Tally.{Tally}
-use Rattle.record.specs.Room.{fitting}
+use Rattle.record.specs.Room.{heldOf, begun, roomy}
+use Rattle.record.specs.RoomLaws.{Begun, is-begun}
 use Rattle.record.specs.World.{worldOf}
 use Rattle.record.specs.declared.Counts.{Counts}
 use Rattle.record.specs.declared.Decoder.{Decoder}
 use Rattle.call.specs.Outcome.{countsAfter, isFull, worldAt}
-use Rattle.call.specs.State.{State, roomOf}
+use Rattle.call.specs.State.{State, heldAt, roomOf}
 use Rattle.plan.specs.Ending.{endPlayed}
 use Rattle.plan.specs.Packet.{played}
 use Rattle.plan.specs.declared.Ending.{Ending}
 use Rattle.plan.specs.declared.Plan.{Plan}
 use Rattle.tally.specs.Has.{Has}
 use Rattle.tally.specs.Suited.{PlanSuits, EndingSuits}
-use Rattle.tally.specs.Tallies.{tallyPlan, tallyEnding, addCounts}
+use Rattle.tally.specs.Tallies.{tallyPlan, tallyEnding, addCounts, roomFor}
 use Rattle.tally.proofs.Counted.{played-adds, ending-adds}
 
 abbrev counts : ℕ → ℕ → ℕ → ℕ → ℕ → ℕ → ℕ → ℕ → ℕ → ℕ → ℕ → ℕ → Counts
@@ -72,23 +73,37 @@ module _ {n : Counts} {t : Tally} {w v : World} (h : Has n w) (a : Adds t w v) w
       (ap (λ (m : ℕ). n .links + m) links)
       (ap (λ (m : ℕ). n .requests + m) requests)
 
-  pub full-after : (room : Counts) → fitting (countsAfter n v) room ≡ fitting (addCounts n t) room
-  full-after room = ap (λ (m : Counts). fitting m room) counts-after
-
 -- ---- the record's world
 
 pub world-has : (d : Decoder) (devices : List Device) (table : List ℕ) → Has (d .counts) (worldOf d devices table)
 world-has d devices table = record { journal = refl; bytes = refl; devices = refl; endpoints = refl; packets = refl; transactions = refl; groups = refl; statebytes = refl; items = refl }
 
-pub state-full : {t : Tally} {v : World} (s : State) → Adds t (worldAt s) v → isFull s v ≡ not (fitting (addCounts (s .decoder .counts) t) (roomOf (s .logs)))
+-- ---- numbers and places: where no first number passes its count, rows behind the counts are rows behind those that are held
+
+module _ {table : List ℕ} {n : Counts} (b : Begun table n) (t : Tally) where
+  held-add : heldOf table (addCounts n t) ≡ addCounts (heldOf table n) t
+  unfolding addCounts
+  held-add = counts-ext (omega (arith, b .bytes)) refl refl (omega (arith, b .packets)) (omega (arith, b .events)) (omega (arith, b .transactions)) (omega (arith, b .groups)) (omega (arith, b .statebytes)) (omega (arith, b .states)) (omega (arith, b .items)) (omega (arith, b .links)) refl
+
+  begun-add : begun table (addCounts n t) ≡ true
+  unfolding addCounts
+  begun-add = is-begun table (addCounts n t) (record { bytes = omega (arith, b .bytes); packets = omega (arith, b .packets); events = omega (arith, b .events); transactions = omega (arith, b .transactions); groups = omega (arith, b .groups); statebytes = omega (arith, b .statebytes); states = omega (arith, b .states); items = omega (arith, b .items); links = omega (arith, b .links) })
+
+  pub roomy-add : (room : Counts) → roomy table (addCounts n t) room ≡ roomFor (heldOf table n) n t room
+  unfolding roomy
+  roomy-add room = rw (begun-add, held-add)
+
+pub state-full : {t : Tally} {v : World} (s : State) → Begun (s .table) (s .decoder .counts) → Adds t (worldAt s) v
+    → isFull s v ≡ not (roomFor (heldAt s) (s .decoder .counts) t (roomOf (s .logs)))
 unfolding isFull
-state-full s a = ap not (full-after (world-has (s .decoder) (s .devices) (s .table)) a (roomOf (s .logs)))
+state-full {t} s b a =
+    ap not (ap (λ (m : Counts). roomy (s .table) m (roomOf (s .logs))) (counts-after (world-has (s .decoder) (s .devices) (s .table)) a) ∙ roomy-add b t (roomOf (s .logs)))
 
 -- answer 7 of a packet, and of finish
-pub played-full : (p : Plan) (packet : List ℕ) (time : ℕ) (s : State) → PlanSuits p packet time (worldAt s)
-    → isFull s (played p packet time (worldAt s)) ≡ not (fitting (addCounts (s .decoder .counts) (tallyPlan p (length packet) (s .decoder .counts .endpoints) (waitingOf (worldAt s)))) (roomOf (s .logs)))
-played-full p packet time s h = state-full s (played-adds p packet time (worldAt s) h)
+pub played-full : (p : Plan) (packet : List ℕ) (time : ℕ) (s : State) → Begun (s .table) (s .decoder .counts) → PlanSuits p packet time (worldAt s)
+    → isFull s (played p packet time (worldAt s)) ≡ not (roomFor (heldAt s) (s .decoder .counts) (tallyPlan p (length packet) (s .decoder .counts .endpoints) (waitingOf (worldAt s))) (roomOf (s .logs)))
+played-full p packet time s b h = state-full s b (played-adds p packet time (worldAt s) h)
 
-pub ending-full : (e : Ending) (s : State) → EndingSuits e (worldAt s)
-    → isFull s (endPlayed e (worldAt s)) ≡ not (fitting (addCounts (s .decoder .counts) (tallyEnding e (s .decoder .counts .endpoints) (waitingOf (worldAt s)))) (roomOf (s .logs)))
-ending-full e s h = state-full s (ending-adds e (worldAt s) h)
+pub ending-full : (e : Ending) (s : State) → Begun (s .table) (s .decoder .counts) → EndingSuits e (worldAt s)
+    → isFull s (endPlayed e (worldAt s)) ≡ not (roomFor (heldAt s) (s .decoder .counts) (tallyEnding e (s .decoder .counts .endpoints) (waitingOf (worldAt s))) (roomOf (s .logs)))
+ending-full e s b h = state-full s b (ending-adds e (worldAt s) h)

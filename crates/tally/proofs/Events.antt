@@ -22,9 +22,9 @@ use Rattle.tally.proofs.Added.{row, nothing, adds-none}
 use Rattle.tally.proofs.Steps.{event-packet-adds, event-adds}
 use Rattle.event.specs.Event.{isCurrent}
 use Rattle.tally.proofs.EventRows.{event-update-adds}
-use Rattle.record.specs.Room.{fitting}
+use Rattle.record.specs.RoomLaws.{Begun}
 use Rattle.call.specs.Outcome.{isFull, worldAt}
-use Rattle.call.specs.State.{State, roomOf}
+use Rattle.call.specs.State.{State, heldAt, roomOf}
 use Rattle.plan.specs.Ending.{slotEnded, endPlayed}
 use Rattle.plan.specs.Step.{ended}
 use Rattle.plan.specs.declared.Ending.{Ending}
@@ -33,7 +33,7 @@ use Rattle.plan.proofs.Played.{event-untouched, ended-keeps}
 use Rattle.plan.proofs.Small.{ended-count}
 use Rattle.tally.specs.Event.{eventPlayed}
 use Rattle.tally.specs.Suited.{EndingSuits, EndingActs, activesOf}
-use Rattle.tally.specs.Tallies.{tallyEnding, waitAnew, waitingThen, addCounts, tallyRows, tallyKeepalive, tallyEvent}
+use Rattle.tally.specs.Tallies.{tallyEnding, waitAnew, waitingThen, tallyRows, tallyKeepalive, tallyEvent, roomFor}
 use Rattle.tally.proofs.Counted.{same-adds, adds-from, ending-adds}
 use Rattle.tally.proofs.Anew.{waiting-then}
 use Rattle.tally.proofs.Counts.{state-full}
@@ -98,10 +98,10 @@ event-played-adds e kind code time w h s f =
 
 -- ---- answer 7
 
-pub keepalive-full : (code time : ℕ) (s : State) → 0 < s .decoder .counts .endpoints
-    → isFull s (handleEvent rules.LsKeepalive code time (worldAt s)) ≡ not (fitting (addCounts (s .decoder .counts) (tallyKeepalive (rules.turnOf (s .decoder .event) rules.LsKeepalive .act) (s .decoder .keepalive) (s .decoder .counts .endpoints) (waitingOf (worldAt s)))) (roomOf (s .logs)))
-keepalive-full code time s h = state-full s (keepalive-adds code time (worldAt s) h)
+pub keepalive-full : (code time : ℕ) (s : State) → Begun (s .table) (s .decoder .counts) → 0 < s .decoder .counts .endpoints
+    → isFull s (handleEvent rules.LsKeepalive code time (worldAt s)) ≡ not (roomFor (heldAt s) (s .decoder .counts) (tallyKeepalive (rules.turnOf (s .decoder .event) rules.LsKeepalive .act) (s .decoder .keepalive) (s .decoder .counts .endpoints) (waitingOf (worldAt s))) (roomOf (s .logs)))
+keepalive-full code time s b h = state-full s b (keepalive-adds code time (worldAt s) h)
 
-pub event-full : (e : Ending) (kind code time : ℕ) (s : State) → 0 < s .decoder .counts .endpoints → EndingSuits e (stamped time (worldAt s)) → EndingActs e
-    → isFull s (eventPlayed e kind code time (stamped time (worldAt s))) ≡ not (fitting (addCounts (s .decoder .counts) (tallyEvent e (rules.turnOf (s .decoder .event) kind .act) (s .decoder .counts .endpoints) (waitingOf (worldAt s)) (activesOf (worldAt s)))) (roomOf (s .logs)))
-event-full e kind code time s h g f = state-full s (adds-from _ (event-played-adds e kind code time (stamped time (worldAt s)) h g f))
+pub event-full : (e : Ending) (kind code time : ℕ) (s : State) → Begun (s .table) (s .decoder .counts) → 0 < s .decoder .counts .endpoints → EndingSuits e (stamped time (worldAt s)) → EndingActs e
+    → isFull s (eventPlayed e kind code time (stamped time (worldAt s))) ≡ not (roomFor (heldAt s) (s .decoder .counts) (tallyEvent e (rules.turnOf (s .decoder .event) kind .act) (s .decoder .counts .endpoints) (waitingOf (worldAt s)) (activesOf (worldAt s))) (roomOf (s .logs)))
+event-full e kind code time s b h g f = state-full s b (adds-from _ (event-played-adds e kind code time (stamped time (worldAt s)) h g f))

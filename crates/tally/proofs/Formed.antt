@@ -17,17 +17,16 @@ use Rattle.rules.specs.declared.Slot.the-variants.{Empty, Current, Suspended}
 use Rattle.rules.specs.World.{endedIn, waitingOf}
 use Rattle.record.specs.Formed.{holds}
 use Rattle.record.specs.FormedLaws.{WellFormed}
-use Rattle.record.specs.Room.{fitting}
 use Rattle.record.specs.World.{worldOf}
 use Rattle.record.specs.declared.Counts.{Counts}
 use Rattle.record.specs.declared.Decoder.{Decoder}
 use Rattle.call.specs.Outcome.{isFull, isOver, worldAt}
-use Rattle.call.specs.State.{State, roomOf}
+use Rattle.call.specs.State.{State, heldAt, roomOf}
 use Rattle.plan.specs.Ending.{currentEndpoint, endingOf, endPlayed}
 use Rattle.plan.specs.Packet.{oldEndpoint, planOf, played}
 use Rattle.tally.specs.Passes.{planPasses}
 use Rattle.tally.specs.Suited.{PlanSuits, EndingSuits, Totalled}
-use Rattle.tally.specs.Tallies.{tallyPlan, tallyEnding, addCounts}
+use Rattle.tally.specs.Tallies.{tallyPlan, tallyEnding, roomFor}
 use Rattle.tally.proofs.Counts.{played-full, ending-full}
 use Rattle.tally.proofs.Planned.{plan-suits, ending-suits}
 use Rattle.tally.proofs.Quiet.{plan-totals}
@@ -76,11 +75,11 @@ module _ {d : Decoder} {devices : List Device} {table : List ℕ} {room : Counts
 -- answer 7 of a packet, by the record's count of those that wait
 pub packet-full-is : (packet : List ℕ) (time : ℕ) (s : State) (room : Counts) → WellFormed (s .decoder) (s .devices) (s .table) room
     → isFull s (played (planOf packet (worldAt s)) packet time (worldAt s))
-    ≡ not (fitting (addCounts (s .decoder .counts) (tallyPlan (planOf packet (worldAt s)) (length packet) (s .decoder .counts .endpoints) (s .decoder .waiting))) (roomOf (s .logs)))
+    ≡ not (roomFor (heldAt s) (s .decoder .counts) (tallyPlan (planOf packet (worldAt s)) (length packet) (s .decoder .counts .endpoints) (s .decoder .waiting)) (roomOf (s .logs)))
 packet-full-is packet time s room h =
     let p = planOf packet (worldAt s) in
-    played-full p packet time s (plan-suits packet time (worldAt s) (three h) (old-stands h))
-    ∙ ap (λ (m : ℕ). not (fitting (addCounts (s .decoder .counts) (tallyPlan p (length packet) (s .decoder .counts .endpoints) m)) (roomOf (s .logs)))) (waiting-is h)
+    played-full p packet time s (h .begun) (plan-suits packet time (worldAt s) (three h) (old-stands h))
+    ∙ ap (λ (m : ℕ). not (roomFor (heldAt s) (s .decoder .counts) (tallyPlan p (length packet) (s .decoder .counts .endpoints) m) (roomOf (s .logs)))) (waiting-is h)
 
 -- answer 9 of a packet
 pub packet-over-is : (packet : List ℕ) (time : ℕ) (s : State) (room : Counts) → WellFormed (s .decoder) (s .devices) (s .table) room → Totalled (worldAt s)
@@ -90,8 +89,8 @@ packet-over-is packet time s room h t = played-over (planOf packet (worldAt s)) 
 -- answer 7 of finish
 pub finish-full-is : (s : State) (room : Counts) → WellFormed (s .decoder) (s .devices) (s .table) room
     → isFull s (endPlayed (endingOf (worldAt s)) (worldAt s))
-    ≡ not (fitting (addCounts (s .decoder .counts) (tallyEnding (endingOf (worldAt s)) (s .decoder .counts .endpoints) (s .decoder .waiting))) (roomOf (s .logs)))
+    ≡ not (roomFor (heldAt s) (s .decoder .counts) (tallyEnding (endingOf (worldAt s)) (s .decoder .counts .endpoints) (s .decoder .waiting)) (roomOf (s .logs)))
 finish-full-is s room h =
     let e = endingOf (worldAt s) in
-    ending-full e s (ending-suits (worldAt s) (current-stands h))
-    ∙ ap (λ (m : ℕ). not (fitting (addCounts (s .decoder .counts) (tallyEnding e (s .decoder .counts .endpoints) m)) (roomOf (s .logs)))) (waiting-is h)
+    ending-full e s (h .begun) (ending-suits (worldAt s) (current-stands h))
+    ∙ ap (λ (m : ℕ). not (roomFor (heldAt s) (s .decoder .counts) (tallyEnding e (s .decoder .counts .endpoints) m) (roomOf (s .logs)))) (waiting-is h)

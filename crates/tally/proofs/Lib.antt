@@ -4,6 +4,7 @@ pub mod Suited
 pub mod Steps
 pub mod EventRows
 pub mod Bounds
+pub mod Least
 pub mod Endpoints
 pub mod Counted
 pub mod Phases

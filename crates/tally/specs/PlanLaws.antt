@@ -5,7 +5,8 @@ use mathlib.Core.Path.{_≡_, refl}
 use Prim.Native.Nat.{ℕ}
 use Rattle.rules.specs.World.{World}
 use Rattle.plan.specs.Packet.{planBy, planOf}
+use Rattle.plan.specs.Words.{planWords}
 
-pub resume-still : (packet : List ℕ) (w : World) → planOf packet w .resume .endpoint ≡ false
-unfolding planOf planBy
+pub resume-still : (packet : List ℕ) (w : World) → planWords (planOf packet w) .resume .endpoint ≡ false
+unfolding planOf planBy planWords
 resume-still packet w = refl

@@ -1,6 +1,6 @@
 -- Inner (cited by private contracts alone): how many rows a call adds, step by step (steps), before anything is written; and the counts then.
-use Prim.Native.Nat.{ℕ, _+_, _-_, _≤_}
-use mathlib.Core.Bool.{Bool, false, not}
+use Prim.Native.Nat.{ℕ, _+_, _-_, _^_, _<_, _≤_}
+use mathlib.Core.Bool.{Bool, false, not, _&&_}
 use Rattle.rows.specs.One.{one}
 use Rattle.group.specs.Step.{isActive}
 use Rattle.rules.specs.Events.{Act}
@@ -8,6 +8,9 @@ use Rattle.rules.specs.World.{_▷_}
 use Rattle.tally.specs.Tally.{none, addDevice, addEndpoint, addEvent, addPacket, addTransaction, tallyEffect, tallyUpdate, tallyAct}
 use Rattle.update.specs.Update.{when}
 use Rattle.tally.specs.declared.add.Tally.{Tally}
+use mathlib.Core.Path.{_≡_}
+use Rattle.record.specs.Room.{fitting, numbered}
+use Rattle.record.specs.RoomLaws.{Numbered}
 use Rattle.record.specs.declared.Counts.{Counts}
 use Rattle.plan.specs.declared.Begin.{Begin}
 use Rattle.plan.specs.declared.End.{End}
@@ -88,6 +91,25 @@ addCounts n t =
       requests = n .requests + t .requests;
     }
 
+-- there is room for a tally's rows: behind the rows that are held, and by their numbers, where n are numbered
+abbrev pub roomFor : Counts → Counts → Tally → Counts → Bool
+roomFor held n t room = fitting (addCounts held t) room && numbered (addCounts n t)
+
+-- each sum is a word
+pub record Sums (n : Counts) (t : Tally) : Type 0 where
+  pub bytes : n .bytes + t .bytes < 2 ^ 64
+  pub devices : n .devices + t .devices < 2 ^ 64
+  pub endpoints : n .endpoints + t .endpoints < 2 ^ 64
+  pub packets : n .packets + t .packets < 2 ^ 64
+  pub events : n .events + t .events < 2 ^ 64
+  pub transactions : n .transactions + t .transactions < 2 ^ 64
+  pub groups : n .groups + t .groups < 2 ^ 64
+  pub statebytes : n .statebytes + t .statebytes < 2 ^ 64
+  pub states : n .states + t .states < 2 ^ 64
+  pub items : n .items + t .items < 2 ^ 64
+  pub links : n .links + t .links < 2 ^ 64
+  pub requests : n .requests + t .requests < 2 ^ 64
+
 -- no count passes k
 pub record Under (k : ℕ) (n : Counts) : Type 0 where
   pub bytes : n .bytes ≤ k
@@ -102,3 +124,11 @@ pub record Under (k : ℕ) (n : Counts) : Type 0 where
   pub items : n .items ≤ k
   pub links : n .links ≤ k
   pub requests : n .requests ≤ k
+
+-- what a sum asks of the counts: the rows held are few, and no number passes the greatest; those that are never given back are held
+pub record Countable (held n : Counts) : Type 0 where
+  pub few : Under (2 ^ 40) held
+  pub numbered : Numbered n
+  pub devices : n .devices ≡ held .devices
+  pub endpoints : n .endpoints ≡ held .endpoints
+  pub requests : n .requests ≡ held .requests

@@ -23,6 +23,7 @@ use plan::End;
 use plan::Ending;
 use plan::Plan;
 use record::Counts;
+use record::room::MOST_NUMBER;
 use record::room::fits;
 use update::effect::total_passes;
 ghost use mathlib.Core.Path.{_≡_};
@@ -33,8 +34,10 @@ ghost use Rattle.group.specs.Step.{isActive};
 ghost use Rattle.tally.specs.Tally.{Within, tallyAct};
 ghost use Rattle.update.specs.Update.{when};
 ghost use Rattle.event.specs.Event.{actOf};
-ghost use Rattle.record.specs.Room.{fitting};
-ghost use Rattle.tally.specs.Tallies.{Under, endpointsThen, tallyBegin, tallyEnd, tallyPlan, tallyEnding, waitingThen, tallyRows, tallyKeepalive, tallyEvent, addCounts};
+ghost use lib.Dec.{leb};
+ghost use Rattle.record.specs.Room.{mostNumber, numbered};
+ghost use Rattle.record.specs.RoomLaws.{Numbered};
+ghost use Rattle.tally.specs.Tallies.{Under, endpointsThen, tallyBegin, tallyEnd, tallyPlan, tallyEnding, waitingThen, tallyRows, tallyKeepalive, tallyEvent, addCounts, roomFor, Sums};
 ghost use Rattle.tally.specs.Passes.{planPasses};
 
 // One more where `on` says so.
@@ -191,8 +194,7 @@ pub fn tally_reset(e: Ending, act: Act, endpoints: usize, waiting: usize, active
 
 // The counts of the logs once these rows are added.
 pub fn add_counts(n: Counts, t: Tally) -> Counts
-    requires { ⌜ Under (2 ^ 40) n ⌝ }
-    requires { ⌜ Within (2 ^ 40) t ⌝ }
+    requires { ⌜ Sums n t ⌝ }
     ensures { λ r. ⌜ r ≡ addCounts n t ⌝ }
 {
     Counts {
@@ -209,6 +211,41 @@ pub fn add_counts(n: Counts, t: Tally) -> Counts
         links: n.links + t.links,
         requests: n.requests + t.requests,
     }
+}
+
+// Whether t more rows behind number n have numbers that a row may have.
+pub fn up_to(n: usize, t: usize) -> bool
+    requires { ⌜ n ≤ mostNumber ⌝ }
+    ensures { λ r. ⌜ r ≡ leb (n + t) mostNumber ⌝ }
+{
+    t <= MOST_NUMBER - n
+}
+
+// Whether these rows may be numbered behind n.
+fn numbers_fit(n: Counts, t: Tally) -> bool
+    requires { ⌜ Numbered n ⌝ }
+    ensures { λ r. ⌜ r ≡ numbered (addCounts n t) ⌝ }
+{
+    up_to(n.bytes, t.bytes)
+        & up_to(n.packets, t.packets)
+        & up_to(n.events, t.events)
+        & up_to(n.transactions, t.transactions)
+        & up_to(n.groups, t.groups)
+        & up_to(n.statebytes, t.statebytes)
+        & up_to(n.states, t.states)
+        & up_to(n.items, t.items)
+        & up_to(n.links, t.links)
+}
+
+// Whether there is room for these rows: behind the rows that are held, and by their numbers, where n are numbered.
+pub fn has_room_for(held: Counts, n: Counts, t: Tally, room: Counts) -> bool
+    requires { ⌜ Under (2 ^ 40) held ⌝ }
+    requires { ⌜ Within (2 ^ 40) t ⌝ }
+    requires { ⌜ Numbered n ⌝ }
+    ensures { λ r. ⌜ r ≡ roomFor held n t room ⌝ }
+{
+    let counts = add_counts(held, t);
+    fits(counts, room) & numbers_fit(n, t)
 }
 
 // Whether a packet with these steps would take a byte total past 2^64 - 1 (answer 9).

@@ -1,3 +1,4 @@
 mod Bools
 pub mod Decided
 pub mod After
+pub mod Words

@@ -1,11 +1,11 @@
 -- Inner (cited by private contracts alone): what an update leaves of the endpoint's own entry, of the others and of the transaction; proved to be what `act`
 -- leaves of them (proofs/After.antt).
 use mathlib.Core.Bool.{Bool, true, false, _||_}
-use Prim.Native.Nat.{ℕ}
+use Prim.Native.Nat.{ℕ, _+_, _%_, _^_}
 use lib.Dec.{eqb}
 use Rattle.transaction.specs.declared.Transaction.{Transaction}
 use Rattle.endpoints.specs.States.{nextState}
-use Rattle.endpoints.specs.Table.{withPhase, withState}
+use Rattle.endpoints.specs.Table.{withPhase, withState, makeEndpoint}
 use Rattle.endpoints.specs.Word as word
 use Rattle.endpoints.specs.declared.Endpoint.{Endpoint}
 use Rattle.endpoints.specs.declared.Phase.the-variants.{Early, Ended}
@@ -50,6 +50,26 @@ entryAfter u pid e =
     ▷ becomeEntry (u .group) pid
     ▷ when (u .end) endedEntry
     ▷ when (u .item) closeEntry
+
+-- ---- the same in words: it is decided before its room is known, so a count that would pass 2^64 - 1 goes on at 0 there
+
+-- the entry with these counts
+abbrev pub counted : ℕ → ℕ → Endpoint → Endpoint
+counted a b e = makeEndpoint (e .device) (e .address) (e .phase) (e .state) a b (e .total) (e .first) (e .done) (e .last) (e .success) (e .ready) (e .setup)
+    (e .payload) (e .pending) (e .pendinglength) (e .pendinglink)
+
+-- a count, one more where `on`
+abbrev pub more : Bool → ℕ → ℕ
+more on n = when on (λ k. (k + 1) % 2 ^ 64) n
+
+abbrev pub linkWords : Bool → Endpoint → Endpoint
+linkWords on e = counted (more on (e .transactions)) (e .groups) (when on moreTransactions e)
+
+abbrev pub startWords : Bool → Endpoint → Endpoint
+startWords on e = counted (e .transactions) (more on (e .groups)) (when on startEntry e)
+
+abbrev pub wordsAfter : Update → ℕ → Endpoint → Endpoint
+wordsAfter u pid e = counted (more (u .link) (e .transactions)) (more (u .start) (e .groups)) (entryAfter u pid e)
 
 -- ---- another endpoint: its state in each row of endpoint x, and its group, if it waits, closed by an item
 

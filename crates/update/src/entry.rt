@@ -6,12 +6,10 @@ use endpoints::Phase;
 use endpoints::entry::with_phase;
 use transaction::Transaction;
 ghost use mathlib.Core.Path.{_≡_};
-ghost use Prim.Native.Nat.{_<_, _^_};
 ghost use Rattle.endpoints.specs.Table.{withPhase};
 ghost use Rattle.rules.specs.Groups.{closePhase, activated};
-ghost use Rattle.rules.specs.World.{moreTransactions, withLink};
 ghost use Rattle.update.specs.Update.{when};
-ghost use Rattle.update.specs.Entry.{overEntry, endEntry, endedEntry, startEntry, closeEntry, becomeEntry, entryAfter, transactionAfter};
+ghost use Rattle.update.specs.Entry.{overEntry, endEntry, endedEntry, closeEntry, becomeEntry, linkWords, startWords, wordsAfter, transactionAfter};
 
 // The states of a group row's own endpoint (01, Rules of a group).
 const STARTING: u8 = 1;
@@ -30,13 +28,13 @@ fn close(phase: Phase) -> Phase
     }
 }
 
-fn link_entry(on: bool, e: Endpoint) -> Endpoint
-    requires { ⌜ e .transactions < 2 ^ 63 ⌝ }
-    ensures { λ r. ⌜ r ≡ when on moreTransactions e ⌝ }
+// One T row more; whether its number fits is tested later.
+pub fn link_entry(on: bool, e: Endpoint) -> Endpoint
+    ensures { λ r. ⌜ r ≡ linkWords on e ⌝ }
 {
     if on {
         let mut e = e;
-        e.transactions += 1;
+        e.transactions = std::num::wrapping_add_u64(e.transactions, 1);
         e
     } else {
         e
@@ -74,12 +72,11 @@ fn close_entry(on: bool, e: Endpoint) -> Endpoint
 
 // A G row, a start row and an item.
 fn start_entry(on: bool, e: Endpoint) -> Endpoint
-    requires { ⌜ e .groups < 2 ^ 63 ⌝ }
-    ensures { λ r. ⌜ r ≡ when on startEntry e ⌝ }
+    ensures { λ r. ⌜ r ≡ startWords on e ⌝ }
 {
     if on {
         let mut e = e;
-        e.groups += 1;
+        e.groups = std::num::wrapping_add_u64(e.groups, 1);
         e.state = STARTING;
         close_entry(true, e)
     } else {
@@ -131,9 +128,7 @@ fn ended_entry(on: bool, e: Endpoint) -> Endpoint
 
 // The endpoint's entry after an update by a transaction with the token pid.
 pub fn entry_update(u: Update, pid: u8, e: Endpoint) -> Endpoint
-    requires { ⌜ e .transactions < 2 ^ 63 ⌝ }
-    requires { ⌜ e .groups < 2 ^ 63 ⌝ }
-    ensures { λ r. ⌜ r ≡ entryAfter u pid e ⌝ }
+    ensures { λ r. ⌜ r ≡ wordsAfter u pid e ⌝ }
 {
     let group = u.group;
     let e = over_entry(u.over, e);

@@ -1,6 +1,6 @@
--- Laws (proved): what it means that memory holds a world of the rules (rules, World): the call's stamp is its context, the counts are its numbers, the table's entries its endpoints, and each
+-- Laws (proved): what it means that memory holds a world of the rules (rules, World): the call's stamp is its context, the first numbers and the rows held make its numbers, the table's entries its endpoints, and each
 -- log has, behind the rows that stood there before, the words of its rows in the journal.
-use Prim.Native.Nat.{ℕ, _+_, _*_, _<_, _≤_}
+use Prim.Native.Nat.{ℕ, _+_, _*_, _^_, _<_, _≤_}
 use mathlib.Core.List.{List}
 use mathlib.Core.Path.{_≡_}
 use lib.ListN.{length}
@@ -30,9 +30,9 @@ pub record Holds (n id pid : ℕ) (m₀ : Memory) (w : World) (m : Memory) : Typ
   pub linked : m .written .linked ≡ w .transaction .linked
   pub link : m .written .link ≡ w .transaction .link
   pub lastItem : m .written .last ≡ w .lastItem
-  pub groupCount : m .written .groups ≡ w .groups
-  pub stateByteCount : m .written .statebytes ≡ w .stateBytes
-  pub itemCount : m .written .items ≡ w .items
+  pub groupCount : m .written .firsts .groups + m .written .groups ≡ w .groups
+  pub stateByteCount : m .written .firsts .statebytes + m .written .statebytes ≡ w .stateBytes
+  pub itemCount : m .written .firsts .items + m .written .items ≡ w .items
   pub groups : Appended 6 (m₀ .groups) (m₀ .written .groups * groupWidth) (w .journal) (m .groups) (m .written .groups * groupWidth)
   pub statebytes : Appended 7 (m₀ .statebytes) (m₀ .written .statebytes) (w .journal) (m .statebytes) (m .written .statebytes)
   pub states : Appended 8 (m₀ .states) (m₀ .written .states) (w .journal) (m .states) (m .written .states)
@@ -46,3 +46,9 @@ pub record Space (m₀ : Memory) (js : List Row) : Type 0 where
   pub states : m₀ .written .states + length (log 8 js) ≤ length (m₀ .states)
   pub items : m₀ .written .items + length (log 9 js) ≤ length (m₀ .items)
   pub links : m₀ .written .links * linkWidth + length (log 10 js) ≤ length (m₀ .links)
+
+-- the numbers of a world's next rows are words
+pub record Worded (w : World) : Type 0 where
+  pub groups : w .groups < 2 ^ 64
+  pub statebytes : w .stateBytes < 2 ^ 64
+  pub items : w .items < 2 ^ 64

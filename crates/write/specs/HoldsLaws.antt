@@ -29,7 +29,7 @@ use Rattle.rules.specs.Rows.{Row, GroupRow, grouping, StateRow, StateBytes, Ite
 use Rattle.rules.specs.World.{World, push, change, lastGroup, withTransaction, withLink, moreTransactions, moreGroups, cleared}
 use Rattle.rules.specs.Groups.{addGroupEntry, addItem, link, pushGroup, over, closePhase, closeRow, closeRows, statesFrom}
 use Rattle.write.specs.Memory.{Memory, Room, groupRow, itemRow, linkRow, altered, alter, withWritten, tied, entryRow, endRow, linkStep, startGroup}
-use Rattle.write.specs.Holds.{Appended, Holds, Space}
+use Rattle.write.specs.Holds.{Appended, Holds, Space, Worded}
 
 -- ---- one log
 
@@ -62,7 +62,8 @@ none k words to js e = rw e (record { written = refl; filled = omega arith })
 pub holds-start : (n id pid : ℕ) (w : World) (m : Memory) → w .journal ≡ [] → length (m .table) ≡ word.table → w .context ≡ m .written .stamp → w .count ≡ n
     → ((j : ℕ) → j < n → entryAt (m .table) j ≡ w .endpoints j) → w .transaction .id ≡ id → startPid (w .transaction .style) ≡ pid
     → m .written .linked ≡ w .transaction .linked → m .written .link ≡ w .transaction .link → m .written .last ≡ w .lastItem
-    → m .written .groups ≡ w .groups → m .written .statebytes ≡ w .stateBytes → m .written .items ≡ w .items → Holds n id pid m w m
+    → m .written .firsts .groups + m .written .groups ≡ w .groups → m .written .firsts .statebytes + m .written .statebytes ≡ w .stateBytes
+    → m .written .firsts .items + m .written .items ≡ w .items → Holds n id pid m w m
 holds-start n id pid w m e sized context count endpoints row began linked link lastItem groups statebytes items =
     record {
       sized = sized;
@@ -86,14 +87,15 @@ holds-start n id pid w m e sized context count endpoints row began linked link l
     }
 
 -- room is what the journal's rows need
-pub holds-room : {n id pid : ℕ} {m₀ m : Memory} {w : World} → Holds n id pid m₀ w m → Space m₀ (w .journal) → Room m
-holds-room h r =
+pub holds-room : {n id pid : ℕ} {m₀ m : Memory} {w : World} → Holds n id pid m₀ w m → Space m₀ (w .journal) → Worded w → Room m
+holds-room h r s =
     record {
       groups = appended-fits (h .groups) (r .groups);
       states = appended-fits (h .states) (r .states);
       statebytes = appended-fits (h .statebytes) (r .statebytes);
       items = appended-fits (h .items) (r .items);
       links = appended-fits (h .links) (r .links);
+      numbers = record { groups = omega (arith, h .groupCount, s .groups); statebytes = omega (arith, h .stateByteCount, s .statebytes); items = omega (arith, h .itemCount, s .items) };
     }
 
 -- ---- an entry changed
@@ -237,7 +239,7 @@ module _ {n id pid : ℕ} {m₀ m : Memory} {w : World} (h : Holds n id pid m₀
         itemCount = h .itemCount;
         groups = append (h .groups) _ (x ∷ nth ∷ one start ∷ []) (simp (e, append-nil)) refl (omega arith);
         statebytes = append (h .statebytes) _ (stateBytes (nextStates (m .table) n x start) 0 n) (simp (append-nil, bytes)) refl (omega (arith, length-states (nextStates (m .table) n x start) 0 n));
-        states = append (h .states) _ (m .written .statebytes ∷ []) (simp (append-nil, h .stateByteCount)) refl (omega arith);
+        states = append (h .states) _ ((m .written .firsts .statebytes + m .written .statebytes) ∷ []) (simp (append-nil, h .stateByteCount)) refl (omega arith);
         items = keep (h .items) _ (simp append-nil);
         links = keep (h .links) _ (simp append-nil);
       }
@@ -316,16 +318,16 @@ module _ {n id pid : ℕ} {m₀ m : Memory} {w : World} (h : Holds n id pid m₀
         groups = keep (h .groups) _ (close-else 6 refl (w .endpoints) (w .items) (w .count) _ ∙ append-nil _);
         statebytes = keep (h .statebytes) _ (close-else 7 refl (w .endpoints) (w .items) (w .count) _ ∙ append-nil _);
         states = keep (h .states) _ (close-else 8 refl (w .endpoints) (w .items) (w .count) _ ∙ append-nil _);
-        items = append (h .items) _ (pred (m .written .groups) ∷ []) (close-else 9 refl (w .endpoints) (w .items) (w .count) _ ∙ rw (h .groupCount) refl) refl (omega arith);
-        links = append (h .links) _ (closing (m .table) (m .written .items) 0 n) closes refl (omega (arith, length-closing (m .table) (m .written .items) 0 n));
+        items = append (h .items) _ (pred (m .written .firsts .groups + m .written .groups) ∷ []) (close-else 9 refl (w .endpoints) (w .items) (w .count) _ ∙ rw (h .groupCount) refl) refl (omega arith);
+        links = append (h .links) _ (closing (m .table) (m .written .firsts .items + m .written .items) 0 n) closes refl (omega (arith, length-closing (m .table) (m .written .firsts .items + m .written .items) 0 n));
       }
     where
-      closes : log 10 (addItem x w .journal) ≡ log 10 (w .journal) ++ closing (m .table) (m .written .items) 0 n
+      closes : log 10 (addItem x w .journal) ≡ log 10 (w .journal) ++ closing (m .table) (m .written .firsts .items + m .written .items) 0 n
       closes =
           close-links (m .table) (w .endpoints) (w .items) (w .count) (ItemRow (pred (w .groups)) ∷ w .journal) (λ j u. h .endpoints j (omega (arith, h .count)))
           ∙ ap (λ (l : List ℕ). l ++ closing (m .table) (w .items) 0 (w .count)) (append-nil (log 10 (w .journal)))
           ∙ ap (λ (i : ℕ). log 10 (w .journal) ++ closing (m .table) i 0 (w .count)) (sym (h .itemCount))
-          ∙ ap (λ (c : ℕ). log 10 (w .journal) ++ closing (m .table) (m .written .items) 0 c) (h .count)
+          ∙ ap (λ (c : ℕ). log 10 (w .journal) ++ closing (m .table) (m .written .firsts .items + m .written .items) 0 c) (h .count)
 
 -- ---- the steps of several
 

@@ -34,18 +34,18 @@ memory d t g m s i l = record { written = d; table = t; groups = g; statebytes =
 
 -- a group row, its state row and n state bytes
 abbrev pub groupWritten : ℕ → Written → Written
-groupWritten n d = record { stamp = d .stamp; groups = d .groups + 1; statebytes = d .statebytes + n; states = d .states + 1; items = d .items; links = d .links; last = d .last; linked = d .linked; link = d .link }
+groupWritten n d = record { stamp = d .stamp; firsts = d .firsts; groups = d .groups + 1; statebytes = d .statebytes + n; states = d .states + 1; items = d .items; links = d .links; last = d .last; linked = d .linked; link = d .link }
 
 -- an item of endpoint x, which closes k groups
 abbrev pub itemWritten : ℕ → ℕ → Written → Written
-itemWritten k x d = record { stamp = d .stamp; groups = d .groups; statebytes = d .statebytes; states = d .states; items = d .items + 1; links = d .links + k; last = x; linked = d .linked; link = d .link }
+itemWritten k x d = record { stamp = d .stamp; firsts = d .firsts; groups = d .groups; statebytes = d .statebytes; states = d .states; items = d .items + 1; links = d .links + k; last = x; linked = d .linked; link = d .link }
 
 abbrev pub linkWritten : Written → Written
-linkWritten d = record { stamp = d .stamp; groups = d .groups; statebytes = d .statebytes; states = d .states; items = d .items; links = d .links + 1; last = d .last; linked = d .linked; link = d .link }
+linkWritten d = record { stamp = d .stamp; firsts = d .firsts; groups = d .groups; statebytes = d .statebytes; states = d .states; items = d .items; links = d .links + 1; last = d .last; linked = d .linked; link = d .link }
 
 -- ep_transaction_id = Some(i)
 abbrev pub tied : ℕ → Written → Written
-tied i d = record { stamp = d .stamp; groups = d .groups; statebytes = d .statebytes; states = d .states; items = d .items; links = d .links; last = d .last; linked = true; link = i }
+tied i d = record { stamp = d .stamp; firsts = d .firsts; groups = d .groups; statebytes = d .statebytes; states = d .states; items = d .items; links = d .links; last = d .last; linked = true; link = i }
 
 -- ---- rows
 
@@ -57,7 +57,7 @@ groupRow n x nth start m =
       table = nextStates (m .table) n x start;
       groups = sets (m .groups) (m .written .groups * groupWidth) (groupWords (grouping x nth start));
       statebytes = sets (m .statebytes) (m .written .statebytes) (stateBytes (nextStates (m .table) n x start) 0 n);
-      states = sets (m .states) (m .written .states) (m .written .statebytes ∷ []);
+      states = sets (m .states) (m .written .states) ((m .written .firsts .statebytes + m .written .statebytes) ∷ []);
       items = m .items;
       links = m .links;
     }
@@ -71,8 +71,8 @@ itemRow n x m =
       groups = m .groups;
       statebytes = m .statebytes;
       states = m .states;
-      items = sets (m .items) (m .written .items) (pred (m .written .groups) ∷ []);
-      links = sets (m .links) (m .written .links * linkWidth) (closing (m .table) (m .written .items) 0 n);
+      items = sets (m .items) (m .written .items) (pred (m .written .firsts .groups + m .written .groups) ∷ []);
+      links = sets (m .links) (m .written .links * linkWidth) (closing (m .table) (m .written .firsts .items + m .written .items) 0 n);
     }
 
 -- a T, G or D row
@@ -130,6 +130,12 @@ startGroup n x m =
 
 -- ---- room
 
+-- the numbers of the next rows are words
+pub record Numbers (d : Written) : Type 0 where
+  pub groups : d .firsts .groups + d .groups < 2 ^ 64
+  pub statebytes : d .firsts .statebytes + d .statebytes < 2 ^ 64
+  pub items : d .firsts .items + d .items < 2 ^ 64
+
 -- the rows fit their logs
 pub record Room (m : Memory) : Type 0 where
   pub groups : m .written .groups * groupWidth ≤ length (m .groups)
@@ -137,6 +143,7 @@ pub record Room (m : Memory) : Type 0 where
   pub states : m .written .states ≤ length (m .states)
   pub items : m .written .items ≤ length (m .items)
   pub links : m .written .links * linkWidth ≤ length (m .links)
+  pub numbers : Numbers (m .written)
 
 -- ---- a step f over some of the logs, whatever the others hold: what stands after it is f of what stood before
 

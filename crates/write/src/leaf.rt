@@ -16,7 +16,7 @@ ghost use Rattle.rows.specs.Sets.{opt};
 ghost use Rattle.rules.specs.Rows.{naming, grouping, transactionWords, groupWords};
 ghost use Rattle.endpoints.specs.Phases.{waiting};
 ghost use Rattle.endpoints.specs.Each.{closing, cleared, nextStates, stateBytes};
-ghost use Rattle.write.specs.Memory.{groupWritten, itemWritten, linkWritten};
+ghost use Rattle.write.specs.Memory.{Numbers, groupWritten, itemWritten, linkWritten};
 
 // The number of the last of n rows; 0 where there is none.
 pub fn last(n: u64) -> u64
@@ -41,18 +41,20 @@ pub fn group_row(
     requires { ⌜ (d .groups + 1) * groupWidth ≤ length (now groups) ⌝ }
     requires { ⌜ d .statebytes + n ≤ length (now statebytes) ⌝ }
     requires { ⌜ d .states + 1 ≤ length (now states) ⌝ }
+    requires { ⌜ Numbers d ⌝ }
     ensures { λ r. ⌜ r ≡ groupWritten n d ⌝ }
     ensures { λ r. ⌜ now (table .exit) ≡ nextStates (now (table .entry)) n x start ⌝ }
     ensures { λ r. ⌜ now (groups .exit) ≡ sets (now (groups .entry)) (d .groups * groupWidth) (groupWords (grouping x nth start)) ⌝ }
     ensures { λ r. ⌜ now (statebytes .exit) ≡ sets (now (statebytes .entry)) (d .statebytes) (stateBytes (nextStates (now (table .entry)) n x start) 0 n) ⌝ }
-    ensures { λ r. ⌜ now (states .exit) ≡ sets (now (states .entry)) (d .states) (d .statebytes ∷ []) ⌝ }
+    ensures { λ r. ⌜ now (states .exit) ≡ sets (now (states .entry)) (d .states) ((d .firsts .statebytes + d .statebytes) ∷ []) ⌝ }
 {
     let g = d.groups;
     let m = d.statebytes;
     let end = m + n;
     let s = d.states;
+    let start_byte = d.firsts.statebytes + m as u64;
     states::add_endpoint_state(statebytes, m, table, n, x, start);
-    rows::put1(states, s, m as u64);
+    rows::put1(states, s, start_byte);
     rows::put3(
         groups,
         g * width::GROUP,
@@ -87,16 +89,19 @@ pub fn item_row(
     requires { ⌜ n ≤ 128 ⌝ }
     requires { ⌜ d .items + 1 ≤ length (now items) ⌝ }
     requires { ⌜ (d .links + waiting (now table) n) * linkWidth ≤ length (now links) ⌝ }
+    requires { ⌜ Numbers d ⌝ }
     ensures { λ r. ⌜ r ≡ itemWritten (waiting (now (table .entry)) n) x d ⌝ }
     ensures { λ r. ⌜ now (table .exit) ≡ cleared (now (table .entry)) n ⌝ }
-    ensures { λ r. ⌜ now (items .exit) ≡ sets (now (items .entry)) (d .items) (pred (d .groups) ∷ []) ⌝ }
-    ensures { λ r. ⌜ now (links .exit) ≡ sets (now (links .entry)) (d .links * linkWidth) (closing (now (table .entry)) (d .items) 0 n) ⌝ }
+    ensures { λ r. ⌜ now (items .exit) ≡ sets (now (items .entry)) (d .items) (pred (d .firsts .groups + d .groups) ∷ []) ⌝ }
+    ensures { λ r. ⌜ now (links .exit) ≡ sets (now (links .entry)) (d .links * linkWidth) (closing (now (table .entry)) (d .firsts .items + d .items) 0 n) ⌝ }
 {
     let i = d.items;
     let l = d.links;
+    let group = d.firsts.groups + d.groups as u64;
+    let item = d.firsts.items + i as u64;
     let closes = phases::count_waiting(table, n);
-    rows::put1(items, i, last(d.groups as u64));
-    phases::close_waiting(links, l, table, n, i as u64);
+    rows::put1(items, i, last(group));
+    phases::close_waiting(links, l, table, n, item);
     phases::clear_waiting(table, n);
     let mut d = d;
     d.items = i + 1;

@@ -5,9 +5,17 @@ pub mod steps;
 
 use rules::Stamp;
 
-// What a call brings, and how far it has written: the rows of the five logs that groups go to, the last item's endpoint, and the transaction's T row.
+// The first numbers of the logs whose rows other rows name: a row's number is its place behind that.
+pub struct Firsts {
+    pub groups: u64,
+    pub statebytes: u64,
+    pub items: u64,
+}
+
+// What a call brings, and how far it has written: the rows that the five logs hold which groups go to, the last item's endpoint, and the transaction's T row.
 pub struct Written {
     pub stamp: Stamp,
+    pub firsts: Firsts,
     pub groups: usize,
     pub statebytes: usize,
     pub states: usize,

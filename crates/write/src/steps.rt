@@ -18,7 +18,7 @@ ghost use Rattle.endpoints.specs.Table.{entryAt, withPhase};
 ghost use Rattle.endpoints.specs.declared.Phase.the-variants.{Ended};
 ghost use Rattle.rules.specs.World.{cleared};
 ghost use Rattle.update.specs.Update.{when};
-ghost use Rattle.write.specs.Memory.{Room, OnGroups, OnItems, OnLinks, memory, alter, groupWritten, itemWritten, linkWritten, endRow, linkStep, startGroup, itemRow, tied};
+ghost use Rattle.write.specs.Memory.{Room, Numbers, OnGroups, OnItems, OnLinks, memory, alter, groupWritten, itemWritten, linkWritten, endRow, linkStep, startGroup, itemRow, tied};
 
 // ended = Some(..), with no row.
 pub fn over_if(on: bool, x: usize, table: &mut Table)
@@ -56,6 +56,7 @@ pub fn end_row_if(
     requires { ⌜ when on (groupWritten n) d .groups * groupWidth ≤ length (now groups) ⌝ }
     requires { ⌜ when on (groupWritten n) d .statebytes ≤ length (now statebytes) ⌝ }
     requires { ⌜ when on (groupWritten n) d .states ≤ length (now states) ⌝ }
+    requires { ⌜ Numbers d ⌝ }
     ensures { λ r. ⌜ OnGroups (when on (endRow n x)) d (now (table .entry)) (now (groups .entry)) (now (statebytes .entry)) (now (states .entry)) r (now (table .exit)) (now (groups .exit)) (now (statebytes .exit)) (now (states .exit)) ⌝ }
 {
     if on {
@@ -80,6 +81,7 @@ pub fn item_if(
     requires { ⌜ n ≤ 128 ⌝ }
     requires { ⌜ when on (itemWritten (waiting (now table) n) x) d .items ≤ length (now items) ⌝ }
     requires { ⌜ when on (itemWritten (waiting (now table) n) x) d .links * linkWidth ≤ length (now links) ⌝ }
+    requires { ⌜ Numbers d ⌝ }
     ensures { λ r. ⌜ OnItems (when on (itemRow n x)) d (now (table .entry)) (now (items .entry)) (now (links .entry)) r (now (table .exit)) (now (items .exit)) (now (links .exit)) ⌝ }
 {
     if on {

@@ -17,7 +17,7 @@ use Rattle.endpoints.specs.TableLaws.{load-store-same, fits-entry}
 use Rattle.endpoints.specs.declared.Endpoint.{Endpoint}
 use Rattle.rules.specs.World.{moreTransactions, moreGroups}
 use Rattle.update.specs.Update.{when}
-use Rattle.write.specs.Memory.{Memory, Room, alter, linkWritten, lastNumber}
+use Rattle.write.specs.Memory.{Memory, Room, Numbers, alter, groupWritten, linkWritten, lastNumber}
 use Rattle.write_event.specs.Rows.{Able, eventLinked, eventGrouped, eventRows}
 
 -- ---- a group's parts
@@ -35,19 +35,26 @@ module _ (n : ℕ) (start : Bool) (m : Memory) (r : Room (eventGrouped n start m
   room-groups = omega (arith, r .groups, length-sets (m .groups) (m .written .groups * groupWidth) (0 ∷ lastNumber 0 (alter 0 moreGroups (m .table)) ∷ one start ∷ []))
 
   pub room-states : m .written .states + 1 ≤ length (m .states)
-  room-states = omega (arith, r .states, length-sets (m .states) (m .written .states) (m .written .statebytes ∷ []))
+  room-states = omega (arith, r .states, length-sets (m .states) (m .written .states) ((m .written .firsts .statebytes + m .written .statebytes) ∷ []))
 
   pub room-statebytes : m .written .statebytes + n ≤ length (m .statebytes)
   room-statebytes = omega (arith, r .statebytes, length-sets (m .statebytes) (m .written .statebytes) (stateBytes (rowed n start (m .table)) 0 n))
 
   pub room-items : m .written .items + 1 ≤ length (m .items)
-  room-items = omega (arith, r .items, length-sets (m .items) (m .written .items) (pred (m .written .groups + 1) ∷ []))
+  room-items = omega (arith, r .items, length-sets (m .items) (m .written .items) (pred (m .written .firsts .groups + (m .written .groups + 1)) ∷ []))
+
+  -- the numbers before the row, and behind it
+  pub room-numbers : Numbers (linkWritten (m .written))
+  room-numbers = record { groups = omega (arith, r .numbers .groups); statebytes = omega (arith, r .numbers .statebytes); items = omega (arith, r .numbers .items) }
+
+  pub room-row : Numbers (groupWritten n (linkWritten (m .written)))
+  room-row = record { groups = r .numbers .groups; statebytes = r .numbers .statebytes; items = omega (arith, r .numbers .items) }
 
   abbrev linked : List ℕ
   linked = sets (m .links) (m .written .links * linkWidth) (kind.G ∷ 0 ∷ lastLink (m .table) ∷ 0 ∷ [])
 
   pub room-closing : (m .written .links + 1 + waiting (rowed n start (m .table)) n) * 4 ≤ length linked
-  room-closing = rw (length-sets linked ((m .written .links + 1) * linkWidth) (closing (rowed n start (m .table)) (m .written .items) 0 n)) at (r .links)
+  room-closing = rw (length-sets linked ((m .written .links + 1) * linkWidth) (closing (rowed n start (m .table)) (m .written .firsts .items + m .written .items) 0 n)) at (r .links)
 
   pub room-link : (m .written .links + 1) * linkWidth ≤ length (m .links)
   room-link = omega (arith, room-closing, length-sets (m .links) (m .written .links * linkWidth) (kind.G ∷ 0 ∷ lastLink (m .table) ∷ 0 ∷ []))
@@ -73,12 +80,12 @@ same-groups true id m l =
 same-groups false id m l = refl
 
 module _ (row group start : Bool) (n id : ℕ) (m : Memory) (a : Able row group start n id m) where
-  pub first-asks : (entryAt (m .table) 0 .transactions + 1 < 2 ^ 64) × (when row linkWritten (m .written) .links * linkWidth ≤ length (m .links))
+  pub first-asks : (entryAt (m .table) 0 .transactions + one row < 2 ^ 64) × (when row linkWritten (m .written) .links * linkWidth ≤ length (m .links))
   unfolding eventRows
   first-asks = (a .transactions, link-asks row id m (links-before group start n (when row (eventLinked id) m) (a .room)))
 
   pub second-asks : length (m .table) ≡ word.table → (m₁ : Memory) → m₁ ≡ when row (eventLinked id) m
-      → (n ≤ 128) × ((entryAt (m₁ .table) 0 .groups + 1 < 2 ^ 64) × Room (when group (eventGrouped n start) m₁))
+      → (n ≤ 128) × ((entryAt (m₁ .table) 0 .groups + one group < 2 ^ 64) × Room (when group (eventGrouped n start) m₁))
   unfolding eventRows
   second-asks l m₁ e = (a .few, (omega (arith, a .groups, counts), subst (λ (v : Memory). Room (when group (eventGrouped n start) v)) (sym e) (a .room)))
     where

@@ -1,6 +1,7 @@
 -- Inner (cited by private contracts alone): what the act of an event does to memory (rules, Events): rows of the event endpoint, which is endpoint 0.
 use Prim.Native.Nat.{ℕ, pred, _+_, _^_, _<_, _≤_}
 use mathlib.Core.Bool.{Bool, true, false}
+use Rattle.rows.specs.One.{one}
 use Rattle.endpoints.specs.Link as kind
 use Rattle.endpoints.specs.Each.{ended}
 use Rattle.endpoints.specs.Table.{entryAt}
@@ -41,6 +42,6 @@ startsGroup rules.keepalive = true
 pub record Able (row group start : Bool) (n id : ℕ) (m : Memory) : Type 0 where
   pub few : n ≤ 128
   pub some : 0 < n
-  pub transactions : entryAt (m .table) eventEp .transactions + 1 < 2 ^ 64
-  pub groups : entryAt (m .table) eventEp .groups + 1 < 2 ^ 64
+  pub transactions : entryAt (m .table) eventEp .transactions + one row < 2 ^ 64
+  pub groups : entryAt (m .table) eventEp .groups + one group < 2 ^ 64
   pub room : Room (eventRows row group start n id m)

@@ -5,6 +5,7 @@ use mathlib.Core.Bool.{Bool, true, false, not}
 use mathlib.Core.List.{List, _∷_, append-nil}
 use mathlib.Core.Path.{_≡_, refl, sym, _∙_, subst}
 use borrow.Author.Tests.{ne-eqb}
+use Rattle.rows.specs.One.{one}
 use Rattle.transaction.specs.Table.{pick}
 use Rattle.endpoints.specs.Link as kind
 use Rattle.rules.specs.Rows.{Row, PacketRow, EventRow, TransactionRow, naming, T, G, written, log}
@@ -15,7 +16,7 @@ use Rattle.rules.specs.declared.EventState.{EventState}
 use Rattle.rules.specs.Groups.{pushGroup, addGroupEntry, addItem}
 use Rattle.rules.specs.Transactions.{pushTransaction}
 use Rattle.rules.specs.Events as rules
-use Rattle.write.specs.Holds.{Holds, Space}
+use Rattle.write.specs.Holds.{Holds, Space, Worded}
 use Rattle.write.specs.HoldsLaws.{keep, holds-room, holds-altered, holds-link-row, holds-entry-row, holds-item}
 use Rattle.write.specs.Memory.{Memory}
 use Rattle.event.specs.Event.{addsRow, addsGroup, isCurrent}
@@ -131,15 +132,15 @@ module _ {n id pid : ℕ} {m₀ m : Memory} {w : World} (h : Holds n id pid m₀
       by false = marked
 
   -- what event_rows asks, from the world: the rows of the act fit behind those that memory had
-  pub event-able : (a : rules.Act) → w .endpoints eventEp .transactions + 1 < 2 ^ 64 → w .endpoints eventEp .groups + 1 < 2 ^ 64 → Space m₀ (rules.eventAct a packet w .journal)
-      → Able (addsRow a) (addsGroup a (w .keepalive)) (startsGroup a) n i m
-  event-able a t g r =
+  pub event-able : (a : rules.Act) → w .endpoints eventEp .transactions + one (addsRow a) < 2 ^ 64 → w .endpoints eventEp .groups + one (addsGroup a (w .keepalive)) < 2 ^ 64 → Space m₀ (rules.eventAct a packet w .journal)
+      → Worded (rules.eventAct a packet w) → Able (addsRow a) (addsGroup a (w .keepalive)) (startsGroup a) n i m
+  event-able a t g r z =
       record {
         few = few;
         some = some;
         transactions = rw (h .endpoints eventEp some) t;
         groups = rw (h .endpoints eventEp some) g;
-        room = holds-room (event-holds a) r;
+        room = holds-room (event-holds a) r z;
       }
 
   -- event_update: the state that it leaves is not memory's

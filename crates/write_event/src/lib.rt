@@ -9,6 +9,7 @@ use write::leaf;
 ghost use mathlib.Core.Path.{_≡_};
 ghost use Prim.Native.Nat.{_+_, _*_, _^_, _<_, _≤_};
 ghost use lib.ListN.{length};
+ghost use Rattle.rows.specs.One.{one};
 ghost use Rattle.rows.specs.Widths.{linkWidth};
 ghost use Rattle.endpoints.specs.Table.{entryAt};
 ghost use Rattle.update.specs.Update.{when};
@@ -20,7 +21,7 @@ const EVENT: usize = 0;
 
 // The T row of transaction row id. The tally's T row is the suspended transaction's, and stays.
 fn link_event(on: bool, d: Written, id: u64, table: &mut Table, links: &mut [u64]) -> Written
-    requires { ⌜ entryAt (now table) 0 .transactions + 1 < 2 ^ 64 ⌝ }
+    requires { ⌜ entryAt (now table) 0 .transactions + one on < 2 ^ 64 ⌝ }
     requires { ⌜ when on linkWritten d .links * linkWidth ≤ length (now links) ⌝ }
     ensures { λ r. ⌜ OnLinks (when on (eventLinked id)) d (now (table .entry)) (now (links .entry)) r (now (table .exit)) (now (links .exit)) ⌝ }
 {
@@ -46,7 +47,7 @@ fn group_event(
     links: &mut [u64],
 ) -> Written
     requires { ⌜ n ≤ 128 ⌝ }
-    requires { ⌜ entryAt (now table) 0 .groups + 1 < 2 ^ 64 ⌝ }
+    requires { ⌜ entryAt (now table) 0 .groups + one on < 2 ^ 64 ⌝ }
     requires { ⌜ Room (when on (eventGrouped n start) (memory d (now table) (now groups) (now statebytes) (now states) (now items) (now links))) ⌝ }
     ensures { λ r. ⌜ memory r (now (table .exit)) (now (groups .exit)) (now (statebytes .exit)) (now (states .exit)) (now (items .exit)) (now (links .exit)) ≡ when on (eventGrouped n start) (memory d (now (table .entry)) (now (groups .entry)) (now (statebytes .entry)) (now (states .entry)) (now (items .entry)) (now (links .entry))) ⌝ }
 {

@@ -41,7 +41,7 @@ room-begun s k r =
     }
   where
     bare : Room (memoryOf (openedDesk s k)) → Room (memoryOf k)
-    bare a = record { groups = a .groups; states = a .states; statebytes = a .statebytes; items = a .items; links = a .links }
+    bare a = record { groups = a .groups; states = a .states; statebytes = a .statebytes; items = a .items; links = a .links; numbers = record { groups = a .numbers .groups; statebytes = a .numbers .statebytes; items = a .numbers .items } }
 
 devices-le : (f : Effect) (n : ℕ) → n ≤ devicesBy f n
 devices-le NoEffect n = omega arith
@@ -69,7 +69,7 @@ room-ended x id pid s k r =
     }
   where
     bare : Room (memoryOf (storedDesk x (s .entry) k)) → Room (memoryOf k)
-    bare a = record { groups = a .groups; states = a .states; statebytes = a .statebytes; items = a .items; links = a .links }
+    bare a = record { groups = a .groups; states = a .states; statebytes = a .statebytes; items = a .items; links = a .links; numbers = record { groups = a .numbers .groups; statebytes = a .numbers .statebytes; items = a .numbers .items } }
 
 when-room : (b : Bool) (f : Desk → Desk) → ((k : Desk) → RoomAll (f k) → RoomAll k) → (k : Desk) → RoomAll (when b f k) → RoomAll k
 when-room true f step k r = step k r

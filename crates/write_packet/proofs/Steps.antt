@@ -5,6 +5,7 @@ use mathlib.Core.Bool.{false}
 use mathlib.Core.List.{List, []}
 use mathlib.Core.Path.{_≡_, sym, ap, _∙_, subst}
 use lib.Seq.{length-sets}
+use Rattle.rows.specs.One.{one}
 use Rattle.rows.specs.Widths.{linkWidth}
 use Rattle.endpoints.specs.Table.{entryAt, storeAt}
 use Rattle.transaction.specs.Payload.{startPid}
@@ -25,8 +26,8 @@ abbrev pub CarryAsks : Update → ℕ → ℕ → ℕ → Desk → Type 0
 CarryAsks u x id pid k =
     (k .hand .endpoints ≤ 128)
     × ((x < k .hand .endpoints)
-    × ((entryAt (k .table) x .transactions + 1 < 2 ^ 64)
-    × ((entryAt (k .table) x .groups + 1 < 2 ^ 64)
+    × ((entryAt (k .table) x .transactions + one (u .link) < 2 ^ 64)
+    × ((entryAt (k .table) x .groups + one (u .start) < 2 ^ 64)
     × Room (carried u (k .hand .endpoints) x id pid (memoryOf k)))))
 
 -- and what it leaves
@@ -62,10 +63,10 @@ begins s k k₁ k₂ pid e f g =
 
 -- an effect has links at most
 pub room-effect : (f : Effect) (x : ℕ) (k : Desk) → Room (memoryOf (effectDesk f x k)) → Room (memoryOf k)
-room-effect NoEffect x k r = record { groups = r .groups; states = r .states; statebytes = r .statebytes; items = r .items; links = r .links }
-room-effect (NewDevice address) x k r = record { groups = r .groups; states = r .states; statebytes = r .statebytes; items = r .items; links = r .links }
-room-effect (Request n) x k r = record { groups = r .groups; states = r .states; statebytes = r .statebytes; items = r .items; links = r .links }
-room-effect (PendingData n) x k r = record { groups = r .groups; states = r .states; statebytes = r .statebytes; items = r .items; links = r .links }
+room-effect NoEffect x k r = record { groups = r .groups; states = r .states; statebytes = r .statebytes; items = r .items; links = r .links; numbers = record { groups = r .numbers .groups; statebytes = r .numbers .statebytes; items = r .numbers .items } }
+room-effect (NewDevice address) x k r = record { groups = r .groups; states = r .states; statebytes = r .statebytes; items = r .items; links = r .links; numbers = record { groups = r .numbers .groups; statebytes = r .numbers .statebytes; items = r .numbers .items } }
+room-effect (Request n) x k r = record { groups = r .groups; states = r .states; statebytes = r .statebytes; items = r .items; links = r .links; numbers = record { groups = r .numbers .groups; statebytes = r .numbers .statebytes; items = r .numbers .items } }
+room-effect (PendingData n) x k r = record { groups = r .groups; states = r .states; statebytes = r .statebytes; items = r .items; links = r .links; numbers = record { groups = r .numbers .groups; statebytes = r .numbers .statebytes; items = r .numbers .items } }
 room-effect (IndexData n waited i) x k r =
     record {
       groups = r .groups;
@@ -73,6 +74,7 @@ room-effect (IndexData n waited i) x k r =
       statebytes = r .statebytes;
       items = r .items;
       links = omega (arith, r .links, length-sets (k .links) (k .hand .written .links * linkWidth) (totalWords (IndexData n waited i) x (entryAt (k .table) x) (k .hand .written .link)));
+      numbers = record { groups = r .numbers .groups; statebytes = r .numbers .statebytes; items = r .numbers .items };
     }
 
 module _ (x id pid : ℕ) (s : End) (k : Desk) (a : EndReady x id pid s k) where

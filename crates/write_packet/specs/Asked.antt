@@ -4,6 +4,7 @@ use mathlib.Core.Bool.{Bool, true, false}
 use mathlib.Core.List.{List}
 use mathlib.Core.Path.{_≡_}
 use lib.ListN.{length}
+use Rattle.rows.specs.One.{one}
 use Rattle.rows.specs.Widths.{endpointWidth, linkWidth, requestWidth, transactionWidth}
 use Rattle.endpoints.specs.Table.{entryAt}
 use Rattle.transaction.specs.Payload.{startPid}
@@ -40,16 +41,16 @@ pub record RoomAll (k : Desk) : Type 0 where
 pub record BeginAsks (s : Begin) (k : Desk) : Type 0 where
   pub few : openedDesk s k .hand .endpoints ≤ 128
   pub there : s .transaction .endpoint < openedDesk s k .hand .endpoints
-  pub transactions : entryAt (openedDesk s k .table) (s .transaction .endpoint) .transactions + 1 < 2 ^ 64
-  pub groups : entryAt (openedDesk s k .table) (s .transaction .endpoint) .groups + 1 < 2 ^ 64
+  pub transactions : entryAt (openedDesk s k .table) (s .transaction .endpoint) .transactions + one (s .update .link) < 2 ^ 64
+  pub groups : entryAt (openedDesk s k .table) (s .transaction .endpoint) .groups + one (s .update .start) < 2 ^ 64
 
 -- ---- a step that ends
 
 pub record EndAsks (x id pid : ℕ) (s : End) (k : Desk) : Type 0 where
   pub few : k .hand .endpoints ≤ 128
   pub there : x < k .hand .endpoints
-  pub transactions : entryAt (storedDesk x (s .entry) k .table) x .transactions + 1 < 2 ^ 64
-  pub groups : entryAt (storedDesk x (s .entry) k .table) x .groups + 1 < 2 ^ 64
+  pub transactions : entryAt (storedDesk x (s .entry) k .table) x .transactions + one (s .update .link) < 2 ^ 64
+  pub groups : entryAt (storedDesk x (s .entry) k .table) x .groups + one (s .update .start) < 2 ^ 64
   -- no byte total passes 2^64 - 1 (answer 9)
   pub total : passes (s .effect) (entryAt (closingDesk x id pid s k .table) x .total) ≡ false
 

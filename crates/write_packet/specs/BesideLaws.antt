@@ -17,11 +17,10 @@ pub record Beside (w v : World) : Type 0 where
   pub requests : log 11 (v .journal) ≡ log 11 (w .journal)
   pub count : v .count ≡ w .count
   pub deviceCount : v .deviceCount ≡ w .deviceCount
-  pub transactionCount : v .transactions ≡ w .transactions
 
 -- a change of endpoints alone
 pub beside-change : (x : ℕ) (f : Endpoint → Endpoint) (w : World) → Beside w (change x f w)
-beside-change x f w = record { devices = refl; endpoints = refl; transactions = refl; requests = refl; count = refl; deviceCount = refl; transactionCount = refl }
+beside-change x f w = record { devices = refl; endpoints = refl; transactions = refl; requests = refl; count = refl; deviceCount = refl }
 
 -- a row of another log
 pub beside-push : (r : Row) → eqb (written r .0) 1 ≡ false → eqb (written r .0) 2 ≡ false → eqb (written r .0) 5 ≡ false → eqb (written r .0) 11 ≡ false → (w : World) → Beside w (push r w)
@@ -33,7 +32,6 @@ beside-push r a b c d w =
       requests = row-log 11 r (w .journal) d;
       count = refl;
       deviceCount = refl;
-      transactionCount = refl;
     }
 
 -- an update
@@ -47,5 +45,4 @@ beside-act x u w =
       requests = act-log 11 refl refl refl refl refl u x w;
       count = ap (λ (r : Rest). r .count) rest;
       deviceCount = ap (λ (r : Rest). r .deviceCount) rest;
-      transactionCount = ap (λ (r : Rest). r .transactions) rest;
     }

@@ -66,7 +66,7 @@ actedDesk u x id pid k = withMemory (carried u (k .hand .endpoints) x id pid (me
 
 -- the tally with the T row of a transaction
 abbrev pub tiedTo : Transaction → Written → Written
-tiedTo t d = record { stamp = d .stamp; groups = d .groups; statebytes = d .statebytes; states = d .states; items = d .items; links = d .links; last = d .last; linked = t .linked; link = t .link }
+tiedTo t d = record { stamp = d .stamp; firsts = d .firsts; groups = d .groups; statebytes = d .statebytes; states = d .states; items = d .items; links = d .links; last = d .last; linked = t .linked; link = t .link }
 
 -- one row more, where the flag says so
 abbrev pub plus : Bool → ℕ → ℕ
@@ -170,7 +170,7 @@ effectTable (PendingData n) x link t = storeAt t x (effectEntry (PendingData n) 
 effectTable (IndexData n waited i) x link t = storeAt t x (effectEntry (IndexData n waited i) (entryAt t x) link)
 
 abbrev pub withLinks : ℕ → Written → Written
-withLinks n d = record { stamp = d .stamp; groups = d .groups; statebytes = d .statebytes; states = d .states; items = d .items; links = n; last = d .last; linked = d .linked; link = d .link }
+withLinks n d = record { stamp = d .stamp; firsts = d .firsts; groups = d .groups; statebytes = d .statebytes; states = d .states; items = d .items; links = n; last = d .last; linked = d .linked; link = d .link }
 
 abbrev pub effectHand : Effect → Hand → Hand
 effectHand f h =

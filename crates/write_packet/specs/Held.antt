@@ -23,7 +23,6 @@ pub record HoldsAll (k₀ : Desk) (w : World) (k : Desk) : Type 0 where
   pub endpoints : Appended 2 (k₀ .endpoints) (k₀ .hand .endpoints * endpointWidth) (w .journal) (k .endpoints) (k .hand .endpoints * endpointWidth)
   pub transactions : Appended 5 (k₀ .transactions) (k₀ .hand .transactions * transactionWidth) (w .journal) (k .transactions) (k .hand .transactions * transactionWidth)
   pub requests : Appended 11 (k₀ .requests) (k₀ .hand .requests * requestWidth) (w .journal) (k .requests) (k .hand .requests * requestWidth)
-  pub transactionCount : k .hand .transactions ≡ w .transactions
   pub deviceCount : k .hand .devices ≡ w .deviceCount
   pub count : k .hand .endpoints ≡ w .count
   pub table : Tabled (w .count) (k₀ .table) (k .table)
@@ -36,10 +35,9 @@ pub record Matches (w : World) (k : Desk) : Type 0 where
   pub linked : k .hand .written .linked ≡ w .transaction .linked
   pub link : k .hand .written .link ≡ w .transaction .link
   pub lastItem : k .hand .written .last ≡ w .lastItem
-  pub groups : k .hand .written .groups ≡ w .groups
-  pub statebytes : k .hand .written .statebytes ≡ w .stateBytes
-  pub items : k .hand .written .items ≡ w .items
-  pub transactions : k .hand .transactions ≡ w .transactions
+  pub groups : k .hand .written .firsts .groups + k .hand .written .groups ≡ w .groups
+  pub statebytes : k .hand .written .firsts .statebytes + k .hand .written .statebytes ≡ w .stateBytes
+  pub items : k .hand .written .firsts .items + k .hand .written .items ≡ w .items
   pub devices : k .hand .devices ≡ w .deviceCount
   pub endpoints : k .hand .endpoints ≡ w .count
 

@@ -80,7 +80,6 @@ module _ {k₀ k : Desk} {w : World} (h : HoldsAll k₀ w k) where
         endpoints = keep (h .endpoints) _ (b .endpoints);
         transactions = keep (h .transactions) _ (b .transactions);
         requests = keep (h .requests) _ (b .requests);
-        transactionCount = h .transactionCount ∙ sym (b .transactionCount);
         deviceCount = h .deviceCount ∙ sym (b .deviceCount);
         count = h .count ∙ sym (b .count);
         table = subst (λ (c : ℕ). Tabled c (k₀ .table) (m .table)) (sym (b .count)) t;
@@ -151,7 +150,7 @@ endpointIf b p a k =
 abbrev toldDesk : Bool → ℕ → Desk → Desk
 toldDesk linked link k =
     let d = k .hand .written in
-    desk (record { written = record { stamp = d .stamp; groups = d .groups; states = d .states; statebytes = d .statebytes; items = d .items; links = d .links; last = d .last; linked = linked; link = link }; transactions = k .hand .transactions; devices = k .hand .devices; endpoints = k .hand .endpoints; requests = k .hand .requests })
+    desk (record { written = record { stamp = d .stamp; firsts = d .firsts; groups = d .groups; states = d .states; statebytes = d .statebytes; items = d .items; links = d .links; last = d .last; linked = linked; link = link }; transactions = k .hand .transactions; devices = k .hand .devices; endpoints = k .hand .endpoints; requests = k .hand .requests })
     (k .table) (k .devices) (k .endpoints) (k .transactions) (k .groups) (k .statebytes) (k .states) (k .items) (k .links) (k .requests)
 
 module _ {k₀ k : Desk} {w : World} (h : HoldsAll k₀ w k) where
@@ -164,7 +163,6 @@ module _ {k₀ k : Desk} {w : World} (h : HoldsAll k₀ w k) where
         endpoints = keep (h .endpoints) _ (append-nil _);
         transactions = append (h .transactions) _ (id ∷ []) refl refl (omega arith);
         requests = keep (h .requests) _ (append-nil _);
-        transactionCount = omega (arith, h .transactionCount);
         deviceCount = h .deviceCount;
         count = h .count;
         table = h .table;
@@ -179,7 +177,6 @@ module _ {k₀ k : Desk} {w : World} (h : HoldsAll k₀ w k) where
         endpoints = keep (h .endpoints) _ (append-nil _);
         transactions = keep (h .transactions) _ (append-nil _);
         requests = keep (h .requests) _ (append-nil _);
-        transactionCount = h .transactionCount;
         deviceCount = omega (arith, h .deviceCount);
         count = h .count;
         table = h .table;
@@ -195,7 +192,6 @@ module _ {k₀ k : Desk} {w : World} (h : HoldsAll k₀ w k) where
         endpoints = h .endpoints;
         transactions = h .transactions;
         requests = h .requests;
-        transactionCount = h .transactionCount;
         deviceCount = h .deviceCount;
         count = h .count;
         table = h .table;
@@ -212,7 +208,6 @@ module _ {k₀ k : Desk} {w : World} (h : HoldsAll k₀ w k) where
         endpoints = keep (h .endpoints) _ (append-nil _);
         transactions = keep (h .transactions) _ (append-nil _);
         requests = append (h .requests) _ (x ∷ s ∷ n ∷ []) refl refl (omega arith);
-        transactionCount = h .transactionCount;
         deviceCount = h .deviceCount;
         count = h .count;
         table = h .table;
@@ -265,7 +260,6 @@ module _ {k₀ k : Desk} {w : World} (h : HoldsAll k₀ w k) where
         endpoints = append (h .endpoints) _ (p ∷ numberOf a ∷ a / 128 ∷ []) refl refl (omega arith);
         transactions = keep (h .transactions) _ (append-nil _);
         requests = keep (h .requests) _ (append-nil _);
-        transactionCount = h .transactionCount;
         deviceCount = h .deviceCount;
         count = omega (arith, h .count);
         table =
@@ -305,7 +299,6 @@ module _ {k₀ k : Desk} {w : World} (h : HoldsAll k₀ w k) where
         endpoints = h .endpoints;
         transactions = h .transactions;
         requests = h .requests;
-        transactionCount = h .transactionCount;
         deviceCount = h .deviceCount;
         count = h .count;
         table = h .table;

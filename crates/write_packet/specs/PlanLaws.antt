@@ -15,7 +15,7 @@ use Rattle.rules.specs.declared.EventState.the-variants.{Idle}
 use Rattle.rules.specs.declared.Slot.{Slot}
 use Rattle.rules.specs.declared.Stamp.{Stamp}
 use Rattle.update.specs.Update.{when}
-use Rattle.write.specs.Holds.{Appended}
+use Rattle.write.specs.Holds.{Appended, Worded}
 use Rattle.write.specs.HoldsLaws.{keep, appended-fits, holds-start, holds-room}
 use Rattle.record.specs.TabledLaws.{tabled-start}
 use Rattle.plan.specs.Packet.{played}
@@ -41,7 +41,6 @@ holds-entry w k e c m =
       endpoints = unwritten 2 (k .endpoints) (k .hand .endpoints * endpointWidth) (w .journal) e;
       transactions = unwritten 5 (k .transactions) (k .hand .transactions * transactionWidth) (w .journal) e;
       requests = unwritten 11 (k .requests) (k .hand .requests * requestWidth) (w .journal) e;
-      transactionCount = m .transactions;
       deviceCount = m .devices;
       count = m .endpoints;
       table = tabled-start (w .count) (k .table) (m .sized) (m .stored);
@@ -84,7 +83,6 @@ holds-aside h s e b n p js l =
       endpoints = keep (h .endpoints) js (l 2 refl refl);
       transactions = keep (h .transactions) js (l 5 refl refl);
       requests = keep (h .requests) js (l 11 refl refl);
-      transactionCount = h .transactionCount;
       deviceCount = h .deviceCount;
       count = h .count;
       table = h .table;
@@ -96,10 +94,10 @@ all-start packet time w k e c m =
     (λ k a b. rw (a, b) (simp append-nil))
 
 -- room is what the journal's rows need
-pub room-all : {k₀ k : Desk} {w : World} → HoldsAll k₀ w k → SpaceAll k₀ (w .journal) → RoomAll k
-room-all h r =
+pub room-all : {k₀ k : Desk} {w : World} → HoldsAll k₀ w k → SpaceAll k₀ (w .journal) → Worded w → RoomAll k
+room-all h r z =
     record {
-      memory = holds-room (h .memory) (r .memory);
+      memory = holds-room (h .memory) (r .memory) z;
       devices = appended-fits (h .devices) (r .devices);
       endpoints = appended-fits (h .endpoints) (r .endpoints);
       transactions = appended-fits (h .transactions) (r .transactions);

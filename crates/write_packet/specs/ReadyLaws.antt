@@ -5,6 +5,7 @@ use mathlib.Core.List.{[]}
 use mathlib.Core.Path.{_≡_, refl, sym, ap, _∙_, subst}
 use borrow.Author.Tests.{eq-eqb}
 use lib.Dec.{eqb}
+use Rattle.rows.specs.One.{one}
 use Rattle.endpoints.specs.Table.{entryAt}
 use Rattle.endpoints.specs.declared.Endpoint.{Endpoint}
 use Rattle.transaction.specs.Payload.{startPid}
@@ -32,8 +33,8 @@ begin-asks {k₀} {k} {w} id s fits h own =
     record {
       few = subst (λ (c : ℕ). c ≤ 128) (sym (o .count)) (fits .few);
       there = subst (λ (c : ℕ). s .transaction .endpoint < c) (sym (o .count)) (fits .there);
-      transactions = subst (λ (a : Endpoint). a .transactions + 1 < 2 ^ 64) (sym e) (fits .transactions);
-      groups = subst (λ (a : Endpoint). a .groups + 1 < 2 ^ 64) (sym e) (fits .groups);
+      transactions = subst (λ (a : Endpoint). a .transactions + one (s .update .link) < 2 ^ 64) (sym e) (fits .transactions);
+      groups = subst (λ (a : Endpoint). a .groups + one (s .update .start) < 2 ^ 64) (sym e) (fits .groups);
     }
 
 pick-same : (x : ℕ) (a b : Endpoint) → pick (eqb x x) a b ≡ a
@@ -59,8 +60,8 @@ module _ {k₀ k : Desk} {w : World} (x : ℕ) (s : End) (fits : EndFits x s w) 
       (record {
         few = subst (λ (c : ℕ). c ≤ 128) (sym (h .count)) (fits .few);
         there = subst (λ (c : ℕ). x < c) (sym (h .count)) (fits .there);
-        transactions = subst (λ (a : Endpoint). a .transactions + 1 < 2 ^ 64) (sym entry-stored) (fits .transactions);
-        groups = subst (λ (a : Endpoint). a .groups + 1 < 2 ^ 64) (sym entry-stored) (fits .groups);
+        transactions = subst (λ (a : Endpoint). a .transactions + one (s .update .link) < 2 ^ 64) (sym entry-stored) (fits .transactions);
+        groups = subst (λ (a : Endpoint). a .groups + one (s .update .start) < 2 ^ 64) (sym entry-stored) (fits .groups);
         total = subst (λ (t : ℕ). passes (s .effect) t ≡ false) (sym total-kept) (fits .total);
       }))
 

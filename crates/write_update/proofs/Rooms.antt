@@ -24,7 +24,7 @@ use Rattle.update.specs.Update.{when}
 use Rattle.update.specs.declared.Update.{Update}
 use Rattle.update.specs.declared.Then.{Then}
 use Rattle.update.specs.declared.Then.the-variants.{Keep, Begin, BeginFailed, Last, BeginEarly}
-use Rattle.write.specs.Memory.{Memory, Room, memory, alter, altered, groupWritten, itemWritten, linkWritten, lastNumber, linkRow, groupRow, entryRow, endRow, linkStep, startGroup, itemRow}
+use Rattle.write.specs.Memory.{Memory, Room, Numbers, memory, alter, altered, groupWritten, itemWritten, linkWritten, lastNumber, linkRow, groupRow, entryRow, endRow, linkStep, startGroup, itemRow}
 use Rattle.write.specs.declared.Written.{Written}
 use Rattle.write_update.specs.Carried.{become, endGroup, opened, closed}
 
@@ -39,14 +39,14 @@ table-when false x f t t′ d g m s i l e = rw e refl
 
 module _ {m : Memory} where
   room-altered : (x : ℕ) (f : Endpoint → Endpoint) → Room (altered x f m) → Room m
-  room-altered x f r = record { groups = r .groups; states = r .states; statebytes = r .statebytes; items = r .items; links = r .links }
+  room-altered x f r = record { groups = r .groups; states = r .states; statebytes = r .statebytes; items = r .items; links = r .links; numbers = r .numbers }
 
   room-become : (t : Then) (x pid : ℕ) → Room (become t x pid m) → Room m
   room-become Keep x pid r = r
-  room-become Begin x pid r = record { groups = r .groups; states = r .states; statebytes = r .statebytes; items = r .items; links = r .links }
-  room-become BeginFailed x pid r = record { groups = r .groups; states = r .states; statebytes = r .statebytes; items = r .items; links = r .links }
-  room-become Last x pid r = record { groups = r .groups; states = r .states; statebytes = r .statebytes; items = r .items; links = r .links }
-  room-become BeginEarly x pid r = record { groups = r .groups; states = r .states; statebytes = r .statebytes; items = r .items; links = r .links }
+  room-become Begin x pid r = record { groups = r .groups; states = r .states; statebytes = r .statebytes; items = r .items; links = r .links; numbers = r .numbers }
+  room-become BeginFailed x pid r = record { groups = r .groups; states = r .states; statebytes = r .statebytes; items = r .items; links = r .links; numbers = r .numbers }
+  room-become Last x pid r = record { groups = r .groups; states = r .states; statebytes = r .statebytes; items = r .items; links = r .links; numbers = r .numbers }
+  room-become BeginEarly x pid r = record { groups = r .groups; states = r .states; statebytes = r .statebytes; items = r .items; links = r .links; numbers = r .numbers }
 
   room-link-row : (k x a b : ℕ) → Room (linkRow k x a b m) → Room m
   room-link-row k x a b r =
@@ -56,16 +56,18 @@ module _ {m : Memory} where
         statebytes = r .statebytes;
         items = r .items;
         links = omega (arith, r .links, length-sets (m .links) (m .written .links * linkWidth) (k ∷ x ∷ a ∷ b ∷ []));
+        numbers = record { groups = r .numbers .groups; statebytes = r .numbers .statebytes; items = r .numbers .items };
       }
 
   room-group-row : (n x nth : ℕ) (start : Bool) → Room (groupRow n x nth start m) → Room m
   room-group-row n x nth start r =
       record {
         groups = omega (arith, r .groups, length-sets (m .groups) (m .written .groups * groupWidth) (x ∷ nth ∷ one start ∷ []));
-        states = omega (arith, r .states, length-sets (m .states) (m .written .states) (m .written .statebytes ∷ []));
+        states = omega (arith, r .states, length-sets (m .states) (m .written .states) ((m .written .firsts .statebytes + m .written .statebytes) ∷ []));
         statebytes = omega (arith, r .statebytes, length-sets (m .statebytes) (m .written .statebytes) (stateBytes (nextStates (m .table) n x start) 0 n));
         items = r .items;
         links = r .links;
+        numbers = record { groups = omega (arith, r .numbers .groups); statebytes = omega (arith, r .numbers .statebytes); items = r .numbers .items };
       }
 
   room-item-row : (n x : ℕ) → Room (itemRow n x m) → Room m
@@ -74,8 +76,9 @@ module _ {m : Memory} where
         groups = r .groups;
         states = r .states;
         statebytes = r .statebytes;
-        items = omega (arith, r .items, length-sets (m .items) (m .written .items) (pred (m .written .groups) ∷ []));
-        links = omega (arith, r .links, length-sets (m .links) (m .written .links * linkWidth) (closing (m .table) (m .written .items) 0 n));
+        items = omega (arith, r .items, length-sets (m .items) (m .written .items) (pred (m .written .firsts .groups + m .written .groups) ∷ []));
+        links = omega (arith, r .links, length-sets (m .links) (m .written .links * linkWidth) (closing (m .table) (m .written .firsts .items + m .written .items) 0 n));
+        numbers = record { groups = r .numbers .groups; statebytes = r .numbers .statebytes; items = omega (arith, r .numbers .items) };
       }
 
 module _ {m : Memory} where
@@ -83,7 +86,9 @@ module _ {m : Memory} where
   room-end-row n x r = room-altered x (withPhase Ended) (room-group-row n x (lastNumber x (alter x (withPhase Ended) (m .table))) false r)
 
   room-link-step : (x id : ℕ) → Room (linkStep x id m) → Room m
-  room-link-step x id r = room-link-row kind.T x id 0 (record { groups = r .groups; states = r .states; statebytes = r .statebytes; items = r .items; links = r .links })
+  room-link-step x id r =
+      room-link-row kind.T x id 0
+      (record { groups = r .groups; states = r .states; statebytes = r .statebytes; items = r .items; links = r .links; numbers = record { groups = r .numbers .groups; statebytes = r .numbers .statebytes; items = r .numbers .items } })
 
   room-start-group : (n x : ℕ) → Room (startGroup n x m) → Room m
   room-start-group n x r =
@@ -99,27 +104,27 @@ when-room false g step r = r
 -- ---- what the callees ask
 
 end-row-asks : (b : Bool) (n x : ℕ) (m : Memory) → Room (when b (endRow n x) m)
-    → (when b (groupWritten n) (m .written) .groups * groupWidth ≤ length (m .groups)) × ((when b (groupWritten n) (m .written) .statebytes ≤ length (m .statebytes)) × (when b (groupWritten n) (m .written) .states ≤ length (m .states)))
+    → (when b (groupWritten n) (m .written) .groups * groupWidth ≤ length (m .groups)) × ((when b (groupWritten n) (m .written) .statebytes ≤ length (m .statebytes)) × ((when b (groupWritten n) (m .written) .states ≤ length (m .states)) × Numbers (m .written)))
 end-row-asks true n x m r = (
   omega (arith, r .groups, length-sets (m .groups) (m .written .groups * groupWidth) (x ∷ lastNumber x (alter x (withPhase Ended) (m .table)) ∷ 0 ∷ [])),
   (
     omega (arith, r .statebytes, length-sets (m .statebytes) (m .written .statebytes) (stateBytes (nextStates (alter x (withPhase Ended) (m .table)) n x false) 0 n)),
-    omega (arith, r .states, length-sets (m .states) (m .written .states) (m .written .statebytes ∷ [])),
+    (omega (arith, r .states, length-sets (m .states) (m .written .states) ((m .written .firsts .statebytes + m .written .statebytes) ∷ [])), room-end-row {m = m} n x r .numbers),
   ),
 )
-end-row-asks false n x m r = (r .groups, (r .statebytes, r .states))
+end-row-asks false n x m r = (r .groups, (r .statebytes, (r .states, r .numbers)))
 
 link-asks : (b : Bool) (x id : ℕ) (m : Memory) → Room (when b (linkStep x id) m) → when b linkWritten (m .written) .links * linkWidth ≤ length (m .links)
 link-asks true x id m r = omega (arith, r .links, length-sets (m .links) (m .written .links * linkWidth) (kind.T ∷ x ∷ id ∷ 0 ∷ []))
 link-asks false x id m r = r .links
 
 item-asks : (b : Bool) (n x : ℕ) (m : Memory) → Room (when b (itemRow n x) m)
-    → (when b (itemWritten (waiting (m .table) n) x) (m .written) .items ≤ length (m .items)) × (when b (itemWritten (waiting (m .table) n) x) (m .written) .links * linkWidth ≤ length (m .links))
+    → (when b (itemWritten (waiting (m .table) n) x) (m .written) .items ≤ length (m .items)) × ((when b (itemWritten (waiting (m .table) n) x) (m .written) .links * linkWidth ≤ length (m .links)) × Numbers (m .written))
 item-asks true n x m r = (
-  omega (arith, r .items, length-sets (m .items) (m .written .items) (pred (m .written .groups) ∷ [])),
-  omega (arith, r .links, length-sets (m .links) (m .written .links * linkWidth) (closing (m .table) (m .written .items) 0 n)),
+  omega (arith, r .items, length-sets (m .items) (m .written .items) (pred (m .written .firsts .groups + m .written .groups) ∷ [])),
+  (omega (arith, r .links, length-sets (m .links) (m .written .links * linkWidth) (closing (m .table) (m .written .firsts .items + m .written .items) 0 n)), room-item-row {m = m} n x r .numbers),
 )
-item-asks false n x m r = (r .items, r .links)
+item-asks false n x m r = (r .items, (r .links, r .numbers))
 
 -- ---- a count of endpoint x that a step keeps
 
@@ -147,15 +152,11 @@ when-kept : (b : Bool) (g : Memory → Memory) {p : Endpoint → ℕ} {x v : ℕ
 when-kept true g step {m} k = step m k
 when-kept false g step k = k
 
-one-le : (b : Bool) → one b ≤ 1
-one-le true = omega arith
-one-le false = omega arith
-
 -- ---- open: from the room at its end and the memory m that it begins with
 
 module _ (u : Update) (n x id : ℕ) (m : Memory) (few : n ≤ 128) (hx : x < n) (r : Room (opened u n x id m)) where
   pub first-asks : (m₁ : Memory) → m₁ ≡ when (u .over) (altered x (withPhase Ended)) m
-      → (when (u .cut) (groupWritten n) (m₁ .written) .groups * groupWidth ≤ length (m₁ .groups)) × ((when (u .cut) (groupWritten n) (m₁ .written) .statebytes ≤ length (m₁ .statebytes)) × (when (u .cut) (groupWritten n) (m₁ .written) .states ≤ length (m₁ .states)))
+      → (when (u .cut) (groupWritten n) (m₁ .written) .groups * groupWidth ≤ length (m₁ .groups)) × ((when (u .cut) (groupWritten n) (m₁ .written) .statebytes ≤ length (m₁ .statebytes)) × ((when (u .cut) (groupWritten n) (m₁ .written) .states ≤ length (m₁ .states)) × Numbers (m₁ .written)))
   unfolding opened
   first-asks m₁ e =
       end-row-asks (u .cut) n x m₁
@@ -192,19 +193,19 @@ module _ (u : Update) (n x id : ℕ) (m : Memory) (few : n ≤ 128) (hx : x < n)
       over : {m′ : Memory} → Kept p x (p (entryAt (m .table) x)) m′ → Kept p x (p (entryAt (m .table) x)) (altered x (withPhase Ended) m′)
       over k = kept-altered p x _ (omega arith) (withPhase Ended) a (λ e f. record { address = f .address; state = f .state; first = f .first; last = f .last }) k
 
-  pub transactions-fit : entryAt (m .table) x .transactions + 1 < 2 ^ 64 → (m₂ : Memory) → m₂ ≡ when (u .cut) (endRow n x) (when (u .over) (altered x (withPhase Ended)) m)
+  pub transactions-fit : entryAt (m .table) x .transactions + one (u .link) < 2 ^ 64 → (m₂ : Memory) → m₂ ≡ when (u .cut) (endRow n x) (when (u .over) (altered x (withPhase Ended)) m)
       → entryAt (m₂ .table) x .transactions + one (u .link) < 2 ^ 64
   transactions-fit h m₂ e =
       let k = subst (λ (a : Memory). Kept (λ (e : Endpoint). e .transactions) x (entryAt (m .table) x .transactions) a) (sym e) (ends (λ (e : Endpoint). e .transactions) (λ e. refl) (λ s e. refl)) in
-      omega (arith, k .value, one-le (u .link))
+      omega (arith, k .value, h)
 
-  pub groups-fit : entryAt (m .table) x .groups + 1 < 2 ^ 64 → (m₃ : Memory)
+  pub groups-fit : entryAt (m .table) x .groups + one (u .start) < 2 ^ 64 → (m₃ : Memory)
       → m₃ ≡ when (u .link) (linkStep x id) (when (u .cut) (endRow n x) (when (u .over) (altered x (withPhase Ended)) m))
       → entryAt (m₃ .table) x .groups + one (u .start) < 2 ^ 64
   groups-fit h m₃ e =
       let k = subst (λ (a : Memory). Kept (λ (e : Endpoint). e .groups) x (entryAt (m .table) x .groups) a) (sym e)
       (when-kept (u .link) (linkStep x id) (λ m′ k. linking k) (ends (λ (e : Endpoint). e .groups) (λ e. refl) (λ s e. refl))) in
-      omega (arith, k .value, one-le (u .start))
+      omega (arith, k .value, h)
     where
       linking : {m′ : Memory} → Kept (λ (e : Endpoint). e .groups) x (entryAt (m .table) x .groups) m′ → Kept (λ (e : Endpoint). e .groups) x (entryAt (m .table) x .groups) (linkStep x id m′)
       linking k = kept-altered (λ (e : Endpoint). e .groups) x _ (omega arith) moreTransactions (λ e. refl) (λ e f. record { address = f .address; state = f .state; first = f .first; last = f .last }) (record { sized = k .sized; value = k .value })
@@ -218,7 +219,7 @@ end-when false n x m = refl
 
 module _ (u : Update) (n x pid : ℕ) (m : Memory) (r : Room (closed u n x pid m)) where
   pub fourth-asks : (m₂ : Memory) → m₂ ≡ when (u .end) (altered x cleared) (become (u .group) x pid m)
-      → (when (u .end) (groupWritten n) (m₂ .written) .groups * groupWidth ≤ length (m₂ .groups)) × ((when (u .end) (groupWritten n) (m₂ .written) .statebytes ≤ length (m₂ .statebytes)) × (when (u .end) (groupWritten n) (m₂ .written) .states ≤ length (m₂ .states)))
+      → (when (u .end) (groupWritten n) (m₂ .written) .groups * groupWidth ≤ length (m₂ .groups)) × ((when (u .end) (groupWritten n) (m₂ .written) .statebytes ≤ length (m₂ .statebytes)) × ((when (u .end) (groupWritten n) (m₂ .written) .states ≤ length (m₂ .states)) × Numbers (m₂ .written)))
   unfolding closed
   fourth-asks m₂ e =
       end-row-asks (u .end) n x m₂
@@ -227,7 +228,7 @@ module _ (u : Update) (n x pid : ℕ) (m : Memory) (r : Room (closed u n x pid m
       (when-room (u .item) (itemRow n x) (λ a b. room-item-row n x b) r)))
 
   pub fifth-asks : (m₃ : Memory) → m₃ ≡ when (u .end) (endGroup n x) (become (u .group) x pid m)
-      → (when (u .item) (itemWritten (waiting (m₃ .table) n) x) (m₃ .written) .items ≤ length (m₃ .items)) × (when (u .item) (itemWritten (waiting (m₃ .table) n) x) (m₃ .written) .links * linkWidth ≤ length (m₃ .links))
+      → (when (u .item) (itemWritten (waiting (m₃ .table) n) x) (m₃ .written) .items ≤ length (m₃ .items)) × ((when (u .item) (itemWritten (waiting (m₃ .table) n) x) (m₃ .written) .links * linkWidth ≤ length (m₃ .links)) × Numbers (m₃ .written))
   unfolding closed
   fifth-asks m₃ e = item-asks (u .item) n x m₃ (subst (λ (a : Memory). Room (when (u .item) (itemRow n x) a)) (sym e) r)
 

@@ -8,6 +8,7 @@ use write::entries;
 use write::steps;
 ghost use mathlib.Core.Path.{_≡_};
 ghost use Prim.Native.Nat.{_+_, _^_, _<_, _≤_};
+ghost use Rattle.rows.specs.One.{one};
 ghost use Rattle.endpoints.specs.Table.{entryAt};
 ghost use Rattle.write.specs.Memory.{Room, OnTable, memory};
 ghost use Rattle.write_update.specs.Carried.{become, opened, closed, carried};
@@ -42,8 +43,8 @@ fn open_group(
 ) -> Written
     requires { ⌜ n ≤ 128 ⌝ }
     requires { ⌜ x < n ⌝ }
-    requires { ⌜ entryAt (now table) x .transactions + 1 < 2 ^ 64 ⌝ }
-    requires { ⌜ entryAt (now table) x .groups + 1 < 2 ^ 64 ⌝ }
+    requires { ⌜ entryAt (now table) x .transactions + one (u .link) < 2 ^ 64 ⌝ }
+    requires { ⌜ entryAt (now table) x .groups + one (u .start) < 2 ^ 64 ⌝ }
     requires { ⌜ Room (opened u n x id (memory d (now table) (now groups) (now statebytes) (now states) (now items) (now links))) ⌝ }
     ensures { λ r. ⌜ memory r (now (table .exit)) (now (groups .exit)) (now (statebytes .exit)) (now (states .exit)) (now (items .exit)) (now (links .exit)) ≡ opened u n x id (memory d (now (table .entry)) (now (groups .entry)) (now (statebytes .entry)) (now (states .entry)) (now (items .entry)) (now (links .entry))) ⌝ }
 {
@@ -108,8 +109,8 @@ pub fn carry_out(
 ) -> Written
     requires { ⌜ n ≤ 128 ⌝ }
     requires { ⌜ x < n ⌝ }
-    requires { ⌜ entryAt (now table) x .transactions + 1 < 2 ^ 64 ⌝ }
-    requires { ⌜ entryAt (now table) x .groups + 1 < 2 ^ 64 ⌝ }
+    requires { ⌜ entryAt (now table) x .transactions + one (u .link) < 2 ^ 64 ⌝ }
+    requires { ⌜ entryAt (now table) x .groups + one (u .start) < 2 ^ 64 ⌝ }
     requires { ⌜ Room (carried u n x id pid (memory d (now table) (now groups) (now statebytes) (now states) (now items) (now links))) ⌝ }
     ensures { λ r. ⌜ memory r (now (table .exit)) (now (groups .exit)) (now (statebytes .exit)) (now (states .exit)) (now (items .exit)) (now (links .exit)) ≡ carried u n x id pid (memory d (now (table .entry)) (now (groups .entry)) (now (statebytes .entry)) (now (states .entry)) (now (items .entry)) (now (links .entry))) ⌝ }
 {

@@ -1,63 +1,48 @@
--- `plan_by` meets its contract: its values one after the other (Planned), and the counts of the entries stay small.
-use Rattle.record.specs.World.{worldOf}
-use Rattle.decide.proofs.Planned.{planned}
-use Rattle.decide.specs.Ready.{Small}
-use Prim.Native.Nat.{_^_}
-use Rattle.decide.proofs.Bounds.{end-small, if-small, ended-small, middle-small, wider}
-use native.Mathlib.Omega.{arith}
-use mathlib.Core.Bool.{false, _&&_, not}
-use mathlib.Core.Path.{ap, _∙_}
+-- `plan_by` meets its contract: its values one after the other (Planned).
+use Prim.Native.Nat.{ℕ, _<_}
+use mathlib.Core.Bool.{Bool, false, _&&_, not}
+use mathlib.Core.Path.{_≡_, ap, _∙_}
 use lib.Dec.{eqb}
+use Rattle.endpoints.specs.Table.{entryAt}
 use Rattle.details.specs.declared.Detail.{Detail}
+use Rattle.record.specs.World.{worldOf}
+use Rattle.update.specs.Entry.{linkWords}
 use Rattle.plan.specs.Step.{endOf}
-use Rattle.plan.specs.Packet.{endIf}
+use Rattle.plan.specs.Packet.{entryThen, endIf}
+use Rattle.plan.specs.Words.{inWords}
+use Rattle.plan.proofs.Words.{word-entry}
+use Rattle.decide.proofs.Planned.{planned, then-words}
 use Rattle.decide.proofs.plan_by.Statement.{statement}
 use Rattle.decide.proofs.plan_by.Tie as tie
 mod Places
 use Places.*
 
--- the entry that the old transaction's end leaves has few rows
-old-small : (c : tie.After-decided-end) → Small (2 ^ 61) (c .decided-end .result .entry)
-old-small c =
-    let s = c .before .before .before .before .before .before in
-    rw (c .decided-end .ensures) (if-small (c .before .is-new .result && not (eqb (s .args .x0) 0)) _ (s .args .e) (end-small (s .pre .1 .1 .0) _ _ _ _ _ _) (s .pre .1 .1 .0))
+-- the entries that are stored are in words
+stored-words : (c : tie.Start) (i : ℕ) → i < c .args .d .counts .endpoints → inWords (entryAt (c .args .table .now) i) ≡ entryAt (c .args .table .now) i
+stored-words c i h = let k = c .pre .0 .entries i h in word-entry (k .transactions) (k .groups)
 
--- and so has the entry of the packet's own endpoint, whatever devices the details are of
-own-small : (c : tie.After-middle-of) → Small (2 ^ 62) (c .middle-of .result .entry)
-own-small c =
-    let ended = c .before .before .before in
-    let end = ended .before .before in
-    let fresh = end .before in
-    let s = end .before .before .before .before .before .before in
-    let a = s .args in
-    let taken = s .pre .1 .1 .1 in
-    let h : Small (2 ^ 62) (ended .entry-ended .result) =
-    rw (ended .entry-ended .ensures)
-    (wider (ended-small (fresh .is-new .result && not (eqb (a .x0) 0)) (end .decided-end .result) (ended .before .start-pid .result) (old-small end) (s .pre .1 .1 .0)) (2 ^ 62) (omega arith))
-    in
-    rw (c .middle-of .ensures (taken .devices) (taken .seen))
-    (middle-small (a .d) (taken .devices) (a .table .now) (s .pre .0) (2 ^ 62) (omega arith) (a .x0) (s .pre .1 .0) (ended .entry-ended .result) h (a .j .status) (a .j .pid) (a .packet .now) (c .before .next-row .result) (end .before .before .before .extract-payload .result))
-
-entry-ended-requires : tie.Need-entry-ended-requires
-entry-ended-requires c κs = wider (old-small (entry-ended-requires·decided-end c)) (2 ^ 62) (omega arith)
-
-close-if-requires : tie.Need-close-if-requires
-close-if-requires c κs = own-small (close-if-requires·middle-of c)
+-- and so is that of the old transaction's endpoint, resumed
+resumed : (c : tie.After-link-entry) → c .link-entry .result ≡ inWords (entryThen (link-entry·Start c .args .d .slot) (link-entry·Start c .args .stored))
+resumed c =
+    let s = link-entry·Start c in
+    c .link-entry .ensures ∙ (ap (λ (b : Bool). linkWords b (s .args .stored)) (c .before .is-suspended .ensures) ∙ then-words (s .args .d .slot) (s .args .stored) (s .pre .1 .1 .0) (s .pre .1 .1 .1))
 
 returns : tie.Need-returns
 returns c v seen =
-    let s = returns·Start c .args in
-    planned (s .j) (s .x0) (s .e) (s .t) (s .packet .now) (worldOf (s .d) v (s .table .now))
+    let p = returns·Start c in
+    let s = p .args in
+    planned (s .j) (s .x0) (entryThen (s .d .slot) (s .stored)) (s .t) (s .packet .now) (worldOf (s .d) v (s .table .now)) (p .pre .0 .three) (stored-words p) (p .pre .1 .0)
+    (resumed (returns·link-entry c))
     (returns·setup-of c .setup-of .ensures)
     (returns·extract-payload c .extract-payload .ensures)
     (returns·is-new c .is-new .ensures)
-    (returns·decided-end c .decided-end .ensures ∙ ap (λ (k : Detail). endIf (returns·is-new c .is-new .result && not (eqb (s .x0) 0)) (endOf (s .x0) (s .e) (returns·extract-payload c .extract-payload .result) k (s .d .last) false false) (s .e)) (seen .old))
+    (returns·decided-end c .decided-end .ensures ∙ ap (λ (k : Detail). endIf (returns·is-new c .is-new .result && not (eqb (s .x0) 0)) (endOf (s .x0) (returns·link-entry c .link-entry .result) (returns·extract-payload c .extract-payload .result) k (s .d .last) false false) (returns·link-entry c .link-entry .result)) (seen .old))
     (returns·start-pid c .start-pid .ensures)
     (returns·entry-ended c .entry-ended .ensures)
     (returns·last-ended c .last-ended .ensures)
     (returns·next-row c .next-row .ensures)
     (returns·middle-of c .middle-of .ensures v seen)
-    (returns·is-suspended c .is-suspended .ensures)
+    (returns·is-suspended2 c .is-suspended2 .ensures)
     (returns·resume-of c .resume-of .ensures)
     (returns·is-last c .is-last .ensures)
     (returns·is-success c .is-success .ensures)
@@ -74,15 +59,17 @@ plan-by-spec =
     (λ c κs. tt)
     (λ c κs. tt)
     (λ c κs. tt)
-    entry-ended-requires
     (λ c κs. tt)
-    (λ c κs. next-row-requires·Start c .pre .0 .transactions)
+    (λ c κs. tt)
+    (λ c κs. tt)
+    (λ c κs. tt)
+    (λ c κs. tt)
     (λ c κs. (middle-of-requires·Start c .pre .0, middle-of-requires·Start c .pre .1 .0))
     (λ c κs. tt)
     (λ c κs. tt)
     (λ c κs. tt)
     (λ c κs. tt)
     (λ c κs. tt)
-    close-if-requires
+    (λ c κs. tt)
     (λ c κs. tt)
     returns)

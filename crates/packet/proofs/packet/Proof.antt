@@ -41,7 +41,7 @@ look-requires c κs =
     let a = look-requires·Start c in
     let p = first-passed (a .args .packet .now) (a .args .time) (lent a) (look-requires·room-of c .room-of .ensures) (look-requires·first-tests c .first-tests .ensures) (look-requires·Else1 c .if1 .left) in
     let w = sound (lent a) (p .ill) in
-    ready (a .args .d) (a .args .devices) (a .args .table .now) (roomOf (lent a .logs)) (w .0) (w .1)
+    ready (a .args .d) (a .args .devices) (a .args .table .now) (roomOf (lent a .logs)) (w .0)
 
 -- what packet_in goes by is taken from the devices
 lends : (c : tie.After-look) → Lent (c .look .result) (look·Start c .args .packet .now) (look·Start c .args .d) (look·Start c .args .devices) (look·Start c .args .table .now) (lent (look·Start c) .logs)

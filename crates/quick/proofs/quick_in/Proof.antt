@@ -12,17 +12,16 @@ use Rattle.record.specs.declared.Decoder.{Decoder}
 use Rattle.call.specs.OutcomeLaws.{sound}
 use Rattle.call.specs.State.{State, state, logs, roomOf}
 use Rattle.decide.specs.Ready.{Ready, ready}
-use Rattle.tally.proofs.Bounds.{under}
+use Rattle.tally.proofs.Bounds.{looser, sums-room, countable-by}
 use Rattle.tally.proofs.Formed.{waiting-few}
 use Rattle.packet.specs.Lent.{Lent}
 use Rattle.packet.proofs.Answers.{none-placed}
-use Rattle.quick.specs.Begin.{beginDecoder}
-use Rattle.quick.specs.Close.{closeState}
+use Rattle.quick.specs.Close.{closeTally, closeState}
 use Rattle.quick.specs.declared.close.Close.{Close}
 use Rattle.quick.proofs.BeginOnly.{BeginPlan, begin-asks, begin-rows, begin-more, begin-by}
 use Rattle.quick.proofs.Rest.{begins-plan}
-use Rattle.quick.proofs.CloseOnly.{close-only-call, close-only-asks, close-only-rows, close-counted}
-use Rattle.quick.proofs.Quick.{Meets, BeginTaken, begin-taken, CloseTaken, close-taken, kept-devices, counts-small}
+use Rattle.quick.proofs.CloseOnly.{close-small, close-only-call, close-only-asks, close-only-rows, close-counted}
+use Rattle.quick.proofs.Quick.{Meets, begin-lent, close-lent, BeginTaken, begin-taken, CloseTaken, close-taken, kept-devices}
 use Rattle.quick.proofs.quick_in.Statement.{statement}
 use Rattle.quick.proofs.quick_in.Tie as tie
 mod Places
@@ -57,22 +56,23 @@ ready-by : (c : tie.Start) → Ready (c .args .d) (c .args .table .now)
 ready-by c =
     let s = lent c (c .pre .0 .devices) in
     let w = sound s (c .pre .0 .lent .ill) in
-    ready (s .decoder) (s .devices) (s .table) (roomOf (s .logs)) (w .0) (w .1)
+    ready (s .decoder) (s .devices) (s .table) (roomOf (s .logs)) (w .0)
 
-begin-counts-requires : tie.Need-begin-counts-requires
-begin-counts-requires c κs =
-    let a = begin-counts-requires·Start c in
-    let s = lent a (a .pre .0 .devices) in
-    let w = sound s (a .pre .0 .lent .ill) in
-    let l = a .pre .1 .1 in
-    counts-small (a .args .d .counts) _ (under (s .decoder .counts) (roomOf (s .logs)) (w .0 .counts) (w .1)) (omega (arith, l))
+held-of-requires : tie.Need-held-of-requires
+held-of-requires c κs = let a = held-of-requires·Start c in sound (lent a (a .pre .0 .devices)) (a .pre .0 .lent .ill) .0 .begun
+
+begin-fits-requires : tie.Need-begin-fits-requires
+begin-fits-requires c κs =
+    let a = begin-fits-requires·Start c in
+    let w = sound (lent a (a .pre .0 .devices)) (a .pre .0 .lent .ill) in
+    (a .pre .1 .1, countable-by (w .0) (w .1) (begin-fits-requires·held-of c .held-of .ensures))
 
 -- ---- begin-only
 
 begun : (c : tie.Then1) (v : List Device) → Lends (Then1·Start c) v → BeginTaken (Then1·Start c .args .packet .now) (lent (Then1·Start c) v) (Then1·shape-of c .shape-of .result)
 begun c v h =
     begin-taken (Then1·Start c .args .packet .now) (lent (Then1·Start c) v) (Then1·shape-of c .shape-of .result) (meets (Then1·shape-of c) v h) (Then1·shape-of c .shape-of .ensures v (h .seen))
-    (Then1·begin-counts c .begin-counts .ensures) (Then1·room-of c .room-of .ensures) (Then1·begin-fits c .begin-fits .ensures) (c .if1 .taken)
+    (Then1·held-of c .held-of .ensures) (Then1·room-of c .room-of .ensures) (Then1·begin-fits c .begin-fits .ensures) (c .if1 .taken)
 
 begin-only-requires : tie.Need-begin-only-requires
 begin-only-requires c κs =
@@ -83,20 +83,23 @@ begin-only-requires c κs =
     let q = Then1·shape-of (begin-only-requires·Then1 c) .shape-of .result in
     let x = begin-asks (a .args .packet .now) (a .args .time) (lent a v) (b .enters) p in
     let r = begin-rows (a .args .packet .now) (a .args .time) (lent a v) (b .enters) p in
-    let m = begin-more (lent a v) (q .row) (q .link) _ (b .fits) in
-    (omega (arith, x .0, x .1 .0), (x .1 .1, (r .0, (r .1, (m .0, m .1)))))
+    let m = begin-more (lent a v) (q .row) (q .link) _ (b .fits .rows) in
+    let e = Then1·held-of (begin-only-requires·Then1 c) .held-of .ensures in (
+      omega (arith, x .0, x .1 .0),
+      (x .1 .1, (b .fits .numbers, begin-lent (a .args .packet .now) (lent a v) (q .row) (q .link) e (r .0) (r .1) (m .0) (m .1))),
+    )
 
 returns : tie.Need-returns
 returns c =
     let a = returns·Start c in
     let e = returns·no-change c .no-change .ensures in
     let w = returns·begin-only c .begin-only .ensures in
-    let n = returns·begin-counts c .begin-counts .ensures in
+    let n = returns·held-of c .held-of .ensures in
     let q = returns·shape-of c .shape-of .result in (
       none-placed e,
       λ v h. let b = begun (returns·Then1 c) v h in
           kept-devices (a .args .packet .now) (a .args .time) (lent a v) e
-          (begin-by (a .args .packet .now) (a .args .time) (lent a v) (b .enters) (begins-plan (a .args .packet .now) (a .args .time) (lent a v) (b .enters) (b .plan) (b .fits)) (w .0 ∙ ap (λ (x : Counts). beginDecoder x (q .transaction) (q .link) (a .args .table .now) (a .args .d)) n) (w .1 .0) (w .1 .1 .0) (w .1 .1 .1 .0) (w .1 .1 .1 .1 .0) (w .1 .1 .1 .1 .1)),
+          (begin-by (a .args .packet .now) (a .args .time) (lent a v) (b .enters) (begins-plan (a .args .packet .now) (a .args .time) (lent a v) (b .enters) (b .plan) (b .fits)) n (w .0) (w .1 .0) (w .1 .1 .0) (w .1 .1 .1 .0) (w .1 .1 .1 .1 .0) (w .1 .1 .1 .1 .1)),
     )
 
 -- ---- close-only
@@ -104,15 +107,14 @@ returns c =
 close-of-requires : tie.Need-close-of-requires
 close-of-requires c κs =
     let a = close-of-requires·Start c in
-    let s = lent a (a .pre .0 .devices) in
-    let w = sound s (a .pre .0 .lent .ill) in
-    (a .pre .1 .1, (waiting-few (w .0), (w .0 .counts .fewEndpoints, under (s .decoder .counts) (roomOf (s .logs)) (w .0 .counts) (w .1))))
+    let w = sound (lent a (a .pre .0 .devices)) (a .pre .0 .lent .ill) in
+    (a .pre .1 .1, (waiting-few (w .0), (w .0 .counts .fewEndpoints, countable-by (w .0) (w .1) (close-of-requires·held-of c .held-of .ensures))))
 
 closed : (c : tie.Then2) (v : List Device) → Lends (Then2·Start c) v → CloseTaken (Then2·Start c .args .packet .now) (lent (Then2·Start c) v) (Then2·shape-of c .shape-of .result) (Then2·end-by c .end-by .result)
 closed c v h =
     let a = Then2·Start c in
     close-taken (a .args .packet .now) (lent a v) (Then2·shape-of c .shape-of .result) (a .args .near .old) (meets (Then2·shape-of c) v h) (Then2·shape-of c .shape-of .ensures v (h .seen))
-    (Then2·room-of c .room-of .ensures) (h .seen .old) (Then2·end-by c .end-by .ensures) (Then2·close-of c .close-of .ensures) (c .if2 .taken)
+    (Then2·held-of c .held-of .ensures) (Then2·room-of c .room-of .ensures) (h .seen .old) (Then2·end-by c .end-by .ensures) (Then2·close-of c .close-of .ensures) (c .if2 .taken)
 
 close-only-requires : tie.Need-close-only-requires
 close-only-requires c κs =
@@ -120,7 +122,13 @@ close-only-requires c κs =
     let v = a .pre .0 .devices in
     let b = closed (close-only-requires·Then2 c) v (a .pre .0 .lent) in
     let r = close-only-rows (a .args .packet .now) (a .args .time) (lent a v) (b .enters) (b .plan) (b .fits) in
-    (r .0, (r .1, λ on. close-only-asks (a .args .packet .now) (a .args .time) (lent a v) (b .enters) (b .plan) (b .fits)))
+    let w = sound (lent a v) (a .pre .0 .lent .ill) in
+    let e = Then2·held-of (close-only-requires·Then2 c) .held-of .ensures in
+    let f = Then2·close-of (close-only-requires·Then2 c) .close-of .ensures in
+    let end = Then2·end-by (close-only-requires·Then2 c) .end-by .result in
+    close-lent (a .args .packet .now) (a .args .time) (lent a v) (Then2·shape-of (close-only-requires·Then2 c) .shape-of .result .closes) (Then2·room-of (close-only-requires·Then2 c) .room-of .result) (Then2·shape-of (close-only-requires·Then2 c) .shape-of .result .transaction) e f
+    (sums-room (closeTally end _ (a .args .d)) (roomOf (lent a v .logs)) (countable-by (w .0) (w .1) refl) (looser (close-small end _ (a .args .d) (a .pre .1 .1) (waiting-few (w .0)) (w .0 .counts .fewEndpoints)) _ (omega arith)) (b .fits .fits))
+    (r .0) (r .1) (λ on. close-only-asks (a .args .packet .now) (a .args .time) (lent a v) (b .enters) (b .plan) (b .fits))
 
 returns-2 : tie.Need-returns-2
 returns-2 c =
@@ -132,8 +140,8 @@ returns-2 c =
       λ v h. let b = closed (returns-2·Then2 c) v h in
           kept-devices (a .args .packet .now) (a .args .time) (lent a v) e
           (close-only-call (a .args .packet .now) (a .args .time) (lent a v) (b .enters) (b .plan) (b .fits)
-          (returns-2·close-only c .close-only .ensures v (a .args .endpoint-rows .now) (a .args .events .now) (a .args .transactions .now)
-          ∙ close-counted (q .transaction) end (a .args .packet .now) (a .args .time) (lent a v) (q .closes) (returns-2·room-of c .room-of .result) (returns-2·close-of c .close-of .ensures))),
+          (returns-2·close-only c .close-only .ensures v (a .args .endpoint-rows .now) (a .args .events .now) (a .args .transactions .now) (returns-2·held-of c .held-of .ensures)
+          ∙ close-counted (q .transaction) end (a .args .packet .now) (a .args .time) (lent a v) (q .closes) (returns-2·held-of c .held-of .result) (returns-2·room-of c .room-of .result) (returns-2·close-of c .close-of .ensures))),
     )
 
 pub quick-in-spec : {M : Type 1} → statement M
@@ -145,9 +153,9 @@ quick-in-spec =
     (λ c κs. tt)
     (λ c κs. tt)
     (λ c κs. tt)
+    held-of-requires
     (λ c κs. ready-by (shape-of-requires·Start c))
-    begin-counts-requires
-    (λ c κs. tt)
+    begin-fits-requires
     begin-only-requires
     (λ c. returns·begin-only c .begin-only .kept .1 .1 .1 .1 .1 .1 .1 .1 .0)
     (λ c. returns·begin-only c .begin-only .kept .1 .1 .1 .1 .1 .1 .1 .1 .1 .0)
@@ -157,7 +165,6 @@ quick-in-spec =
     (λ c κs. ready-by (end-by-requires·Start c))
     close-of-requires
     close-only-requires
-    (λ c. returns-2·close-only c .close-only .kept .1 .1 .1 .1 .1 .1 .1 .0)
     (λ c. returns-2·close-only c .close-only .kept .1 .1 .1 .1 .1 .1 .1 .1 .0)
     (λ c. returns-2·close-only c .close-only .kept .1 .1 .1 .1 .1 .1 .1 .1 .1 .0)
     (λ c. returns-2·close-only c .close-only .kept .1 .1 .1 .1 .1 .1 .1 .1 .1 .1 .0)
@@ -166,6 +173,7 @@ quick-in-spec =
     (λ c. returns-2·close-only c .close-only .kept .1 .1 .1 .1 .1 .1 .1 .1 .1 .1 .1 .1 .1 .0)
     (λ c. returns-2·close-only c .close-only .kept .1 .1 .1 .1 .1 .1 .1 .1 .1 .1 .1 .1 .1 .1 .0)
     (λ c. returns-2·close-only c .close-only .kept .1 .1 .1 .1 .1 .1 .1 .1 .1 .1 .1 .1 .1 .1 .1 .0)
+    (λ c. returns-2·close-only c .close-only .kept .1 .1 .1 .1 .1 .1 .1 .1 .1 .1 .1 .1 .1 .1 .1 .1 .0)
     returns-2
     (λ c κs. packet-in-requires·Start c .pre)
     (λ c. returns-3·packet-in c .packet-in .kept .1 .1 .1 .1 .1 .0)

@@ -22,7 +22,7 @@ endpoint-paid-requires : tie.Need-endpoint-paid-requires Inv-loop μ-loop
 endpoint-paid-requires c κs =
     let p = c .before .before .before .pre in
     let l = c .loop-test .taken in
-    (omega (arith, p .0, l), p .1 _ l)
+    omega (arith, p, l)
 
 loop-again : tie.Need-loop-again Inv-loop μ-loop
 loop-again c =

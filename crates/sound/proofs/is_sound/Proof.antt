@@ -1,7 +1,7 @@
 -- `sound::is_sound` meets its contract: by its first part, the test is false or that of the payloads.
 use mathlib.Core.Path.{sym, _∙_}
 use borrow.Author.Needs.{needs}
-use Rattle.sound.proofs.Sums.{summable, few, ill-unsound, well-sound}
+use Rattle.sound.proofs.Sums.{few, ill-unsound, well-sound}
 use Rattle.sound.proofs.is_sound.Statement.{statement}
 use Rattle.sound.proofs.is_sound.Tie as tie
 
@@ -9,7 +9,7 @@ endpoints-paid-requires : tie.Need-endpoints-paid-requires
 endpoints-paid-requires c κs =
     let s = c .before .before .args in
     let h = sym (c .before .is-ill .ensures) ∙ c .if1 .left in
-    (few (s .d) (s .devices) (s .table .now) (s .room) h, summable (s .d) (s .devices) (s .table .now) (s .room) h)
+    few (s .d) (s .devices) (s .table .now) (s .room) h
 
 returns : tie.Need-returns
 returns c =

@@ -1,11 +1,13 @@
 -- `write_event::group_event` meets its contract: G row, group row and item, each over the table and the tally that the one before leaves.
-use Rattle.write_event.proofs.Rooms.{room-groups, room-states, room-statebytes, room-items, room-closing, room-link}
+use Rattle.write_event.proofs.Rooms.{room-groups, room-states, room-statebytes, room-items, room-numbers, room-row, room-closing, room-link}
 use Rattle.write_event.specs.Rows.{eventGrouped}
 use Rattle.write.proofs.Parts.{parts}
 use Rattle.write.specs.Memory.{Memory, Room, memory}
 use borrow.Author.Needs.{needs}
+use native.Mathlib.Omega.{arith}
 use mathlib.Core.Bool.{true}
-use mathlib.Core.Path.{_≡_, refl, _∙_}
+use mathlib.Core.Path.{_≡_, refl, ap, _∙_}
+use Rattle.rows.specs.One.{one}
 use Rattle.write_event.proofs.group_event.Statement.{statement}
 use Rattle.write_event.proofs.group_event.Tie as tie
 mod Places
@@ -23,12 +25,17 @@ link-row-requires c κs =
     let s = link-row-requires·Start c in
     room-link (s .args .n) (s .args .start) (first s) (room s (link-row-requires·Then1 c .if1 .taken))
 
+more-groups-requires : tie.Need-more-groups-requires
+more-groups-requires c κs =
+    let o : one (more-groups-requires·Start c .args .on) ≡ 1 = ap one (more-groups-requires·Then1 c .if1 .taken) in
+    (omega arith, omega (arith, o, more-groups-requires·Start c .pre .1 .0))
+
 group-row-requires : tie.Need-group-row-requires
 group-row-requires c κs =
     let s = c .before .before .before .before .before .before .before .before .before .before .before .before .before .before .before .before .before .before .before .before .before in
     let r = room s (c .before .before .before .before .before .before .before .before .before .before .before .before .before .before .before .if1 .taken) in
     rw (c .before .before .before .before .before .before .before .before .before .before .link-row .ensures .0)
-    (s .pre .0, (room-groups (s .args .n) (s .args .start) (first s) r, (room-statebytes (s .args .n) (s .args .start) (first s) r, room-states (s .args .n) (s .args .start) (first s) r)))
+    (s .pre .0, (room-groups (s .args .n) (s .args .start) (first s) r, (room-statebytes (s .args .n) (s .args .start) (first s) r, (room-states (s .args .n) (s .args .start) (first s) r, room-numbers (s .args .n) (s .args .start) (first s) r))))
 
 item-row-requires : tie.Need-item-row-requires
 item-row-requires c κs =
@@ -37,7 +44,7 @@ item-row-requires c κs =
     let row = c .before .before .before .before .before .before .before .before .before .group-row .ensures in
     let link = c .before .before .before .before .before .before .before .before .before .before .before .before .before .before .before .before .before .before .before .before .link-row .ensures in
     rw (row .0, row .1 .0, c .before .before .before .before .before .before .before .before .before .before .before .before .before .before .before .before .more-groups .ensures, link .0, link .1, c .before .before .before .before .before .before .before .before .before .before .before .before .before .before .before .before .before .before .before .before .before .before .last .ensures, c .before .before .before .before .before .before .before .before .before .before .before .before .before .before .before .before .before .before .before .before .before .before .before .load .ensures)
-    (s .pre .0, (room-items (s .args .n) (s .args .start) (first s) r, room-closing (s .args .n) (s .args .start) (first s) r))
+    (s .pre .0, (room-items (s .args .n) (s .args .start) (first s) r, (room-closing (s .args .n) (s .args .start) (first s) r, room-row (s .args .n) (s .args .start) (first s) r)))
 
 same-length : tie.Need-same-length
 same-length c = returns·group-row c .group-row .kept .1 .1 .1 .1 .1 .1 .0
@@ -82,7 +89,7 @@ group-event-spec =
     (λ c κs. search needs)
     (λ c κs. search needs)
     link-row-requires
-    (λ c κs. search needs)
+    more-groups-requires
     (λ c κs. search needs)
     group-row-requires
     item-row-requires

@@ -12,7 +12,7 @@ pub close-if-spec : {M : Type 1} → statement M
 close-if-spec =
     tie.close
     (tie.spec
-    (λ c κs. c .before .pre)
+    (λ c κs. tt)
     (λ c κs. tt)
     returns
     returns-2)

@@ -1,5 +1,4 @@
 -- `entry_ended` meets its contract: one answer for each way out of it.
-use borrow.Author.Needs.{needs}
 use Rattle.decide.proofs.end.entry_ended.Statement.{statement}
 use Rattle.decide.proofs.end.entry_ended.Tie as tie
 
@@ -13,6 +12,6 @@ pub entry-ended-spec : {M : Type 1} → statement M
 entry-ended-spec =
     tie.close
     (tie.spec
-    (λ c κs. search needs)
+    (λ c κs. tt)
     returns
     returns-2)

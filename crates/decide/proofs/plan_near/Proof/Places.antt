@@ -4,8 +4,11 @@ use Rattle.decide.proofs.plan_near.Tie as tie
 abbrev pub load-requires·Start : tie.After-old-endpoint → tie.Start
 load-requires·Start c = c .before .before .before .before
 
-abbrev pub plan-by-requires·Start : tie.After-entry-then → tie.Start
-plan-by-requires·Start c = c .before .before .before .before .before .before .before .before .before .before
+abbrev pub plan-by-requires·Start : tie.After-transaction-status → tie.Start
+plan-by-requires·Start c = c .before .before .before .before .before .before .before .before .before
 
-abbrev pub plan-by-requires·old-endpoint : tie.After-entry-then → tie.After-old-endpoint
-plan-by-requires·old-endpoint c = c .before .before .before .before .before .before
+abbrev pub plan-by-requires·old-endpoint : tie.After-transaction-status → tie.After-old-endpoint
+plan-by-requires·old-endpoint c = c .before .before .before .before .before
+
+abbrev pub plan-by-requires·load : tie.After-transaction-status → tie.After-load
+plan-by-requires·load c = c .before .before .before .before

@@ -5,7 +5,6 @@ use mathlib.Core.Path.{_≡_}
 use Prim.Native.Nat.{ℕ, _+_}
 use borrow.Author.Needs.{needs}
 use Rattle.rows.specs.One.{one}
-use Rattle.rows.specs.Sets.{one-small}
 use Rattle.record.specs.declared.Counts.{Counts}
 use Rattle.quick.specs.Begin.{beginCounts}
 use Rattle.quick.proofs.begin.begin_counts.Statement.{statement}
@@ -22,10 +21,10 @@ by-flags n len row l p q =
     λ i. record { bytes = n .bytes + len; devices = n .devices; endpoints = n .endpoints; packets = n .packets + 1; events = n .events; transactions = n .transactions + p i; groups = n .groups; statebytes = n .statebytes; states = n .states; items = n .items; links = n .links + q i; requests = n .requests }
 
 add-transactions : tie.Need-add-transactions
-add-transactions c = let e = add-transactions·flag-word c .flag-word .ensures in let h = one-small (add-transactions·Start c .args .row) in omega (arith, e, h, add-transactions·Start c .pre .1 .1 .0)
+add-transactions c = let e = add-transactions·flag-word c .flag-word .ensures in let h = add-transactions·Start c .pre .transactions in omega (arith, e, h)
 
 add-links : tie.Need-add-links
-add-links c = let e = add-links·flag-word2 c .flag-word2 .ensures in let h = one-small (add-links·Start c .args .l) in omega (arith, e, h, add-links·Start c .pre .1 .1 .1)
+add-links c = let e = add-links·flag-word2 c .flag-word2 .ensures in let h = add-links·Start c .pre .links in omega (arith, e, h)
 
 returns : tie.Need-returns
 returns c = let a = returns·Start c .args in by-flags (a .n) (a .len) (a .row) (a .l) (returns·flag-word c .flag-word .ensures) (returns·flag-word2 c .flag-word2 .ensures)

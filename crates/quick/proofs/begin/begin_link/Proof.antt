@@ -14,7 +14,8 @@ add-e : tie.Need-add-e
 add-e c =
     let s = c .before .before .before .before in
     let e : c .load .result .transactions ≡ entryAt (s .args .table .now) (s .args .t .endpoint) .transactions = rw (c .load .ensures) refl in
-    omega (arith, e, s .pre .1 .0)
+    let h = rw (c .before .before .if1 .taken) at (s .pre .1 .0) in
+    omega (arith, e, h)
 
 store-requires : tie.Need-store-requires
 store-requires c κs = search needs

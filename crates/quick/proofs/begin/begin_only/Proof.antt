@@ -29,7 +29,7 @@ row-fits false n p m h = omega arith
 put-transaction-requires : tie.Need-put-transaction-requires
 put-transaction-requires c κs =
     let s = put-transaction-requires·Start c in
-    row-fits (s .args .row) (s .args .d .counts .transactions) (put-transaction-requires·stamp-of c .stamp-of .result .packet) _ (s .pre .1 .1 .1 .1 .0)
+    row-fits (s .args .row) (s .args .held .transactions) (put-transaction-requires·stamp-of c .stamp-of .result .packet) _ (s .pre .1 .1 .1 .1 .1 .0)
 
 returns : tie.Need-returns
 returns c =
@@ -37,8 +37,8 @@ returns c =
     let l = returns·begin-link c .begin-link .ensures in
     let p = returns·put-packet c .put-packet .ensures in
     let d = s .args .d in (
-      λ i. record { counts = s .args .counts; slot = Current; transaction = l .0 i; last = d .last; event = Idle; keepalive = d .keepalive; waiting = d .waiting; finished = d .finished },
-      (l .1 .0, (p .0, (p .1, (returns·put-transaction c .put-transaction .ensures ∙ ap (λ (x : Stamp). sets (s .args .transactions .now) (d .counts .transactions * transactionWidth) (opt (s .args .row) (transactionWords (naming (x .packet))))) (returns·stamp-of c .stamp-of .ensures), l .1 .1)))),
+      λ i. record { counts = returns·begin-counts c .begin-counts .ensures i; slot = Current; transaction = l .0 i; last = d .last; event = Idle; keepalive = d .keepalive; waiting = d .waiting; finished = d .finished },
+      (l .1 .0, (p .0, (p .1, (returns·put-transaction c .put-transaction .ensures ∙ ap (λ (x : Stamp). sets (s .args .transactions .now) (s .args .held .transactions * transactionWidth) (opt (s .args .row) (transactionWords (naming (x .packet))))) (returns·stamp-of c .stamp-of .ensures), l .1 .1)))),
     )
 
 pub begin-only-spec : {M : Type 1} → statement M
@@ -46,11 +46,12 @@ begin-only-spec =
     tie.close
     (tie.spec
     (λ c κs. tt)
-    (λ c κs. let s = put-packet-requires·Start c in (s .pre .1 .1 .0, s .pre .1 .1 .1 .0))
+    (λ c κs. let s = put-packet-requires·Start c in (s .pre .1 .1 .1 .0, s .pre .1 .1 .1 .1 .0))
     put-transaction-requires
-    (λ c κs. let s = begin-link-requires·Start c in (s .pre .0, (s .pre .1 .0, s .pre .1 .1 .1 .1 .1)))
-    (λ c. returns·put-packet c .put-packet .kept .1 .1 .1 .0)
+    (λ c κs. let s = begin-link-requires·Start c in (s .pre .0, (s .pre .1 .0, s .pre .1 .1 .1 .1 .1 .1)))
+    (λ c κs. begin-counts-requires·Start c .pre .1 .1 .0)
     (λ c. returns·put-packet c .put-packet .kept .1 .1 .1 .1 .0)
+    (λ c. returns·put-packet c .put-packet .kept .1 .1 .1 .1 .1 .0)
     (λ c. returns·put-transaction c .put-transaction .kept .1 .0)
     (λ c. returns·begin-link c .begin-link .kept .1 .1 .1 .1 .0)
     returns)

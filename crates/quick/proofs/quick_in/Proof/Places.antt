@@ -5,91 +5,103 @@ abbrev pub start-pid·Start : tie.After-start-pid → tie.Start
 start-pid·Start c = c .before .before .before .before .before .before .before .before .before .before .before .before .before .before .before .before .before .before .before
 
 abbrev pub shape-of·Start : tie.After-shape-of → tie.Start
-shape-of·Start c = c .before .before .before .before .before .before .before .before .before .before .before .before .before .before .before .before .before .before .before .before .before .before
+shape-of·Start c = c .before .before .before .before .before .before .before .before .before .before .before .before .before .before .before .before .before .before .before .before .before .before .before .before
 
 abbrev pub shape-of·known : tie.After-shape-of → tie.After-known
-shape-of·known c = c .before .before .before .before .before
+shape-of·known c = c .before .before .before .before .before .before .before
 
 abbrev pub shape-of·start-pid : tie.After-shape-of → tie.After-start-pid
-shape-of·start-pid c = c .before .before .before
+shape-of·start-pid c = c .before .before .before .before .before
 
 abbrev pub shape-of·bytes-known : tie.After-shape-of → tie.After-bytes-known
-shape-of·bytes-known c = c .before .before .before .before
+shape-of·bytes-known c = c .before .before .before .before .before .before
 
-abbrev pub begin-counts-requires·Start : tie.After-shape-of → tie.Start
-begin-counts-requires·Start c = c .before .before .before .before .before .before .before .before .before .before .before .before .before .before .before .before .before .before .before .before .before .before
+abbrev pub held-of-requires·Start : tie.After-held-of-arg → tie.Start
+held-of-requires·Start c = c .before .before .before .before .before .before .before .before .before .before .before .before .before .before .before .before .before .before .before .before .before
+
+abbrev pub begin-fits-requires·Start : tie.After-shape-of → tie.Start
+begin-fits-requires·Start c = c .before .before .before .before .before .before .before .before .before .before .before .before .before .before .before .before .before .before .before .before .before .before .before .before
+
+abbrev pub begin-fits-requires·held-of : tie.After-shape-of → tie.After-held-of
+begin-fits-requires·held-of c = c .before .before
 
 abbrev pub Then1·Start : tie.Then1 → tie.Start
-Then1·Start c = c .before .before .before .before .before .before .before .before .before .before .before .before .before .before .before .before .before .before .before .before .before .before .before .before .before .before
+Then1·Start c = c .before .before .before .before .before .before .before .before .before .before .before .before .before .before .before .before .before .before .before .before .before .before .before .before .before .before .before
 
 abbrev pub Then1·shape-of : tie.Then1 → tie.After-shape-of
-Then1·shape-of c = c .before .before .before .before
+Then1·shape-of c = c .before .before .before
 
-abbrev pub Then1·begin-counts : tie.Then1 → tie.After-begin-counts
-Then1·begin-counts c = c .before .before .before
+abbrev pub Then1·held-of : tie.Then1 → tie.After-held-of
+Then1·held-of c = c .before .before .before .before .before
 
 abbrev pub Then1·room-of : tie.Then1 → tie.After-room-of
-Then1·room-of c = c .before .before .before .before .before .before .before .before .before .before .before .before
+Then1·room-of c = c .before .before .before .before .before .before .before .before .before .before .before .before .before
 
 abbrev pub Then1·begin-fits : tie.Then1 → tie.After-begin-fits
 Then1·begin-fits c = c .before .before
 
 abbrev pub begin-only-requires·Start : tie.After-begin-only-arg5 → tie.Start
-begin-only-requires·Start c = c .before .before .before .before .before .before .before .before .before .before .before .before .before .before .before .before .before .before .before .before .before .before .before .before .before .before .before .before .before .before .before
+begin-only-requires·Start c = c .before .before .before .before .before .before .before .before .before .before .before .before .before .before .before .before .before .before .before .before .before .before .before .before .before .before .before .before .before .before .before .before
 
 abbrev pub begin-only-requires·Then1 : tie.After-begin-only-arg5 → tie.Then1
 begin-only-requires·Then1 c = c .before .before .before .before .before
 
 abbrev pub returns·Start : tie.After-slice-known15 → tie.Start
-returns·Start c = c .before .before .before .before .before .before .before .before .before .before .before .before .before .before .before .before .before .before .before .before .before .before .before .before .before .before .before .before .before .before .before .before .before .before .before .before .before .before .before .before
+returns·Start c = c .before .before .before .before .before .before .before .before .before .before .before .before .before .before .before .before .before .before .before .before .before .before .before .before .before .before .before .before .before .before .before .before .before .before .before .before .before .before .before .before .before
 
 abbrev pub returns·no-change : tie.After-slice-known15 → tie.After-no-change
-returns·no-change c = c .before .before .before .before .before .before .before .before .before .before .before .before .before .before .before .before .before .before .before .before
+returns·no-change c = c .before .before .before .before .before .before .before .before .before .before .before .before .before .before .before .before .before .before .before .before .before
 
 abbrev pub returns·begin-only : tie.After-slice-known15 → tie.After-begin-only
 returns·begin-only c = c .before .before .before .before .before .before .before .before
 
-abbrev pub returns·begin-counts : tie.After-slice-known15 → tie.After-begin-counts
-returns·begin-counts c = c .before .before .before .before .before .before .before .before .before .before .before .before .before .before .before .before .before
+abbrev pub returns·held-of : tie.After-slice-known15 → tie.After-held-of
+returns·held-of c = c .before .before .before .before .before .before .before .before .before .before .before .before .before .before .before .before .before .before .before
 
 abbrev pub returns·shape-of : tie.After-slice-known15 → tie.After-shape-of
-returns·shape-of c = c .before .before .before .before .before .before .before .before .before .before .before .before .before .before .before .before .before .before
+returns·shape-of c = c .before .before .before .before .before .before .before .before .before .before .before .before .before .before .before .before .before
 
 abbrev pub returns·Then1 : tie.After-slice-known15 → tie.Then1
 returns·Then1 c = c .before .before .before .before .before .before .before .before .before .before .before .before .before .before
 
 abbrev pub close-of-requires·Start : tie.After-end-by → tie.Start
-close-of-requires·Start c = c .before .before .before .before .before .before .before .before .before .before .before .before .before .before .before .before .before .before .before .before .before .before .before .before .before .before .before .before
+close-of-requires·Start c = c .before .before .before .before .before .before .before .before .before .before .before .before .before .before .before .before .before .before .before .before .before .before .before .before .before .before .before .before .before
+
+abbrev pub close-of-requires·held-of : tie.After-end-by → tie.After-held-of
+close-of-requires·held-of c = c .before .before .before .before .before .before .before
 
 abbrev pub Then2·Start : tie.Then2 → tie.Start
-Then2·Start c = c .before .before .before .before .before .before .before .before .before .before .before .before .before .before .before .before .before .before .before .before .before .before .before .before .before .before .before .before .before .before
+Then2·Start c = c .before .before .before .before .before .before .before .before .before .before .before .before .before .before .before .before .before .before .before .before .before .before .before .before .before .before .before .before .before .before .before
 
 abbrev pub Then2·shape-of : tie.Then2 → tie.After-shape-of
-Then2·shape-of c = c .before .before .before .before .before .before .before .before
+Then2·shape-of c = c .before .before .before .before .before .before .before
 
 abbrev pub Then2·end-by : tie.Then2 → tie.After-end-by
 Then2·end-by c = c .before .before
 
+abbrev pub Then2·held-of : tie.Then2 → tie.After-held-of
+Then2·held-of c = c .before .before .before .before .before .before .before .before .before
+
 abbrev pub Then2·room-of : tie.Then2 → tie.After-room-of
-Then2·room-of c = c .before .before .before .before .before .before .before .before .before .before .before .before .before .before .before .before
+Then2·room-of c = c .before .before .before .before .before .before .before .before .before .before .before .before .before .before .before .before .before
 
 abbrev pub Then2·close-of : tie.Then2 → tie.After-close-of
 Then2·close-of c = c .before
 
 abbrev pub close-only-requires·Start : tie.After-close-only-arg10 → tie.Start
-close-only-requires·Start c = c .before .before .before .before .before .before .before .before .before .before .before .before .before .before .before .before .before .before .before .before .before .before .before .before .before .before .before .before .before .before .before .before .before .before .before .before .before .before .before .before
+close-only-requires·Start c = c .before .before .before .before .before .before .before .before .before .before .before .before .before .before .before .before .before .before .before .before .before .before .before .before .before .before .before .before .before .before .before .before .before .before .before .before .before .before .before .before .before
 
 abbrev pub close-only-requires·Then2 : tie.After-close-only-arg10 → tie.Then2
 close-only-requires·Then2 c = c .before .before .before .before .before .before .before .before .before .before
 
 abbrev pub returns-2·Start : tie.After-slice-known24 → tie.Start
-returns-2·Start c = c .before .before .before .before .before .before .before .before .before .before .before .before .before .before .before .before .before .before .before .before .before .before .before .before .before .before .before .before .before .before .before .before .before .before .before .before .before .before .before .before .before .before .before .before .before .before .before .before .before .before .before .before .before .before .before .before .before .before .before
+returns-2·Start c = c .before .before .before .before .before .before .before .before .before .before .before .before .before .before .before .before .before .before .before .before .before .before .before .before .before .before .before .before .before .before .before .before .before .before .before .before .before .before .before .before .before .before .before .before .before .before .before .before .before .before .before .before .before .before .before .before .before .before .before .before
 
 abbrev pub returns-2·no-change : tie.After-slice-known24 → tie.After-no-change
-returns-2·no-change c = c .before .before .before .before .before .before .before .before .before .before .before .before .before .before .before .before .before .before .before .before .before .before .before .before .before .before .before .before .before .before .before .before .before .before .before .before .before .before .before
+returns-2·no-change c = c .before .before .before .before .before .before .before .before .before .before .before .before .before .before .before .before .before .before .before .before .before .before .before .before .before .before .before .before .before .before .before .before .before .before .before .before .before .before .before .before
 
 abbrev pub returns-2·shape-of : tie.After-slice-known24 → tie.After-shape-of
-returns-2·shape-of c = c .before .before .before .before .before .before .before .before .before .before .before .before .before .before .before .before .before .before .before .before .before .before .before .before .before .before .before .before .before .before .before .before .before .before .before .before .before
+returns-2·shape-of c = c .before .before .before .before .before .before .before .before .before .before .before .before .before .before .before .before .before .before .before .before .before .before .before .before .before .before .before .before .before .before .before .before .before .before .before .before
 
 abbrev pub returns-2·end-by : tie.After-slice-known24 → tie.After-end-by
 returns-2·end-by c = c .before .before .before .before .before .before .before .before .before .before .before .before .before .before .before .before .before .before .before .before .before .before .before .before .before .before .before .before .before .before .before
@@ -100,20 +112,23 @@ returns-2·Then2 c = c .before .before .before .before .before .before .before .
 abbrev pub returns-2·close-only : tie.After-slice-known24 → tie.After-close-only
 returns-2·close-only c = c .before .before .before .before .before .before .before .before .before .before .before .before .before .before .before .before .before .before
 
+abbrev pub returns-2·held-of : tie.After-slice-known24 → tie.After-held-of
+returns-2·held-of c = c .before .before .before .before .before .before .before .before .before .before .before .before .before .before .before .before .before .before .before .before .before .before .before .before .before .before .before .before .before .before .before .before .before .before .before .before .before .before
+
 abbrev pub returns-2·room-of : tie.After-slice-known24 → tie.After-room-of
-returns-2·room-of c = c .before .before .before .before .before .before .before .before .before .before .before .before .before .before .before .before .before .before .before .before .before .before .before .before .before .before .before .before .before .before .before .before .before .before .before .before .before .before .before .before .before .before .before .before .before
+returns-2·room-of c = c .before .before .before .before .before .before .before .before .before .before .before .before .before .before .before .before .before .before .before .before .before .before .before .before .before .before .before .before .before .before .before .before .before .before .before .before .before .before .before .before .before .before .before .before .before .before
 
 abbrev pub returns-2·close-of : tie.After-slice-known24 → tie.After-close-of
 returns-2·close-of c = c .before .before .before .before .before .before .before .before .before .before .before .before .before .before .before .before .before .before .before .before .before .before .before .before .before .before .before .before .before .before
 
 abbrev pub shape-of-requires·Start : tie.After-shape-of-arg → tie.Start
-shape-of-requires·Start c = c .before .before .before .before .before .before .before .before .before .before .before .before .before .before .before .before .before .before .before .before .before
+shape-of-requires·Start c = c .before .before .before .before .before .before .before .before .before .before .before .before .before .before .before .before .before .before .before .before .before .before .before
 
 abbrev pub end-by-requires·Start : tie.After-end-by-arg → tie.Start
-end-by-requires·Start c = c .before .before .before .before .before .before .before .before .before .before .before .before .before .before .before .before .before .before .before .before .before .before .before .before .before .before .before
+end-by-requires·Start c = c .before .before .before .before .before .before .before .before .before .before .before .before .before .before .before .before .before .before .before .before .before .before .before .before .before .before .before .before
 
 abbrev pub packet-in-requires·Start : tie.After-packet-in-arg12 → tie.Start
-packet-in-requires·Start c = c .before .before .before .before .before .before .before .before .before .before .before .before .before .before .before .before .before .before .before .before .before .before .before .before .before .before .before .before .before .before .before .before .before .before .before .before .before .before .before .before .before .before
+packet-in-requires·Start c = c .before .before .before .before .before .before .before .before .before .before .before .before .before .before .before .before .before .before .before .before .before .before .before .before .before .before .before .before .before .before .before .before .before .before .before .before .before .before .before .before .before .before .before
 
 abbrev pub returns-3·packet-in : tie.After-slice-known35 → tie.After-packet-in
 returns-3·packet-in c = c .before .before .before .before .before .before .before .before .before .before .before .before .before .before .before .before .before .before .before .before .before .before

@@ -10,6 +10,9 @@ use Places.*
 add-end : tie.Need-add-end
 add-end c = search needs
 
+add-start-byte : tie.Need-add-start-byte
+add-start-byte c = let s = add-start-byte·Start c in record { fits = omega (arith, s .pre .1 .1 .1 .1 .statebytes) }
+
 add-endpoint-state-requires : tie.Need-add-endpoint-state-requires
 add-endpoint-state-requires c κs = search needs
 
@@ -17,7 +20,7 @@ put1-requires : tie.Need-put1-requires
 put1-requires c κs = search needs
 
 mul-put3 : tie.Need-mul-put3
-mul-put3 c = search needs
+mul-put3 c = let s = mul-put3·Start c in record { fits = omega (arith, s .pre .1 .0, s .fits) }
 
 flag-word-requires : tie.Need-flag-word-requires
 flag-word-requires c κs = search needs
@@ -26,10 +29,10 @@ put3-requires : tie.Need-put3-requires
 put3-requires c κs = search needs
 
 add-d : tie.Need-add-d
-add-d c = search needs
+add-d c = let s = add-d·Start c in record { fits = omega (arith, s .pre .1 .0, s .fits) }
 
 add-d-2 : tie.Need-add-d-2
-add-d-2 c = let s = add-d-2·Start c in record { fits = omega (arith, s .pre .1 .1 .1, s .fits) }
+add-d-2 c = let s = add-d-2·Start c in record { fits = omega (arith, s .pre .1 .1 .1 .0, s .fits) }
 
 same-length : tie.Need-same-length
 same-length c = search needs
@@ -48,6 +51,7 @@ group-row-spec =
     tie.close
     (tie.spec
     add-end
+    add-start-byte
     add-endpoint-state-requires
     put1-requires
     mul-put3

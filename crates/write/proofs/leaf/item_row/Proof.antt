@@ -1,5 +1,6 @@
 -- `write::leaf::item_row` meets its contract: what the writers ensure, the E rows being those of the table before it is cleared.
 use Rattle.endpoints.specs.PhasesLaws.{length-closing}
+use Prim.Native.Nat.{_+_}
 use native.Mathlib.Omega.{arith}
 use mathlib.Core.Path.{_≡_, refl, _∙_}
 use borrow.Author.Needs.{needs}
@@ -7,6 +8,12 @@ use Rattle.write.proofs.leaf.item_row.Statement.{statement}
 use Rattle.write.proofs.leaf.item_row.Tie as tie
 mod Places
 use Places.*
+
+add-group : tie.Need-add-group
+add-group c = let s = add-group·Start c in record { fits = omega (arith, s .pre .1 .1 .1 .groups) }
+
+add-item : tie.Need-add-item
+add-item c = let s = add-item·Start c in record { fits = omega (arith, s .pre .1 .1 .1 .items) }
 
 count-waiting-requires : tie.Need-count-waiting-requires
 count-waiting-requires c κs = search needs
@@ -18,16 +25,16 @@ put1-requires : tie.Need-put1-requires
 put1-requires c κs = search needs
 
 close-waiting-requires : tie.Need-close-waiting-requires
-close-waiting-requires c κs = (close-waiting-requires·Start c .pre .0, omega (arith, length-closing (close-waiting-requires·Start c .args .table .now) (close-waiting-requires·Start c .args .d .items) 0 (close-waiting-requires·Start c .args .n), close-waiting-requires·Start c .pre .1 .1))
+close-waiting-requires c κs = (close-waiting-requires·Start c .pre .0, omega (arith, length-closing (close-waiting-requires·Start c .args .table .now) (close-waiting-requires·Start c .args .d .firsts .items + close-waiting-requires·Start c .args .d .items) 0 (close-waiting-requires·Start c .args .n), close-waiting-requires·Start c .pre .1 .1 .0))
 
 clear-waiting-requires : tie.Need-clear-waiting-requires
 clear-waiting-requires c κs = search needs
 
 add-d : tie.Need-add-d
-add-d c = search needs
+add-d c = let s = add-d·Start c in record { fits = omega (arith, s .pre .1 .0, s .fits) }
 
 add-d-2 : tie.Need-add-d-2
-add-d-2 c = search needs
+add-d-2 c = let s = add-d-2·Start c in record { fits = omega (arith, s .pre .1 .1 .0, s .fits, add-d-2·count-waiting c .count-waiting .ensures) }
 
 same-length : tie.Need-same-length
 same-length c = search needs
@@ -42,6 +49,8 @@ pub item-row-spec : {M : Type 1} → statement M
 item-row-spec =
     tie.close
     (tie.spec
+    add-group
+    add-item
     count-waiting-requires
     last-requires
     put1-requires

@@ -3,7 +3,7 @@ use mathlib.Core.Bool.{true}
 use mathlib.Core.Path.{_≡_, _∙_}
 use borrow.Author.Needs.{needs}
 use Rattle.write.specs.Memory.{Memory, Room, memory, startGroup}
-use Rattle.write.proofs.Parts.{room-groups, room-states, room-statebytes, room-link, room-item, start-is}
+use Rattle.write.proofs.Parts.{room-groups, room-states, room-statebytes, room-numbers, room-link, room-item, start-is}
 use Rattle.write.proofs.steps.start_if.Statement.{statement}
 use Rattle.write.proofs.steps.start_if.Tie as tie
 mod Places
@@ -26,7 +26,7 @@ group-row-requires : tie.Need-group-row-requires
 group-row-requires c κs =
     let s = c .before .before .before .before .before .before .before .before .before .before .before .before .before .before .before .before .before .before in
     let r = room s (c .before .before .before .before .before .before .before .before .before .before .before .before .if1 .taken) in
-    rw (c .before .before .before .before .before .before .before .before .before .before .link-row .ensures .0) (s .pre .0, (room-groups (s .args .n) (s .args .x) (lent s) r, (room-statebytes (s .args .n) (s .args .x) (lent s) r, room-states (s .args .n) (s .args .x) (lent s) r)))
+    rw (c .before .before .before .before .before .before .before .before .before .before .link-row .ensures .0) (s .pre .0, (room-groups (s .args .n) (s .args .x) (lent s) r, (room-statebytes (s .args .n) (s .args .x) (lent s) r, (room-states (s .args .n) (s .args .x) (lent s) r, room-numbers (s .args .n) (s .args .x) (lent s) r))))
 
 item-row-requires : tie.Need-item-row-requires
 item-row-requires c κs =

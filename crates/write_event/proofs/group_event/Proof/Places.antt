@@ -7,6 +7,12 @@ link-row-requires·Start c = c .before .before .before .before .before .before .
 abbrev pub link-row-requires·Then1 : tie.After-link-row-arg → tie.Then1
 link-row-requires·Then1 c = c .before .before .before .before
 
+abbrev pub more-groups-requires·Start : tie.After-more-groups-arg → tie.Start
+more-groups-requires·Start c = c .before .before .before .before .before .before .before .before .before .before .before .before .before .before
+
+abbrev pub more-groups-requires·Then1 : tie.After-more-groups-arg → tie.Then1
+more-groups-requires·Then1 c = c .before .before .before .before .before .before .before .before
+
 abbrev pub returns·group-row : tie.After-slice-known11 → tie.After-group-row
 returns·group-row c = c .before .before .before .before .before .before .before .before .before .before .before .before .before .before
 

@@ -2,82 +2,100 @@
 use Rattle.events.proofs.inner.finish_in.Tie as tie
 
 abbrev pub plan-ending-requires·Start : tie.After-plan-ending-arg → tie.Start
-plan-ending-requires·Start c = c .before .before .before .before .before .before .before .before .before .before .before .before .before .before .before .before .before .before
+plan-ending-requires·Start c = c .before .before .before .before .before .before .before .before .before .before .before .before .before .before .before .before .before .before .before .before
 
 abbrev pub sum-finish-requires·Start : tie.After-plan-ending → tie.Start
-sum-finish-requires·Start c = c .before .before .before .before .before .before .before .before .before .before .before .before .before .before .before .before .before .before .before
+sum-finish-requires·Start c = c .before .before .before .before .before .before .before .before .before .before .before .before .before .before .before .before .before .before .before .before .before
+
+abbrev pub sum-finish-requires·held-of : tie.After-plan-ending → tie.After-held-of
+sum-finish-requires·held-of c = c .before .before
+
+abbrev pub held-of-requires·Start : tie.After-held-of-arg → tie.Start
+held-of-requires·Start c = c .before .before .before .before .before .before .before .before .before .before .before .before .before .before .before .before .before .before
 
 abbrev pub returns·Start : tie.Then1 → tie.Start
-returns·Start c = c .before .before .before .before .before .before .before .before .before .before .before .before .before .before .before .before .before .before .before .before .before .before
+returns·Start c = c .before .before .before .before .before .before .before .before .before .before .before .before .before .before .before .before .before .before .before .before .before .before .before .before
 
 abbrev pub returns·plan-ending : tie.Then1 → tie.After-plan-ending
 returns·plan-ending c = c .before .before .before
 
 abbrev pub returns·room-of : tie.Then1 → tie.After-room-of
-returns·room-of c = c .before .before .before .before .before .before .before .before .before
+returns·room-of c = c .before .before .before .before .before .before .before .before .before .before .before
+
+abbrev pub returns·held-of : tie.Then1 → tie.After-held-of
+returns·held-of c = c .before .before .before .before .before
 
 abbrev pub returns·sum-finish : tie.Then1 → tie.After-sum-finish
 returns·sum-finish c = c .before .before
 
 abbrev pub returns·known : tie.Then1 → tie.After-known
-returns·known c = c .before .before .before .before .before .before .before
+returns·known c = c .before .before .before .before .before .before .before .before .before
 
 abbrev pub start-pid·Start : tie.After-start-pid → tie.Start
-start-pid·Start c = c .before .before .before .before .before .before .before .before .before .before .before .before .before .before .before .before .before .before .before .before .before .before .before
+start-pid·Start c = c .before .before .before .before .before .before .before .before .before .before .before .before .before .before .before .before .before .before .before .before .before .before .before .before .before
 
 abbrev pub written-of·Start : tie.After-written-of → tie.Start
-written-of·Start c = c .before .before .before .before .before .before .before .before .before .before .before .before .before .before .before .before .before .before .before .before .before .before .before .before .before
+written-of·Start c = c .before .before .before .before .before .before .before .before .before .before .before .before .before .before .before .before .before .before .before .before .before .before .before .before .before .before .before .before
 
 abbrev pub written-of·no-stamp : tie.After-written-of → tie.After-no-stamp
-written-of·no-stamp c = c .before
+written-of·no-stamp c = c .before .before
+
+abbrev pub written-of·held-of : tie.After-written-of → tie.After-held-of
+written-of·held-of c = c .before .before .before .before .before .before .before .before .before
 
 abbrev pub end-here-requires·Start : tie.After-end-here-arg6 → tie.Start
-end-here-requires·Start c = c .before .before .before .before .before .before .before .before .before .before .before .before .before .before .before .before .before .before .before .before .before .before .before .before .before .before .before .before .before .before .before
+end-here-requires·Start c = c .before .before .before .before .before .before .before .before .before .before .before .before .before .before .before .before .before .before .before .before .before .before .before .before .before .before .before .before .before .before .before .before .before .before
 
 abbrev pub end-here-requires·start-pid : tie.After-end-here-arg6 → tie.After-start-pid
-end-here-requires·start-pid c = c .before .before .before .before .before .before .before .before
+end-here-requires·start-pid c = c .before .before .before .before .before .before .before .before .before
 
 abbrev pub end-here-requires·plan-ending : tie.After-end-here-arg6 → tie.After-plan-ending
-end-here-requires·plan-ending c = c .before .before .before .before .before .before .before .before .before .before .before .before
+end-here-requires·plan-ending c = c .before .before .before .before .before .before .before .before .before .before .before .before .before
 
 abbrev pub end-here-requires·room-of : tie.After-end-here-arg6 → tie.After-room-of
-end-here-requires·room-of c = c .before .before .before .before .before .before .before .before .before .before .before .before .before .before .before .before .before .before
+end-here-requires·room-of c = c .before .before .before .before .before .before .before .before .before .before .before .before .before .before .before .before .before .before .before .before .before
+
+abbrev pub end-here-requires·held-of : tie.After-end-here-arg6 → tie.After-held-of
+end-here-requires·held-of c = c .before .before .before .before .before .before .before .before .before .before .before .before .before .before .before
 
 abbrev pub end-here-requires·sum-finish : tie.After-end-here-arg6 → tie.After-sum-finish
-end-here-requires·sum-finish c = c .before .before .before .before .before .before .before .before .before .before .before
+end-here-requires·sum-finish c = c .before .before .before .before .before .before .before .before .before .before .before .before
 
 abbrev pub end-here-requires·written-of : tie.After-end-here-arg6 → tie.After-written-of
 end-here-requires·written-of c = c .before .before .before .before .before .before
 
 abbrev pub end-here-requires·known : tie.After-end-here-arg6 → tie.After-known
-end-here-requires·known c = c .before .before .before .before .before .before .before .before .before .before .before .before .before .before .before .before
+end-here-requires·known c = c .before .before .before .before .before .before .before .before .before .before .before .before .before .before .before .before .before .before .before
 
 abbrev pub end-here-requires·Else1 : tie.After-end-here-arg6 → tie.Else1
-end-here-requires·Else1 c = c .before .before .before .before .before .before .before .before .before
+end-here-requires·Else1 c = c .before .before .before .before .before .before .before .before .before .before
 
 abbrev pub returns-2·end-here : tie.After-finished-decoder → tie.After-end-here
 returns-2·end-here c = c .before .before .before .before .before .before .before .before .before .before .before
 
 abbrev pub returns-2·Start : tie.After-finished-decoder → tie.Start
-returns-2·Start c = c .before .before .before .before .before .before .before .before .before .before .before .before .before .before .before .before .before .before .before .before .before .before .before .before .before .before .before .before .before .before .before .before .before .before .before .before .before .before .before .before .before .before .before
+returns-2·Start c = c .before .before .before .before .before .before .before .before .before .before .before .before .before .before .before .before .before .before .before .before .before .before .before .before .before .before .before .before .before .before .before .before .before .before .before .before .before .before .before .before .before .before .before .before .before .before
 
 abbrev pub returns-2·start-pid : tie.After-finished-decoder → tie.After-start-pid
-returns-2·start-pid c = c .before .before .before .before .before .before .before .before .before .before .before .before .before .before .before .before .before .before .before .before
+returns-2·start-pid c = c .before .before .before .before .before .before .before .before .before .before .before .before .before .before .before .before .before .before .before .before .before
 
 abbrev pub returns-2·plan-ending : tie.After-finished-decoder → tie.After-plan-ending
-returns-2·plan-ending c = c .before .before .before .before .before .before .before .before .before .before .before .before .before .before .before .before .before .before .before .before .before .before .before .before
+returns-2·plan-ending c = c .before .before .before .before .before .before .before .before .before .before .before .before .before .before .before .before .before .before .before .before .before .before .before .before .before
 
 abbrev pub returns-2·room-of : tie.After-finished-decoder → tie.After-room-of
-returns-2·room-of c = c .before .before .before .before .before .before .before .before .before .before .before .before .before .before .before .before .before .before .before .before .before .before .before .before .before .before .before .before .before .before
+returns-2·room-of c = c .before .before .before .before .before .before .before .before .before .before .before .before .before .before .before .before .before .before .before .before .before .before .before .before .before .before .before .before .before .before .before .before .before
+
+abbrev pub returns-2·held-of : tie.After-finished-decoder → tie.After-held-of
+returns-2·held-of c = c .before .before .before .before .before .before .before .before .before .before .before .before .before .before .before .before .before .before .before .before .before .before .before .before .before .before .before
 
 abbrev pub returns-2·sum-finish : tie.After-finished-decoder → tie.After-sum-finish
-returns-2·sum-finish c = c .before .before .before .before .before .before .before .before .before .before .before .before .before .before .before .before .before .before .before .before .before .before .before
+returns-2·sum-finish c = c .before .before .before .before .before .before .before .before .before .before .before .before .before .before .before .before .before .before .before .before .before .before .before .before
 
 abbrev pub returns-2·known : tie.After-finished-decoder → tie.After-known
-returns-2·known c = c .before .before .before .before .before .before .before .before .before .before .before .before .before .before .before .before .before .before .before .before .before .before .before .before .before .before .before .before
+returns-2·known c = c .before .before .before .before .before .before .before .before .before .before .before .before .before .before .before .before .before .before .before .before .before .before .before .before .before .before .before .before .before .before .before
 
 abbrev pub returns-2·Else1 : tie.After-finished-decoder → tie.Else1
-returns-2·Else1 c = c .before .before .before .before .before .before .before .before .before .before .before .before .before .before .before .before .before .before .before .before .before
+returns-2·Else1 c = c .before .before .before .before .before .before .before .before .before .before .before .before .before .before .before .before .before .before .before .before .before .before
 
 abbrev pub returns-2·written-of : tie.After-finished-decoder → tie.After-written-of
 returns-2·written-of c = c .before .before .before .before .before .before .before .before .before .before .before .before .before .before .before .before .before .before

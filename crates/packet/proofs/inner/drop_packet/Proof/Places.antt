@@ -11,7 +11,7 @@ abbrev pub returns-2·put-packet : tie.After-dropped-decoder → tie.After-put-p
 returns-2·put-packet c = c .before .before .before .before .before
 
 abbrev pub put-packet·Else1 : tie.After-put-packet → tie.Else1
-put-packet·Else1 c = c .before .before .before
+put-packet·Else1 c = c .before .before .before .before
 
 abbrev pub Else1·sum-dropped : tie.Else1 → tie.After-sum-dropped
 Else1·sum-dropped c = c .before .before

@@ -5,19 +5,22 @@ abbrev pub start-pid·Start : tie.After-start-pid → tie.Start
 start-pid·Start c = c .before .before .before .before .before .before .before .before .before .before .before .before .before .before .before .before .before .before .before .before
 
 abbrev pub sum-plan·Start : tie.After-sum-plan → tie.Start
-sum-plan·Start c = c .before .before .before .before .before .before .before .before .before .before .before .before .before .before .before .before .before .before .before .before .before .before .before .before .before .before
+sum-plan·Start c = c .before .before .before .before .before .before .before .before .before .before .before .before .before .before .before .before .before .before .before .before .before .before .before .before .before .before .before .before
 
 abbrev pub sum-plan·bytes-known : tie.After-sum-plan → tie.After-bytes-known
-sum-plan·bytes-known c = c .before .before .before .before .before .before .before
+sum-plan·bytes-known c = c .before .before .before .before .before .before .before .before .before
 
 abbrev pub sum-plan·plan-near : tie.After-sum-plan → tie.After-plan-near
 sum-plan·plan-near c = c .before
 
+abbrev pub sum-plan·held-of : tie.After-sum-plan → tie.After-held-of
+sum-plan·held-of c = c .before .before .before .before .before
+
 abbrev pub sum-plan·room-of : tie.After-sum-plan → tie.After-room-of
-sum-plan·room-of c = c .before .before .before .before .before .before .before .before .before .before .before .before
+sum-plan·room-of c = c .before .before .before .before .before .before .before .before .before .before .before .before .before .before
 
 abbrev pub sum-plan·known : tie.After-sum-plan → tie.After-known
-sum-plan·known c = c .before .before .before .before .before .before .before .before
+sum-plan·known c = c .before .before .before .before .before .before .before .before .before .before
 
 abbrev pub sum-plan·is-dropped : tie.After-sum-plan → tie.After-is-dropped
 sum-plan·is-dropped c = c .before .before .before .before
@@ -26,19 +29,25 @@ abbrev pub sum-plan·Else1 : tie.After-sum-plan → tie.Else1
 sum-plan·Else1 c = c .before .before .before
 
 abbrev pub sum-plan·start-pid : tie.After-sum-plan → tie.After-start-pid
-sum-plan·start-pid c = c .before .before .before .before .before .before
+sum-plan·start-pid c = c .before .before .before .before .before .before .before .before
+
+abbrev pub held-of-requires·Start : tie.After-held-of-arg → tie.Start
+held-of-requires·Start c = c .before .before .before .before .before .before .before .before .before .before .before .before .before .before .before .before .before .before .before .before .before .before
 
 abbrev pub drop-packet-requires·Start : tie.After-drop-packet-arg2 → tie.Start
-drop-packet-requires·Start c = c .before .before .before .before .before .before .before .before .before .before .before .before .before .before .before .before .before .before .before .before .before .before .before .before .before
+drop-packet-requires·Start c = c .before .before .before .before .before .before .before .before .before .before .before .before .before .before .before .before .before .before .before .before .before .before .before .before .before .before .before
 
 abbrev pub drop-packet-requires·room-of : tie.After-drop-packet-arg2 → tie.After-room-of
-drop-packet-requires·room-of c = c .before .before .before .before .before .before .before .before .before .before .before
+drop-packet-requires·room-of c = c .before .before .before .before .before .before .before .before .before .before .before .before .before
+
+abbrev pub drop-packet-requires·held-of : tie.After-drop-packet-arg2 → tie.After-held-of
+drop-packet-requires·held-of c = c .before .before .before .before
 
 abbrev pub returns·Start : tie.After-slice-known13 → tie.Start
-returns·Start c = c .before .before .before .before .before .before .before .before .before .before .before .before .before .before .before .before .before .before .before .before .before .before .before .before .before .before .before .before .before .before
+returns·Start c = c .before .before .before .before .before .before .before .before .before .before .before .before .before .before .before .before .before .before .before .before .before .before .before .before .before .before .before .before .before .before .before .before
 
 abbrev pub returns·known : tie.After-slice-known13 → tie.After-known
-returns·known c = c .before .before .before .before .before .before .before .before .before .before .before .before
+returns·known c = c .before .before .before .before .before .before .before .before .before .before .before .before .before .before
 
 abbrev pub returns·is-dropped : tie.After-slice-known13 → tie.After-is-dropped
 returns·is-dropped c = c .before .before .before .before .before .before .before .before
@@ -47,37 +56,43 @@ abbrev pub returns·Then1 : tie.After-slice-known13 → tie.Then1
 returns·Then1 c = c .before .before .before .before .before .before .before
 
 abbrev pub returns·no-change : tie.After-slice-known13 → tie.After-no-change
-returns·no-change c = c .before .before .before .before .before .before .before .before .before
+returns·no-change c = c .before .before .before .before .before .before .before .before .before .before .before
+
+abbrev pub returns·held-of : tie.After-slice-known13 → tie.After-held-of
+returns·held-of c = c .before .before .before .before .before .before .before .before .before
 
 abbrev pub returns·room-of : tie.After-slice-known13 → tie.After-room-of
-returns·room-of c = c .before .before .before .before .before .before .before .before .before .before .before .before .before .before .before .before
+returns·room-of c = c .before .before .before .before .before .before .before .before .before .before .before .before .before .before .before .before .before .before
 
 abbrev pub returns·drop-packet : tie.After-slice-known13 → tie.After-drop-packet
 returns·drop-packet c = c .before .before .before .before
 
 abbrev pub plan-near-requires·Start : tie.After-plan-near-arg → tie.Start
-plan-near-requires·Start c = c .before .before .before .before .before .before .before .before .before .before .before .before .before .before .before .before .before .before .before .before .before .before .before .before
+plan-near-requires·Start c = c .before .before .before .before .before .before .before .before .before .before .before .before .before .before .before .before .before .before .before .before .before .before .before .before .before .before
 
 abbrev pub sum-plan-requires·Start : tie.After-plan-near → tie.Start
-sum-plan-requires·Start c = c .before .before .before .before .before .before .before .before .before .before .before .before .before .before .before .before .before .before .before .before .before .before .before .before .before
+sum-plan-requires·Start c = c .before .before .before .before .before .before .before .before .before .before .before .before .before .before .before .before .before .before .before .before .before .before .before .before .before .before .before
+
+abbrev pub sum-plan-requires·held-of : tie.After-plan-near → tie.After-held-of
+sum-plan-requires·held-of c = c .before .before .before .before
 
 abbrev pub returns-2·Start : tie.Then2 → tie.Start
-returns-2·Start c = c .before .before .before .before .before .before .before .before .before .before .before .before .before .before .before .before .before .before .before .before .before .before .before .before .before .before .before .before
+returns-2·Start c = c .before .before .before .before .before .before .before .before .before .before .before .before .before .before .before .before .before .before .before .before .before .before .before .before .before .before .before .before .before .before
 
 abbrev pub returns-2·sum-plan : tie.Then2 → tie.After-sum-plan
 returns-2·sum-plan c = c .before .before
 
 abbrev pub returns-2·no-change : tie.Then2 → tie.After-no-change
-returns-2·no-change c = c .before .before .before .before .before .before .before
+returns-2·no-change c = c .before .before .before .before .before .before .before .before .before
 
 abbrev pub change-of-requires·Start : tie.Else2 → tie.Start
-change-of-requires·Start c = c .before .before .before .before .before .before .before .before .before .before .before .before .before .before .before .before .before .before .before .before .before .before .before .before .before .before .before .before
+change-of-requires·Start c = c .before .before .before .before .before .before .before .before .before .before .before .before .before .before .before .before .before .before .before .before .before .before .before .before .before .before .before .before .before .before
 
 abbrev pub change-of-requires·sum-plan : tie.Else2 → tie.After-sum-plan
 change-of-requires·sum-plan c = c .before .before
 
 abbrev pub put-packet-requires·Start : tie.After-put-packet-arg2 → tie.Start
-put-packet-requires·Start c = c .before .before .before .before .before .before .before .before .before .before .before .before .before .before .before .before .before .before .before .before .before .before .before .before .before .before .before .before .before .before .before
+put-packet-requires·Start c = c .before .before .before .before .before .before .before .before .before .before .before .before .before .before .before .before .before .before .before .before .before .before .before .before .before .before .before .before .before .before .before .before .before
 
 abbrev pub put-packet-requires·sum-plan : tie.After-put-packet-arg2 → tie.After-sum-plan
 put-packet-requires·sum-plan c = c .before .before .before .before .before
@@ -86,28 +101,28 @@ abbrev pub put-packet-requires·Else2 : tie.After-put-packet-arg2 → tie.Else2
 put-packet-requires·Else2 c = c .before .before .before
 
 abbrev pub perform-requires·Start : tie.After-perform-arg10 → tie.Start
-perform-requires·Start c = c .before .before .before .before .before .before .before .before .before .before .before .before .before .before .before .before .before .before .before .before .before .before .before .before .before .before .before .before .before .before .before .before .before .before .before .before .before .before .before .before .before .before .before .before .before .before .before
+perform-requires·Start c = c .before .before .before .before .before .before .before .before .before .before .before .before .before .before .before .before .before .before .before .before .before .before .before .before .before .before .before .before .before .before .before .before .before .before .before .before .before .before .before .before .before .before .before .before .before .before .before .before .before .before
 
 abbrev pub perform-requires·sum-plan : tie.After-perform-arg10 → tie.After-sum-plan
-perform-requires·sum-plan c = c .before .before .before .before .before .before .before .before .before .before .before .before .before .before .before .before .before .before .before .before .before
+perform-requires·sum-plan c = c .before .before .before .before .before .before .before .before .before .before .before .before .before .before .before .before .before .before .before .before .before .before
 
 abbrev pub perform-requires·Else2 : tie.After-perform-arg10 → tie.Else2
-perform-requires·Else2 c = c .before .before .before .before .before .before .before .before .before .before .before .before .before .before .before .before .before .before .before
+perform-requires·Else2 c = c .before .before .before .before .before .before .before .before .before .before .before .before .before .before .before .before .before .before .before .before
 
 abbrev pub perform-requires·hand-of : tie.After-perform-arg10 → tie.After-hand-of
 perform-requires·hand-of c = c .before .before .before .before .before .before .before .before .before .before
 
 abbrev pub returns-3·Start : tie.After-decoder-by → tie.Start
-returns-3·Start c = c .before .before .before .before .before .before .before .before .before .before .before .before .before .before .before .before .before .before .before .before .before .before .before .before .before .before .before .before .before .before .before .before .before .before .before .before .before .before .before .before .before .before .before .before .before .before .before .before .before .before .before .before .before .before .before .before .before .before .before .before .before .before .before .before .before .before .before
+returns-3·Start c = c .before .before .before .before .before .before .before .before .before .before .before .before .before .before .before .before .before .before .before .before .before .before .before .before .before .before .before .before .before .before .before .before .before .before .before .before .before .before .before .before .before .before .before .before .before .before .before .before .before .before .before .before .before .before .before .before .before .before .before .before .before .before .before .before .before .before .before .before .before .before
 
 abbrev pub returns-3·sum-plan : tie.After-decoder-by → tie.After-sum-plan
-returns-3·sum-plan c = c .before .before .before .before .before .before .before .before .before .before .before .before .before .before .before .before .before .before .before .before .before .before .before .before .before .before .before .before .before .before .before .before .before .before .before .before .before .before .before .before .before
+returns-3·sum-plan c = c .before .before .before .before .before .before .before .before .before .before .before .before .before .before .before .before .before .before .before .before .before .before .before .before .before .before .before .before .before .before .before .before .before .before .before .before .before .before .before .before .before .before
 
 abbrev pub returns-3·Else2 : tie.After-decoder-by → tie.Else2
-returns-3·Else2 c = c .before .before .before .before .before .before .before .before .before .before .before .before .before .before .before .before .before .before .before .before .before .before .before .before .before .before .before .before .before .before .before .before .before .before .before .before .before .before .before
+returns-3·Else2 c = c .before .before .before .before .before .before .before .before .before .before .before .before .before .before .before .before .before .before .before .before .before .before .before .before .before .before .before .before .before .before .before .before .before .before .before .before .before .before .before .before
 
 abbrev pub returns-3·change-of : tie.After-decoder-by → tie.After-change-of
-returns-3·change-of c = c .before .before .before .before .before .before .before .before .before .before .before .before .before .before .before .before .before .before .before .before .before .before .before .before .before .before .before .before .before .before .before .before .before .before .before .before .before .before
+returns-3·change-of c = c .before .before .before .before .before .before .before .before .before .before .before .before .before .before .before .before .before .before .before .before .before .before .before .before .before .before .before .before .before .before .before .before .before .before .before .before .before .before .before
 
 abbrev pub returns-3·hand-of : tie.After-decoder-by → tie.After-hand-of
 returns-3·hand-of c = c .before .before .before .before .before .before .before .before .before .before .before .before .before .before .before .before .before .before .before .before .before .before .before .before .before .before .before .before .before .before
@@ -116,4 +131,4 @@ abbrev pub returns-3·perform : tie.After-decoder-by → tie.After-perform
 returns-3·perform c = c .before .before .before .before .before .before .before .before .before .before .before .before .before .before .before .before .before .before .before
 
 abbrev pub returns-3·put-packet : tie.After-decoder-by → tie.After-put-packet
-returns-3·put-packet c = c .before .before .before .before .before .before .before .before .before .before .before .before .before .before .before .before .before .before .before .before .before .before .before .before .before .before .before .before .before .before .before .before .before .before .before
+returns-3·put-packet c = c .before .before .before .before .before .before .before .before .before .before .before .before .before .before .before .before .before .before .before .before .before .before .before .before .before .before .before .before .before .before .before .before .before .before .before .before

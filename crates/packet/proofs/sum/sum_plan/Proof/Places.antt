@@ -4,5 +4,23 @@ use Rattle.packet.proofs.sum.sum_plan.Tie as tie
 abbrev pub Else1·Start : tie.Else1 → tie.Start
 Else1·Start c = c .before .before .before .before
 
+abbrev pub tally-plan·Start : tie.After-tally-plan → tie.Start
+tally-plan·Start c = c .before .before .before .before .before
+
+abbrev pub has-room-for·Start : tie.After-has-room-for → tie.Start
+has-room-for·Start c = c .before .before .before .before .before .before
+
 abbrev pub tally-plan-requires·Start : tie.Else1 → tie.Start
 tally-plan-requires·Start c = c .before .before .before .before
+
+abbrev pub has-room-for-requires·Start : tie.After-tally-plan → tie.Start
+has-room-for-requires·Start c = c .before .before .before .before .before
+
+abbrev pub add-counts-requires·has-room-for : tie.Else3 → tie.After-has-room-for
+add-counts-requires·has-room-for c = c .before .before .before
+
+abbrev pub add-counts-requires·Start : tie.Else3 → tie.Start
+add-counts-requires·Start c = c .before .before .before .before .before .before .before .before .before
+
+abbrev pub add-counts-requires·Then2 : tie.Else3 → tie.Then2
+add-counts-requires·Then2 c = c .before .before

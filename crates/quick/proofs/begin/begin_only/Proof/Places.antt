@@ -7,23 +7,29 @@ put-transaction-requires·Start c = c .before .before .before .before .before .b
 abbrev pub put-transaction-requires·stamp-of : tie.After-put-transaction-arg → tie.After-stamp-of
 put-transaction-requires·stamp-of c = c .before .before .before .before .before .before .before .before
 
-abbrev pub returns·Start : tie.After-slice-known8 → tie.Start
-returns·Start c = c .before .before .before .before .before .before .before .before .before .before .before .before .before .before .before .before .before .before .before .before .before .before .before
+abbrev pub returns·Start : tie.After-begin-counts → tie.Start
+returns·Start c = c .before .before .before .before .before .before .before .before .before .before .before .before .before .before .before .before .before .before .before .before .before .before .before .before
 
-abbrev pub returns·begin-link : tie.After-slice-known8 → tie.After-begin-link
-returns·begin-link c = c .before .before
+abbrev pub returns·begin-link : tie.After-begin-counts → tie.After-begin-link
+returns·begin-link c = c .before .before .before
 
-abbrev pub returns·put-packet : tie.After-slice-known8 → tie.After-put-packet
-returns·put-packet c = c .before .before .before .before .before .before .before .before .before .before .before .before .before
+abbrev pub returns·put-packet : tie.After-begin-counts → tie.After-put-packet
+returns·put-packet c = c .before .before .before .before .before .before .before .before .before .before .before .before .before .before
 
-abbrev pub returns·put-transaction : tie.After-slice-known8 → tie.After-put-transaction
-returns·put-transaction c = c .before .before .before .before .before .before .before
+abbrev pub returns·begin-counts : tie.After-begin-counts → tie.After-begin-counts
+returns·begin-counts c = c
 
-abbrev pub returns·stamp-of : tie.After-slice-known8 → tie.After-stamp-of
-returns·stamp-of c = c .before .before .before .before .before .before .before .before .before .before .before .before .before .before .before .before
+abbrev pub returns·put-transaction : tie.After-begin-counts → tie.After-put-transaction
+returns·put-transaction c = c .before .before .before .before .before .before .before .before
+
+abbrev pub returns·stamp-of : tie.After-begin-counts → tie.After-stamp-of
+returns·stamp-of c = c .before .before .before .before .before .before .before .before .before .before .before .before .before .before .before .before .before
 
 abbrev pub put-packet-requires·Start : tie.After-put-packet-arg2 → tie.Start
 put-packet-requires·Start c = c .before .before .before .before .before .before .before .before .before
 
 abbrev pub begin-link-requires·Start : tie.After-begin-link-arg2 → tie.Start
 begin-link-requires·Start c = c .before .before .before .before .before .before .before .before .before .before .before .before .before .before .before .before .before .before .before .before
+
+abbrev pub begin-counts-requires·Start : tie.After-slice-known8 → tie.Start
+begin-counts-requires·Start c = c .before .before .before .before .before .before .before .before .before .before .before .before .before .before .before .before .before .before .before .before .before .before .before

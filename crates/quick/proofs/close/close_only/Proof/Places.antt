@@ -2,31 +2,31 @@
 use Rattle.quick.proofs.close.close_only.Tie as tie
 
 abbrev pub end-if-requires·Start : tie.After-end-if-arg8 → tie.Start
-end-if-requires·Start c = c .before .before .before .before .before .before .before .before .before .before .before .before .before .before .before .before .before .before .before .before .before .before .before .before .before .before .before .before
+end-if-requires·Start c = c .before .before .before .before .before .before .before .before .before .before .before .before .before .before .before .before .before .before .before .before .before .before .before .before .before .before .before .before .before .before
 
 abbrev pub end-if-requires·holding : tie.After-end-if-arg8 → tie.After-holding
-end-if-requires·holding c = c .before .before .before .before .before .before .before .before .before
+end-if-requires·holding c = c .before .before .before .before .before .before .before .before .before .before
 
 abbrev pub end-if-requires·hand-of : tie.After-end-if-arg8 → tie.After-hand-of
 end-if-requires·hand-of c = c .before .before .before .before .before .before .before .before
 
 abbrev pub end-if-requires·start-pid : tie.After-end-if-arg8 → tie.After-start-pid
-end-if-requires·start-pid c = c .before .before .before .before .before .before .before .before .before .before
+end-if-requires·start-pid c = c .before .before .before .before .before .before .before .before .before .before .before
 
 abbrev pub returns·Start : tie.After-closed-decoder → tie.Start
-returns·Start c = c .before .before .before .before .before .before .before .before .before .before .before .before .before .before .before .before .before .before .before .before .before .before .before .before .before .before .before .before .before .before .before .before .before .before .before .before .before .before .before .before .before .before .before .before
+returns·Start c = c .before .before .before .before .before .before .before .before .before .before .before .before .before .before .before .before .before .before .before .before .before .before .before .before .before .before .before .before .before .before .before .before .before .before .before .before .before .before .before .before .before .before .before .before .before .before
 
 abbrev pub returns·put-packet : tie.After-closed-decoder → tie.After-put-packet
-returns·put-packet c = c .before .before .before .before .before .before .before .before .before .before .before .before .before .before .before .before .before .before .before .before .before .before .before .before .before .before .before .before .before .before .before
+returns·put-packet c = c .before .before .before .before .before .before .before .before .before .before .before .before .before .before .before .before .before .before .before .before .before .before .before .before .before .before .before .before .before .before .before .before
 
 abbrev pub returns·holding : tie.After-closed-decoder → tie.After-holding
-returns·holding c = c .before .before .before .before .before .before .before .before .before .before .before .before .before .before .before .before .before .before .before .before .before .before .before .before .before
+returns·holding c = c .before .before .before .before .before .before .before .before .before .before .before .before .before .before .before .before .before .before .before .before .before .before .before .before .before .before
 
 abbrev pub returns·hand-of : tie.After-closed-decoder → tie.After-hand-of
 returns·hand-of c = c .before .before .before .before .before .before .before .before .before .before .before .before .before .before .before .before .before .before .before .before .before .before .before .before
 
 abbrev pub returns·start-pid : tie.After-closed-decoder → tie.After-start-pid
-returns·start-pid c = c .before .before .before .before .before .before .before .before .before .before .before .before .before .before .before .before .before .before .before .before .before .before .before .before .before .before
+returns·start-pid c = c .before .before .before .before .before .before .before .before .before .before .before .before .before .before .before .before .before .before .before .before .before .before .before .before .before .before .before
 
 abbrev pub returns·end-if : tie.After-closed-decoder → tie.After-end-if
 returns·end-if c = c .before .before .before .before .before .before .before .before .before .before .before .before .before .before .before
@@ -35,4 +35,7 @@ abbrev pub returns·closed-decoder : tie.After-closed-decoder → tie.After-clos
 returns·closed-decoder c = c
 
 abbrev pub put-packet-requires·Start : tie.After-put-packet-arg2 → tie.Start
-put-packet-requires·Start c = c .before .before .before .before .before .before .before .before .before .before .before .before
+put-packet-requires·Start c = c .before .before .before .before .before .before .before .before .before .before .before .before .before
+
+abbrev pub closed-decoder-requires·Start : tie.After-slice-known18 → tie.Start
+closed-decoder-requires·Start c = c .before .before .before .before .before .before .before .before .before .before .before .before .before .before .before .before .before .before .before .before .before .before .before .before .before .before .before .before .before .before .before .before .before .before .before .before .before .before .before .before .before .before .before .before .before
