@@ -30,17 +30,18 @@ fn sum_of(held: Counts, n: Counts, t: Tally, room: Counts) -> Sum
     requires { ⌜ Within (2 ^ 40) t ⌝ }
     ensures { λ r. ⌜ r ≡ sumOf held n t room ⌝ }
 {
+    let waiting = t.waiting;
     if has_room_for(held, n, t, room) {
         Sum {
             fits: true,
             counts: add_counts(n, t),
-            waiting: t.waiting,
+            waiting,
         }
     } else {
         Sum {
             fits: false,
             counts: n,
-            waiting: t.waiting,
+            waiting,
         }
     }
 }

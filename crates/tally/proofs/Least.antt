@@ -17,6 +17,7 @@ use Rattle.update.specs.declared.Update.{Update}
 use Rattle.plan.specs.Packet.{resumes, planBy, planOf}
 use Rattle.plan.specs.Sound.{linked, started, planLinks, planStarts}
 use Rattle.plan.specs.Words.{planWords}
+use Rattle.plan.proofs.Frame.{no}
 use Rattle.plan.specs.declared.Begin.{Begin}
 use Rattle.plan.specs.declared.End.{End}
 use Rattle.plan.specs.declared.Ending.{Ending}
@@ -146,9 +147,6 @@ module _ {g : Tally → ℕ} {k r : Bool → ℕ} (c : Counting g k r) where
       omega (arith, h1, h2, h3, h4, h5, h6, h7)
 
 -- ---- links
-
-abbrev no : Bool → ℕ
-no b = 0
 
 links-counted : Counting (λ t. t .links) one no
 links-counted =
