@@ -2,6 +2,8 @@ pub mod Calls
 pub mod BeginOnly
 pub mod CloseOnly
 pub mod Rest
+pub mod LightEnd
+pub mod LightCall
 pub mod Packets
 pub mod Token
 pub mod Shapes

@@ -1,3 +1,4 @@
 pub mod Begin
 pub mod Close
+pub mod Light
 pub mod Shaped

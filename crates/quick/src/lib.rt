@@ -1,6 +1,7 @@
-// Two shapes of packet that are taken without a plan, since their plan has one step: the commonest packets (specs/Begin.antt, specs/Close.antt).
+// Two shapes of packet that are taken without a plan, since their plan has one step: the commonest packets (specs/Begin.antt, specs/Close.antt). Most handshakes are close-only with a light end, which has a way of its own (specs/Light.antt).
 mod begin;
 mod close;
+mod light;
 mod shape;
 
 use crate::begin::begin_fits;
@@ -8,6 +9,9 @@ use crate::begin::begin_only;
 use crate::close::close_of;
 use crate::close::close_only;
 use crate::close::end_by;
+use crate::light::is_counting;
+use crate::light::is_quiet;
+use crate::light::light_only;
 use crate::shape::shape_of;
 use call::bytes_known;
 use call::known;
@@ -102,6 +106,28 @@ pub fn quick_in(
     let end = end_by(q, d, near.old, table);
     let c = close_of(q.closes, end, d, rows, packet.len(), room);
     if c.taken {
+        let update = end.update;
+        let effect = end.effect;
+        if is_quiet(update) & is_counting(effect) {
+            let decoder = light_only(
+                q.transaction,
+                end,
+                c.tally,
+                rows,
+                d,
+                packet,
+                time,
+                table,
+                bytes,
+                packets,
+                links,
+            );
+            return Inner {
+                answer: 0,
+                decoder,
+                change: none,
+            };
+        }
         let decoder = close_only(
             q.transaction,
             end,

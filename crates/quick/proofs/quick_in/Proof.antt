@@ -116,6 +116,49 @@ closed c v h =
     close-taken (a .args .packet .now) (lent a v) (Then2·shape-of c .shape-of .result) (a .args .near .old) (meets (Then2·shape-of c) v h) (Then2·shape-of c .shape-of .ensures v (h .seen))
     (Then2·held-of c .held-of .ensures) (Then2·room-of c .room-of .ensures) (h .seen .old) (Then2·end-by c .end-by .ensures) (Then2·close-of c .close-of .ensures) (c .if2 .taken)
 
+-- ---- close-only with a light end
+
+-- the end that was decided is that of the transaction on its entry, whose bytes are bytes
+entry-fits : (c : tie.Then2) → Fits (Then2·end-by c .end-by .result .entry)
+entry-fits c = subst (λ (x : End). Fits (x .entry)) (sym (Then2·end-by c .end-by .ensures)) (end-fits (Then2·shape-of c .shape-of .result) (Then2·Start c .args .d) (Then2·Start c .args .near .old) (Then2·Start c .args .table .now))
+
+-- the tests that were made
+tested : (c : tie.Then3) → (isQuiet (Then3·end-by c .end-by .result .update) ≡ true) × (isCounting (Then3·end-by c .end-by .result .effect) ≡ true)
+tested c =
+    let g = both (Then3·is-quiet c .is-quiet .result) (Then3·is-counting c .is-counting .result) (c .if3 .taken) in
+    (sym (Then3·is-quiet c .is-quiet .ensures) ∙ g .0, sym (Then3·is-counting c .is-counting .ensures) ∙ g .1)
+
+light-only-requires : tie.Need-light-only-requires
+light-only-requires c κs =
+    let a = light-only-requires·Start c in
+    let v = a .pre .0 .devices in
+    let m = light-only-requires·Then2 c in
+    let b = closed m v (a .pre .0 .lent) in
+    let g = tested (light-only-requires·Then3 c) in
+    let w = sound (lent a v) (a .pre .0 .lent .ill) in
+    let e = Then2·held-of m .held-of .ensures in
+    let end = Then2·end-by m .end-by .result in
+    let r = close-only-rows (a .args .packet .now) (a .args .time) (lent a v) (b .enters) (b .plan) (b .fits) in
+    let z = sums-room (closeTally end _ (a .args .d)) (roomOf (lent a v .logs)) (countable-by (w .0) (w .1) refl) (looser (close-small end _ (a .args .d) (a .pre .1 .1) (waiting-few (w .0)) (w .0 .counts .fewEndpoints)) _ (omega arith)) (b .fits .fits) in
+    let t = token-of m in
+    light-lent (a .args .packet .now) (lent a v) (Then2·shape-of m .shape-of .result .closes) (Then2·room-of m .room-of .result) e (Then2·close-of m .close-of .ensures) z (r .0) (r .1)
+    (light-room (a .args .packet .now) (a .args .time) (lent a v) (b .enters) (b .plan) (b .fits) (g .0) (g .1) (entry-fits m) t)
+    (g .0, (there (a .args .packet .now) (a .args .time) (lent a v) (b .enters) (b .plan) (b .fits) (g .0) (g .1) (entry-fits m) t, (light-count (a .args .packet .now) (a .args .time) (lent a v) (b .enters) (b .plan) (b .fits) (g .0) (g .1) (entry-fits m) t, b .fits .total)))
+
+returns-2 : tie.Need-returns-2
+returns-2 c =
+    let a = returns-2·Start c in
+    let e = returns-2·no-change c .no-change .ensures in
+    let w = returns-2·light-only c .light-only .ensures in
+    let m = returns-2·Then2 c in
+    let g = tested (returns-2·Then3 c) in (
+      none-placed e,
+      λ v h. let b = closed m v h in
+          kept-devices (a .args .packet .now) (a .args .time) (lent a v) e
+          (light-by (a .args .packet .now) (a .args .time) (lent a v) (b .enters) (b .plan) (b .fits) (g .0) (g .1) (entry-fits m) (token-of m)
+          (returns-2·held-of c .held-of .ensures) (ap (λ (x : Close). x .tally) (returns-2·close-of c .close-of .ensures)) (w .0) (w .1 .0) (w .1 .1 .0) (w .1 .1 .1 .0) (w .1 .1 .1 .1)),
+    )
+
 close-only-requires : tie.Need-close-only-requires
 close-only-requires c κs =
     let a = close-only-requires·Start c in
@@ -130,18 +173,18 @@ close-only-requires c κs =
     (sums-room (closeTally end _ (a .args .d)) (roomOf (lent a v .logs)) (countable-by (w .0) (w .1) refl) (looser (close-small end _ (a .args .d) (a .pre .1 .1) (waiting-few (w .0)) (w .0 .counts .fewEndpoints)) _ (omega arith)) (b .fits .fits))
     (r .0) (r .1) (λ on. close-only-asks (a .args .packet .now) (a .args .time) (lent a v) (b .enters) (b .plan) (b .fits))
 
-returns-2 : tie.Need-returns-2
-returns-2 c =
-    let a = returns-2·Start c in
-    let e = returns-2·no-change c .no-change .ensures in
-    let q = returns-2·shape-of c .shape-of .result in
-    let end = returns-2·end-by c .end-by .result in (
+returns-3 : tie.Need-returns-3
+returns-3 c =
+    let a = returns-3·Start c in
+    let e = returns-3·no-change c .no-change .ensures in
+    let q = returns-3·shape-of c .shape-of .result in
+    let end = returns-3·end-by c .end-by .result in (
       none-placed e,
-      λ v h. let b = closed (returns-2·Then2 c) v h in
+      λ v h. let b = closed (returns-3·Then2 c) v h in
           kept-devices (a .args .packet .now) (a .args .time) (lent a v) e
           (close-only-call (a .args .packet .now) (a .args .time) (lent a v) (b .enters) (b .plan) (b .fits)
-          (returns-2·close-only c .close-only .ensures v (a .args .endpoint-rows .now) (a .args .events .now) (a .args .transactions .now) (returns-2·held-of c .held-of .ensures)
-          ∙ close-counted (q .transaction) end (a .args .packet .now) (a .args .time) (lent a v) (q .closes) (returns-2·held-of c .held-of .result) (returns-2·room-of c .room-of .result) (returns-2·close-of c .close-of .ensures))),
+          (returns-3·close-only c .close-only .ensures v (a .args .endpoint-rows .now) (a .args .events .now) (a .args .transactions .now) (returns-3·held-of c .held-of .ensures)
+          ∙ close-counted (q .transaction) end (a .args .packet .now) (a .args .time) (lent a v) (q .closes) (returns-3·held-of c .held-of .result) (returns-3·room-of c .room-of .result) (returns-3·close-of c .close-of .ensures))),
     )
 
 pub quick-in-spec : {M : Type 1} → statement M
@@ -164,27 +207,34 @@ quick-in-spec =
     returns
     (λ c κs. ready-by (end-by-requires·Start c))
     close-of-requires
-    close-only-requires
-    (λ c. returns-2·close-only c .close-only .kept .1 .1 .1 .1 .1 .1 .1 .1 .0)
-    (λ c. returns-2·close-only c .close-only .kept .1 .1 .1 .1 .1 .1 .1 .1 .1 .0)
-    (λ c. returns-2·close-only c .close-only .kept .1 .1 .1 .1 .1 .1 .1 .1 .1 .1 .0)
-    (λ c. returns-2·close-only c .close-only .kept .1 .1 .1 .1 .1 .1 .1 .1 .1 .1 .1 .0)
-    (λ c. returns-2·close-only c .close-only .kept .1 .1 .1 .1 .1 .1 .1 .1 .1 .1 .1 .1 .0)
-    (λ c. returns-2·close-only c .close-only .kept .1 .1 .1 .1 .1 .1 .1 .1 .1 .1 .1 .1 .1 .0)
-    (λ c. returns-2·close-only c .close-only .kept .1 .1 .1 .1 .1 .1 .1 .1 .1 .1 .1 .1 .1 .1 .0)
-    (λ c. returns-2·close-only c .close-only .kept .1 .1 .1 .1 .1 .1 .1 .1 .1 .1 .1 .1 .1 .1 .1 .0)
-    (λ c. returns-2·close-only c .close-only .kept .1 .1 .1 .1 .1 .1 .1 .1 .1 .1 .1 .1 .1 .1 .1 .1 .0)
+    (λ c κs. tt)
+    (λ c κs. tt)
+    light-only-requires
+    (λ c. returns-2·light-only c .light-only .kept .1 .1 .1 .1 .1 .1 .1 .1 .0)
+    (λ c. returns-2·light-only c .light-only .kept .1 .1 .1 .1 .1 .1 .1 .1 .1 .0)
+    (λ c. returns-2·light-only c .light-only .kept .1 .1 .1 .1 .1 .1 .1 .1 .1 .1 .0)
     returns-2
+    close-only-requires
+    (λ c. returns-3·close-only c .close-only .kept .1 .1 .1 .1 .1 .1 .1 .1 .0)
+    (λ c. returns-3·close-only c .close-only .kept .1 .1 .1 .1 .1 .1 .1 .1 .1 .0)
+    (λ c. returns-3·close-only c .close-only .kept .1 .1 .1 .1 .1 .1 .1 .1 .1 .1 .0)
+    (λ c. returns-3·close-only c .close-only .kept .1 .1 .1 .1 .1 .1 .1 .1 .1 .1 .1 .0)
+    (λ c. returns-3·close-only c .close-only .kept .1 .1 .1 .1 .1 .1 .1 .1 .1 .1 .1 .1 .0)
+    (λ c. returns-3·close-only c .close-only .kept .1 .1 .1 .1 .1 .1 .1 .1 .1 .1 .1 .1 .1 .0)
+    (λ c. returns-3·close-only c .close-only .kept .1 .1 .1 .1 .1 .1 .1 .1 .1 .1 .1 .1 .1 .1 .0)
+    (λ c. returns-3·close-only c .close-only .kept .1 .1 .1 .1 .1 .1 .1 .1 .1 .1 .1 .1 .1 .1 .1 .0)
+    (λ c. returns-3·close-only c .close-only .kept .1 .1 .1 .1 .1 .1 .1 .1 .1 .1 .1 .1 .1 .1 .1 .1 .0)
+    returns-3
     (λ c κs. packet-in-requires·Start c .pre)
-    (λ c. returns-3·packet-in c .packet-in .kept .1 .1 .1 .1 .1 .0)
-    (λ c. returns-3·packet-in c .packet-in .kept .1 .1 .1 .1 .1 .1 .0)
-    (λ c. returns-3·packet-in c .packet-in .kept .1 .1 .1 .1 .1 .1 .1 .0)
-    (λ c. returns-3·packet-in c .packet-in .kept .1 .1 .1 .1 .1 .1 .1 .1 .0)
-    (λ c. returns-3·packet-in c .packet-in .kept .1 .1 .1 .1 .1 .1 .1 .1 .1 .1 .0)
-    (λ c. returns-3·packet-in c .packet-in .kept .1 .1 .1 .1 .1 .1 .1 .1 .1 .1 .1 .0)
-    (λ c. returns-3·packet-in c .packet-in .kept .1 .1 .1 .1 .1 .1 .1 .1 .1 .1 .1 .1 .0)
-    (λ c. returns-3·packet-in c .packet-in .kept .1 .1 .1 .1 .1 .1 .1 .1 .1 .1 .1 .1 .1 .0)
-    (λ c. returns-3·packet-in c .packet-in .kept .1 .1 .1 .1 .1 .1 .1 .1 .1 .1 .1 .1 .1 .1 .0)
-    (λ c. returns-3·packet-in c .packet-in .kept .1 .1 .1 .1 .1 .1 .1 .1 .1 .1 .1 .1 .1 .1 .1 .0)
-    (λ c. returns-3·packet-in c .packet-in .kept .1 .1 .1 .1 .1 .1 .1 .1 .1 .1 .1 .1 .1 .1 .1 .1 .0)
-    (λ c. returns-3·packet-in c .packet-in .ensures))
+    (λ c. returns-4·packet-in c .packet-in .kept .1 .1 .1 .1 .1 .0)
+    (λ c. returns-4·packet-in c .packet-in .kept .1 .1 .1 .1 .1 .1 .0)
+    (λ c. returns-4·packet-in c .packet-in .kept .1 .1 .1 .1 .1 .1 .1 .0)
+    (λ c. returns-4·packet-in c .packet-in .kept .1 .1 .1 .1 .1 .1 .1 .1 .0)
+    (λ c. returns-4·packet-in c .packet-in .kept .1 .1 .1 .1 .1 .1 .1 .1 .1 .1 .0)
+    (λ c. returns-4·packet-in c .packet-in .kept .1 .1 .1 .1 .1 .1 .1 .1 .1 .1 .1 .0)
+    (λ c. returns-4·packet-in c .packet-in .kept .1 .1 .1 .1 .1 .1 .1 .1 .1 .1 .1 .1 .0)
+    (λ c. returns-4·packet-in c .packet-in .kept .1 .1 .1 .1 .1 .1 .1 .1 .1 .1 .1 .1 .1 .0)
+    (λ c. returns-4·packet-in c .packet-in .kept .1 .1 .1 .1 .1 .1 .1 .1 .1 .1 .1 .1 .1 .1 .0)
+    (λ c. returns-4·packet-in c .packet-in .kept .1 .1 .1 .1 .1 .1 .1 .1 .1 .1 .1 .1 .1 .1 .1 .0)
+    (λ c. returns-4·packet-in c .packet-in .kept .1 .1 .1 .1 .1 .1 .1 .1 .1 .1 .1 .1 .1 .1 .1 .1 .0)
+    (λ c. returns-4·packet-in c .packet-in .ensures))
