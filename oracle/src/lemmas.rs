@@ -2,7 +2,7 @@
 
 use std::fmt::Write;
 
-use crate::calls::{Calls, Mechanism, Rows, words};
+use crate::calls::{Calls, Mechanism, Rows, WIDTHS, words};
 use crate::decoder::machine::Machine;
 use crate::generate::{KINDS, generate};
 use crate::trace::{Clock, Reader, Record, call};
@@ -20,6 +20,9 @@ const PLACES: &[(&str, &str)] = &[
     ),
 ];
 
+/// The log of the requests.
+const REQUESTS: usize = 11;
+
 /// A longer packet is left out of a run: its CRC would be computed bit by bit.
 const LONGEST: usize = 80;
 
@@ -33,6 +36,13 @@ use Rattle.usb.specs.Packet.{formatOf, tokenOk, splitOk, dataOk, handshakeOk, f
 use Rattle.transaction.specs.Status.{transactionStatus}
 use Rattle.transaction.specs.Payload.{extractPayload}
 use Rattle.details.specs.Details.{detailsOf, withType, withDetail, fresh}
+use Rattle.descriptors.specs.Kind.{isRead, isSetConfiguration, isSetInterface, kindBy, kindOf}
+use Rattle.descriptors.specs.Laid.{laid}
+use Rattle.descriptors.specs.Whole.{isWhole, wholeIn, whole}
+use Rattle.descriptors.specs.Entries.{isOf, firstOf, maxOf, valueOf}
+use Rattle.descriptors.specs.Store.{chunks}
+use Rattle.descriptors.specs.Chosen.{applied, countSet}
+use Rattle.descriptors.specs.Complete.{noteOf, withMax, deviceAfter, countAfter, shelfAfter, rowAfter}
 use Rattle.group.specs.Control.{setupGroup, controlGroup}
 use Rattle.group.specs.Data.{beginGroup, repeatGroup, otherGroup}
 use Rattle.group.specs.Group.{groupStatus}
@@ -40,13 +50,14 @@ use Rattle.rules.specs.Groups.{groupUpdate, groupEarlyStart, groupEarlyAppend}
 use Rattle.rules.specs.Transactions.{transactionUpdate}
 use Rattle.rules.specs.Events.{eventUpdate}
 use Rattle.rules.specs.Decoder.{handleRawPacket, handleEvent, handleDetail, finish}
-use Rattle.rules.specs.Demand.{packet, event, detail, finishing}
-use Rattle.rules.proofs.Runs.{Leaves}
+use Rattle.rules.proofs.Runs.{packet, event, detail, finishing, Leaves}
 ";
 
 const PROOF: &str = "unfolding step bits bytes crc5Of crc16Of after formatOf tokenOk splitOk dataOk handshakeOk formatOk checkedOf transactionStatus \
-                     extractPayload detailsOf withType withDetail fresh setupGroup controlGroup beginGroup repeatGroup otherGroup groupStatus \
-                     groupUpdate groupEarlyStart groupEarlyAppend transactionUpdate eventUpdate handleRawPacket handleEvent handleDetail finish";
+                     extractPayload detailsOf withType withDetail fresh isRead isSetConfiguration isSetInterface kindBy kindOf laid isWhole wholeIn \
+                     whole isOf firstOf maxOf valueOf chunks applied countSet noteOf withMax deviceAfter countAfter shelfAfter rowAfter setupGroup controlGroup beginGroup \
+                     repeatGroup otherGroup groupStatus groupUpdate groupEarlyStart groupEarlyAppend transactionUpdate eventUpdate handleRawPacket \
+                     handleEvent handleDetail finish";
 
 fn list(items: impl Iterator<Item = String>) -> String {
     let mut text: String = items.map(|item| format!("{item} ∷ ")).collect();
@@ -64,6 +75,12 @@ fn written_call(record: &Record, time: u64) -> String {
         Record::Event { kind, code, .. } => format!("event {kind} {code} {time}"),
         Record::Detail { address, number, direction, kind, max } => format!("detail {address} {number} {direction} {kind} {max}"),
     }
+}
+
+/// The request rows with their note: no payload of these runs begins with a descriptor, so a SET_CONFIGURATION sets none (3), and nothing else is taken (0).
+fn noted(rows: &[u64]) -> Vec<u64> {
+    let is_set = |setup: u64| setup & 0x60 == 0 && setup >> 8 & 0xFF == 9 && setup >> 16 & 0xFFFF < 256;
+    rows.chunks(WIDTHS[REQUESTS]).flat_map(|row| row.iter().copied().chain([if is_set(row[1]) { 3 } else { 0 }])).collect()
 }
 
 /// A trace and its finish as one lemma: refused calls are no step, and a long packet is left out.
@@ -85,7 +102,8 @@ fn lemma(name: &str, trace: &[u8]) -> String {
     assert_eq!(calls.finish(), 0, "a run of ours is refused at its end");
     steps.push("finishing".to_string());
     let mut out = format!("\nrun-{name} :\n    Leaves ({})\n    (", list(steps.into_iter()));
-    for log in words(calls.machine.capture()) {
+    for (k, log) in words(calls.machine.capture()).into_iter().enumerate() {
+        let log = if k == REQUESTS { noted(&log) } else { log };
         write!(out, "{} ∷ ", numbers(&log)).ok();
     }
     writeln!(out, "[])\n{PROOF}\nrun-{name} = refl").ok();
