@@ -116,3 +116,14 @@ rowWith r d = record { address = d .address; chosen = r .chosen; kept = r .kept;
 -- the row of its device after a request, by the shelf before it
 unfoldable pub rowAfter : Kind → Asked → List ℕ → Device → Device
 rowAfter kind a shelf d = rowWith (completedBy a shelf kind) (deviceBy kind a shelf d)
+
+-- all that a completed request does, by its setup data: the note of its row, the row of its device, the shelf
+module _ (a : Asked) (shelf : List ℕ) where
+  abbrev pub noteBy : ℕ
+  noteBy = completedBy a shelf (kindOf (a .setup)) .note
+
+  abbrev pub rowBy : Device → Device
+  rowBy = rowAfter (kindOf (a .setup)) a shelf
+
+  abbrev pub shelfBy : List ℕ
+  shelfBy = shelfAfter (kindOf (a .setup)) (a .start) (payloadFor a shelf) (entriesFor a shelf) shelf

@@ -9,6 +9,7 @@ pub mod Typed
 pub mod Settles
 pub mod Appends
 pub mod Olds
+pub mod Kept
 pub mod Packet
 pub mod Small
 pub mod Bounded

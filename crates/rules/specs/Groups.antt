@@ -12,8 +12,8 @@ use Rattle.endpoints.specs.Table.{withPhase, withState}
 use Rattle.endpoints.specs.declared.Endpoint.{Endpoint}
 use Rattle.endpoints.specs.declared.Phase.{Phase}
 use Rattle.endpoints.specs.declared.Phase.the-variants.{None, Early, Active, Ended}
-use Rattle.descriptors.specs.Kind.{kindOf}
-use Rattle.descriptors.specs.Complete.{payloadFor, entriesFor, completedBy, rowAfter, shelfAfter}
+use Rattle.details.specs.declared.Device.{Device}
+use Rattle.descriptors.specs.Complete.{noteBy, rowBy, shelfBy}
 use Rattle.descriptors.specs.declared.complete.Asked.{Asked}
 use Rattle.group.specs.Step.{isActive}
 use Rattle.group.specs.Group.{groupStatus}
@@ -180,21 +180,21 @@ groupStep Retry x w = w ▷ groupAppend false x
 groupStep Done x w = w ▷ groupAppend true x ▷ groupEnd x
 groupStep Invalid x w = w ▷ groupStart false x ▷ groupEnd x
 
--- where the Rust calls decode_request: what a request on the endpoint x with a payload of n bytes is asked of its device (descriptors, Complete). A device's part
--- of the shelf begins at 8,192 times its number
-abbrev pub askedOf : ℕ → ℕ → World → Asked
-askedOf n x w =
-    let d = w .endpoints x .device in
-    record { setup = w .endpoints x .setup; length = n; start = d * 8192; kept = w .devices d .kept; chosen = w .devices d .chosen }
+-- where the Rust calls decode_request: what is asked (descriptors, Complete), by the setup data, the payload's length, the number of the device, and its row. A
+-- device's part of the shelf begins at 8,192 times its number
+abbrev pub askedAt : ℕ → ℕ → ℕ → Device → Asked
+askedAt setup n number d = record { setup = setup; length = n; start = number * 8192; kept = d .kept; chosen = d .chosen }
 
--- fn decode_request, in the words of 02, 2: a request row with its note, the row of the device, and the shelf, each by what the device kept before it
+-- on the endpoint x
+abbrev pub askedOf : ℕ → ℕ → World → Asked
+askedOf n x w = askedAt (w .endpoints x .setup) n (w .endpoints x .device) (w .devices (w .endpoints x .device))
+
+-- fn decode_request, in the words of 02, 2: "a note of what was taken", the device's row and the shelf, each by what stood there before it
 abbrev pub decodeRequest : ℕ → ℕ → World → World
 decodeRequest n x w =
-    let a = askedOf n x w in
-    let kind = kindOf (w .endpoints x .setup) in
-    w ▷ push (RequestRow (asking x (w .endpoints x .setup) n (completedBy a (w .shelf) kind .note)))
-    ▷ changeDevice (w .endpoints x .device) (rowAfter kind a (w .shelf))
-    ▷ withShelf (shelfAfter kind (a .start) (payloadFor a (w .shelf)) (entriesFor a (w .shelf)) (w .shelf))
+    w ▷ push (RequestRow (asking x (w .endpoints x .setup) n (noteBy (askedOf n x w) (w .shelf))))
+    ▷ changeDevice (w .endpoints x .device) (rowBy (askedOf n x w) (w .shelf))
+    ▷ withShelf (shelfBy (askedOf n x w) (w .shelf))
 
 -- where the Rust calls decode_request, a request row (01, What moves over); a waiting payload is counted under its own T row
 abbrev pub effectStep : Effect → ℕ → World → World
