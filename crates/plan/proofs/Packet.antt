@@ -1,7 +1,7 @@
 -- The steps of a packet, decided from the world before it and done, are what the rules do (handle_raw_packet).
 use mathlib.Core.Path.{_≡_, refl, sym, ap, subst, _∙_}
 use mathlib.Core.Bool.{Bool, true, false, _&&_, not}
-use mathlib.Core.List.{List}
+use mathlib.Core.List.{List, []}
 use Prim.Native.Nat.{ℕ, _+_}
 use native.Mathlib.Omega.{arith}
 use borrow.Author.Tests.{eq-eqb, ne-eqb}
@@ -19,10 +19,11 @@ use Rattle.transaction.proofs.Laws.{extract-keeps}
 use Rattle.descriptors.specs.Kind.{kindOf}
 use Rattle.descriptors.specs.Laid.{isLaid}
 use Rattle.endpoints.specs.declared.Endpoint.{Endpoint}
-use Rattle.rules.specs.World.{World, _▷_, withSlot, withTransaction, withShelf, withId, moreTransactions}
+use Rattle.rules.specs.World.{World, makeWorld, stamp, _▷_, withSlot, withTransaction, withShelf, withId, moreTransactions}
 use Rattle.rules.specs.Endpoints.{detailOf}
 use Rattle.rules.specs.Transactions.{transactionEnd, transactionStart, transactionAppend, completes, isPayload, isKept, shelfWith, keepPayload, resumeAt, stateAt, updateAt, updateFrom, isDropped, transactionUpdate}
 use Rattle.rules.specs.Decoder.{handleRawPacket}
+use Rattle.rules.specs.declared.EventState.the-variants.{Idle}
 use Rattle.rules.specs.declared.Slot.{Slot}
 use Rattle.rules.specs.declared.Slot.the-variants.{Empty, Current, Suspended}
 use Rattle.update.specs.Update.{when, decideResume}
@@ -293,10 +294,14 @@ by-slot Suspended id packet w h =
 
 -- ---- handle_raw_packet
 
--- the packet's rows are not what is decided from
-pub plan-same : (packet : List ℕ) (time : ℕ) (w : World) → planOf packet (withPacket packet time w) ≡ planOf packet w
+-- what a plan is decided from
+abbrev bareOf : World → World
+bareOf w = makeWorld (w .endpoints) (w .count) (w .devices) (w .deviceCount) (w .slot) (w .transaction) (w .lastItem) Idle false (stamp 0 0) []
+    0 0 (w .transactions) 0 0 0 []
+
+plan-bare : (packet : List ℕ) (w : World) → planOf packet (bareOf w) ≡ planOf packet w
 unfolding planOf planBy
-plan-same packet time w =
+plan-bare packet w =
     let x0 = oldEndpoint (w .slot) (w .transaction) in
     let t = transactionThen (w .slot) (w .transactions) (w .endpoints x0) (w .transaction) in
     let e = entryThen (w .slot) (w .endpoints x0) in
@@ -320,10 +325,10 @@ plan-same packet time w =
       slot = slotAfter s (w .slot);
     }
   where
-    alike : Alike w (withPacket packet time w)
+    alike : Alike w (bareOf w)
     alike = record { count = refl; devices = refl; deviceCount = refl; device = λ j. refl; address = λ j. refl }
 
-    middle-same : (s : Status) (x0 : ℕ) (e0 : Endpoint) (pid n : ℕ) (b : Transaction) → middleOf s x0 e0 pid packet n b (withPacket packet time w) ≡ middleOf s x0 e0 pid packet n b w
+    middle-same : (s : Status) (x0 : ℕ) (e0 : Endpoint) (pid n : ℕ) (b : Transaction) → middleOf s x0 e0 pid packet n b (bareOf w) ≡ middleOf s x0 e0 pid packet n b w
     middle-same New x0 e0 pid n b = same-starting alike x0 e0 (λ j. refl) New pid packet n
     middle-same Continue x0 e0 pid n b = same-appending alike x0 e0 (λ j. refl) Continue pid packet b
     middle-same Retry x0 e0 pid n b = same-appending alike x0 e0 (λ j. refl) Retry pid packet b
@@ -332,11 +337,26 @@ plan-same packet time w =
     middle-same Ambiguous x0 e0 pid n b = same-appending alike x0 e0 (λ j. refl) Ambiguous pid packet b
     middle-same Invalid x0 e0 pid n b = same-starting alike x0 e0 (λ j. refl) Invalid pid packet n
 
+-- not from the packet's rows
+pub plan-same : (packet : List ℕ) (time : ℕ) (w : World) → planOf packet (withPacket packet time w) ≡ planOf packet w
+plan-same packet time w = sym (plan-bare packet (withPacket packet time w)) ∙ plan-bare packet w
+
+-- nor from the shelf
+pub plan-shelf : (packet shelf : List ℕ) (w : World) → planOf packet (withShelf shelf w) ≡ planOf packet w
+plan-shelf packet shelf w = sym (plan-bare packet (withShelf shelf w)) ∙ plan-bare packet w
+
 pub packet-is : (packet : List ℕ) (time : ℕ) (w : World) → isDropped (w .slot) (w .transaction) ≡ false → handleRawPacket packet time w ≡ played (planOf packet w) packet time (kept (planOf packet w) packet w)
 unfolding handleRawPacket played
 packet-is packet time w h =
     let v = withPacket packet time w in
     by-slot (w .slot) (w .packets) packet v h ∙ ap (λ (p : Plan). carried p (w .packets) (kept p packet v)) (plan-same packet time w)
+
+-- the same, said of one world: that with the packet's payload on the shelf
+pub packet-laden : (packet : List ℕ) (time : ℕ) (w : World) → isDropped (w .slot) (w .transaction) ≡ false
+    → handleRawPacket packet time w ≡ (let v = kept (planOf packet w) packet w in played (planOf packet v) packet time v)
+packet-laden packet time w h =
+    let v = kept (planOf packet w) packet w in
+    packet-is packet time w h ∙ ap (λ (p : Plan). played p packet time v) (sym (plan-shelf packet (v .shelf) w))
 
 -- a suspended transaction without its endpoint is dropped (answer 8)
 pub dropped-is : (packet : List ℕ) (time : ℕ) (w : World) → isDropped (w .slot) (w .transaction) ≡ true
