@@ -6,40 +6,43 @@ use mathlib.Core.Bool.{Bool, true, false}
 use mathlib.Core.List.{List}
 use Rattle.usb.specs.Packet.{payloadOf}
 use Rattle.transaction.specs.Table.{pick}
-use Rattle.endpoints.specs.declared.Endpoint.{Endpoint}
+use Rattle.details.specs.declared.Device.{Device}
 use Rattle.descriptors.specs.Kind.{kindOf}
 use Rattle.descriptors.specs.Laid.{laid}
-use Rattle.descriptors.specs.Complete.{completedBy, Completes, shelfBy}
+use Rattle.descriptors.specs.Complete.{Completes, deviceBy, rowWith, noteBy, rowBy, shelfBy}
+use Rattle.descriptors.specs.RowLaws.{row-still}
 use Rattle.descriptors.specs.declared.complete.Asked.{Asked}
 use Rattle.descriptors.specs.declared.complete.Completed.{Completed}
-use Rattle.rules.specs.Transactions.{shelfWith}
-use Rattle.plan.specs.declared.Plan.{Plan}
-use Rattle.shelving.specs.Shelve.{isAsked, askedWith, laidShelf, Shelves}
+use Rattle.shelving.specs.Shelve.{askedWith, laidShelf, Shelves}
+use Rattle.shelving.specs.declared.Reading.{Reading}
 
-module _ (b k : Bool) (e : Endpoint) (packet shelf : List ℕ) (same : b ≡ k) where
-  pub laid-if : b ≡ true → (x : List ℕ) → x ≡ laid (e .device * 8192) (e .payload) (payloadOf packet) shelf → x ≡ shelfWith k e packet shelf
-  laid-if h x q = q ∙ ap (λ (c : Bool). shelfWith c e packet shelf) (sym h ∙ same)
+pub laid-if : (t : Reading) (packet shelf : List ℕ) → t .keeps ≡ true → (x : List ℕ) → x ≡ laid (t .device * 8192) (t .count) (payloadOf packet) shelf
+    → x ≡ laidShelf t packet shelf
+laid-if t packet shelf h x q = q ∙ ap (λ (b : Bool). pick b (laid (t .device * 8192) (t .count) (payloadOf packet) shelf) shelf) (sym h)
 
-  pub unlaid-if : b ≡ false → shelf ≡ shelfWith k e packet shelf
-  unlaid-if h = ap (λ (c : Bool). shelfWith c e packet shelf) (sym h ∙ same)
+pub unlaid-if : (t : Reading) (packet shelf : List ℕ) → t .keeps ≡ false → shelf ≡ laidShelf t packet shelf
+unlaid-if t packet shelf h = ap (λ (b : Bool). pick b (laid (t .device * 8192) (t .count) (payloadOf packet) shelf) shelf) (sym h)
 
-module _ (p : Plan) (kept chosen : ℕ) (packet shelf h : List ℕ) (there : h ≡ laidShelf p packet shelf) (b : Bool) (same : b ≡ isAsked p) where
-  pub shelved : b ≡ true → (a : Asked) (h₁ : List ℕ) (r : Completed) → a ≡ askedWith p kept chosen → Completes a h h₁ r → Shelves p kept chosen packet shelf h₁ r
-  shelved q a h₁ r ea c =
-      let on = sym q ∙ same in
-      let s = askedWith p kept chosen in
-      let l = laidShelf p packet shelf in
+module _ (t : Reading) (d : Device) (packet shelf h : List ℕ) (there : h ≡ laidShelf t packet shelf) where
+  abbrev s : Asked
+  s = askedWith t (d .kept) (d .chosen)
+
+  abbrev l : List ℕ
+  l = laidShelf t packet shelf
+
+  pub shelved : t .asks ≡ true → (a : Asked) (h₁ : List ℕ) (c : Completed) (row : Device) → a ≡ askedWith t (d .kept) (d .chosen) → Completes a h h₁ c
+      → row ≡ rowWith c (deviceBy (kindOf (a .setup)) a h₁ d) → Shelves t d packet shelf h₁ (record { note = c .note; row = row })
+  shelved q a h₁ c row ea k er =
       record {
-        stored = c .stored ∙ (λ i. shelfBy (ea i) (there i)) ∙ (λ i. pick (on i) (shelfBy s l) l);
-        told = c .told ∙ (λ i. completedBy (ea i) (there i) (kindOf (ea i .setup))) ∙ (λ i. pick (on i) (completedBy s l (kindOf (s .setup))) (record { note = 0; kept = kept; chosen = chosen }));
+        stored = k .stored ∙ (λ i. shelfBy (ea i) (there i)) ∙ (λ i. pick (sym q i) (shelfBy s l) l);
+        note = ap (λ (x : Completed). x .note) (k .told) ∙ (λ i. noteBy (ea i) (there i)) ∙ (λ i. pick (sym q i) (noteBy s l) 0);
+        row = er ∙ row-still (kindOf (a .setup)) a h h₁ c d k ∙ (λ i. rowBy (ea i) (there i) d) ∙ (λ i. pick (sym q i) (rowBy s l d) d);
       }
 
-  pub unshelved : b ≡ false → Shelves p kept chosen packet shelf h (record { note = 0; kept = kept; chosen = chosen })
+  pub unshelved : t .asks ≡ false → Shelves t d packet shelf h (record { note = 0; row = d })
   unshelved q =
-      let on = sym q ∙ same in
-      let s = askedWith p kept chosen in
-      let l = laidShelf p packet shelf in
       record {
-        stored = there ∙ (λ i. pick (on i) (shelfBy s l) l);
-        told = λ i. pick (on i) (completedBy s l (kindOf (s .setup))) (record { note = 0; kept = kept; chosen = chosen });
+        stored = there ∙ (λ i. pick (sym q i) (shelfBy s l) l);
+        note = λ i. pick (sym q i) (noteBy s l) 0;
+        row = λ i. pick (sym q i) (rowBy s l d) d;
       }

@@ -1,47 +1,52 @@
--- What `shelve` leaves is what the rules leave: the shelf after a packet, the note of a request's row, and the row of its device.
+-- What `shelve` leaves, by the plan of a packet, is what the rules leave: the shelf after it, the note of a request's row, and the row of its device.
 -- Assumes nothing.
 use Prim.Native.Nat.{ℕ, _*_}
-use mathlib.Core.Path.{_≡_, sym, ap, _∙_}
+use mathlib.Core.Path.{_≡_, refl, sym, ap, _∙_}
 use mathlib.Core.Bool.{Bool, true, false}
 use mathlib.Core.List.{List}
+use Rattle.usb.specs.Packet.{payloadOf}
 use Rattle.transaction.specs.Table.{pick}
 use Rattle.details.specs.declared.Device.{Device}
-use Rattle.descriptors.specs.Kind.{kindOf}
-use Rattle.descriptors.specs.Complete.{completedBy, CompletesAs, deviceBy, rowWith, noteBy, rowBy, shelfBy}
-use Rattle.descriptors.specs.RowLaws.{row-still}
+use Rattle.descriptors.specs.Laid.{laid}
+use Rattle.descriptors.specs.Complete.{noteBy, rowBy, shelfBy}
 use Rattle.descriptors.specs.declared.complete.Asked.{Asked}
-use Rattle.descriptors.specs.declared.complete.Completed.{Completed}
+use Rattle.endpoints.specs.declared.Endpoint.{Endpoint}
 use Rattle.rules.specs.World.{World}
 use Rattle.rules.specs.Decoder.{handleRawPacket}
-use Rattle.rules.specs.Transactions.{isDropped}
-use Rattle.plan.specs.Devices.{lengthOf}
-use Rattle.plan.specs.Packet.{planOf, kept as laden}
+use Rattle.rules.specs.Transactions.{isDropped, shelfWith}
+use Rattle.plan.specs.Devices.{lengthOf, askedBy}
+use Rattle.plan.specs.Packet.{keeps, planOf, kept as laden}
 use Rattle.plan.specs.declared.Plan.{Plan}
 use Rattle.plan.proofs.Devices.{deviceBegun, askedClose, played-shelf}
 use Rattle.plan.proofs.Packet.{plan-shelf, packet-laden}
-use Rattle.shelving.specs.Shelve.{isAsked, askedWith, laidShelf, Shelves}
+use Rattle.shelving.specs.Shelve.{isAsked, readingOf, askedWith, laidShelf, Shelves}
+use Rattle.shelving.specs.declared.Shelved.{Shelved}
 
--- a request that completes: what `complete` was told to do, on the shelf with the packet's payload
-module _ (p : Plan) (kept chosen : ℕ) (packet shelf h : List ℕ) (r : Completed) (s : Shelves p kept chosen packet shelf h r) (on : isAsked p ≡ true) where
-  abbrev a : Asked
-  a = askedWith p kept chosen
+-- the device is only named where something is done for it
+module _ (p : Plan) where
+  pub laid-same : (packet shelf : List ℕ) → laidShelf (readingOf p) packet shelf ≡ shelfWith (keeps p) (p .end .entry) packet shelf
+  laid-same packet shelf = by (keeps p)
+    where
+      e : Endpoint
+      e = p .end .entry
 
-  abbrev l : List ℕ
-  l = laidShelf p packet shelf
+      by : (b : Bool) → pick b (laid (pick b (e .device) 0 * 8192) (e .payload) (payloadOf packet) shelf) shelf ≡ shelfWith b e packet shelf
+      by true = refl
+      by false = refl
 
-  completes : CompletesAs (kindOf (a .setup)) a l h r
-  completes =
-      record {
-        stored = s .stored ∙ (λ i. pick (on i) (shelfBy a l) l);
-        told = s .told ∙ (λ i. pick (on i) (completedBy a l (kindOf (a .setup))) (record { note = 0; kept = kept; chosen = chosen }));
-      }
+  -- what is asked: of the row d
+  asked-at : (b : Bool) (d : Device) → Asked
+  asked-at b d =
+      record { setup = p .close .entry .setup; length = lengthOf (p .close .effect); start = pick b (p .close .entry .device) 0 * 8192; kept = d .kept; chosen = d .chosen }
 
-  pub note-told : r .note ≡ noteBy a l
-  note-told = ap (λ (c : Completed). c .note) (completes .told)
-
-  -- the owner of the devices may make the row when the shelf has been written
-  pub row-told : (d : Device) → rowWith r (deviceBy (kindOf (a .setup)) a h d) ≡ rowBy a l d
-  row-told d = row-still (kindOf (a .setup)) a l h r d completes
+  asked-same : {A : Type 0} (f : Asked → A) (x : A) (d : Device)
+      → pick (isAsked p) (f (askedWith (readingOf p) (d .kept) (d .chosen))) x ≡ pick (isAsked p) (f (asked-at true d)) x
+  unfolding asked-at
+  asked-same f x d = by (isAsked p)
+    where
+      by : (b : Bool) → pick b (f (asked-at b d)) x ≡ pick b (f (asked-at true d)) x
+      by true = refl
+      by false = refl
 
 module _ (packet : List ℕ) (time : ℕ) (w : World) where
   -- the world with the packet's payload on the shelf, and the plan of the packet there
@@ -58,27 +63,36 @@ module _ (packet : List ℕ) (time : ℕ) (w : World) where
   abbrev pub rowOf : Device
   rowOf = deviceBegun packet time v (plan .close .entry .device)
 
-  module _ (kept chosen : ℕ) (ek : kept ≡ rowOf .kept) (ec : chosen ≡ rowOf .chosen) where
-    pub asked-is : askedWith (planOf packet w) kept chosen ≡ askedClose packet time v
-    asked-is i =
-        let p = sym same i in
-        record { setup = p .close .entry .setup; length = lengthOf (p .close .effect); start = p .close .entry .device * 8192; kept = ek i; chosen = ec i }
+  module _ (h : List ℕ) (r : Shelved) (s : Shelves (readingOf (planOf packet w)) rowOf packet (w .shelf) h r) where
+    abbrev p : Plan
+    p = planOf packet w
+
+    abbrev b : Bool
+    b = isAsked p
+
+    -- of a part of what is done, on the shelf with the payload and by what is asked
+    as-ruled : {A : Type 0} (f : Asked → List ℕ → A) (g : List ℕ → A) (y : A)
+        → y ≡ pick b (f (askedWith (readingOf p) (rowOf .kept) (rowOf .chosen)) (laidShelf (readingOf p) packet (w .shelf))) (g (laidShelf (readingOf p) packet (w .shelf)))
+        → y ≡ pick (isAsked plan) (f (askedClose packet time v) (v .shelf)) (g (v .shelf))
+    unfolding asked-at
+    as-ruled f g y e =
+        let l = laid-same p packet (w .shelf) in
+        e
+        ∙ (λ i. pick b (f (askedWith (readingOf p) (rowOf .kept) (rowOf .chosen)) (l i)) (g (l i)))
+        ∙ asked-same p (λ a. f a (v .shelf)) (g (v .shelf)) rowOf
+        ∙ (λ i. pick (isAsked (sym same i)) (f (record { setup = sym same i .close .entry .setup; length = lengthOf (sym same i .close .effect); start = sym same i .close .entry .device * 8192; kept = rowOf .kept; chosen = rowOf .chosen }) (v .shelf)) (g (v .shelf)))
 
     -- the shelf
-    pub shelf-is : isDropped (w .slot) (w .transaction) ≡ false → (h : List ℕ) (r : Completed) → Shelves (planOf packet w) kept chosen packet (w .shelf) h r
-        → h ≡ handleRawPacket packet time w .shelf
-    shelf-is go h r s =
-        s .stored
-        ∙ (λ i. pick (isAsked (sym same i)) (shelfBy (asked-is i) (v .shelf)) (v .shelf))
+    pub shelf-is : isDropped (w .slot) (w .transaction) ≡ false → h ≡ handleRawPacket packet time w .shelf
+    shelf-is go =
+        as-ruled (λ a l. shelfBy a l) (λ l. l) h (s .stored)
         ∙ sym (played-shelf packet time v)
         ∙ sym (ap (λ (u : World). u .shelf) (packet-laden packet time w go))
 
-    -- and of a request that completes the note
-    pub note-is : (h : List ℕ) (r : Completed) → Shelves (planOf packet w) kept chosen packet (w .shelf) h r → isAsked (planOf packet w) ≡ true
-        → r .note ≡ noteBy (askedClose packet time v) (v .shelf)
-    note-is h r s on = note-told (planOf packet w) kept chosen packet (w .shelf) h r s on ∙ λ i. noteBy (asked-is i) (v .shelf)
+    -- the note
+    pub note-is : r .note ≡ pick (isAsked plan) (noteBy (askedClose packet time v) (v .shelf)) 0
+    note-is = as-ruled (λ a l. noteBy a l) (λ l. 0) (r .note) (s .note)
 
-    -- and the device's row
-    pub row-is : (h : List ℕ) (r : Completed) → Shelves (planOf packet w) kept chosen packet (w .shelf) h r → isAsked (planOf packet w) ≡ true → (d : Device)
-        → (let a = askedWith (planOf packet w) kept chosen in rowWith r (deviceBy (kindOf (a .setup)) a h d)) ≡ rowBy (askedClose packet time v) (v .shelf) d
-    row-is h r s on d = row-told (planOf packet w) kept chosen packet (w .shelf) h r s on d ∙ λ i. rowBy (asked-is i) (v .shelf) d
+    -- the device's row
+    pub row-is : r .row ≡ pick (isAsked plan) (rowBy (askedClose packet time v) (v .shelf) rowOf) rowOf
+    row-is = as-ruled (λ a l. rowBy a l rowOf) (λ l. rowOf) (r .row) (s .row)

@@ -1,10 +1,12 @@
-// What a packet does to the shelf (change request 2), told by its plan: the payload that it brings to a read is laid by, and a request that completes is read.
+// What a packet does to the shelf and to the row of a device (change request 2): the payload that it brings to a read is laid by, and a request that completes is
+// read. As of the devices, flags and numbers are told by the packet's plan, and the caller, who has the shelf and the devices, does it when the packet is accepted.
 use descriptors::complete::Asked;
-use descriptors::complete::Completed;
 use descriptors::complete::complete;
+use descriptors::complete::row_after;
 use descriptors::payload::is_laid;
 use descriptors::payload::lay;
 use descriptors::request::kind_of;
+use details::Device;
 use endpoints::Endpoint;
 use group::Effect;
 use plan::Plan;
@@ -14,15 +16,34 @@ use transaction::payload::takes_setup;
 use usb::pid::DATA0;
 use usb::pid::DATA1;
 ghost use mathlib.Core.Path.{_≡_};
-ghost use Prim.Native.Nat.{_*_, _+_, _<_, _≤_};
+ghost use Prim.Native.Nat.{_<_, _≤_};
 ghost use lib.ListN.{length};
+ghost use Rattle.transaction.specs.Table.{pick};
 ghost use Rattle.plan.specs.Devices.{asks, lengthOf};
 ghost use Rattle.plan.specs.Packet.{keeps};
-ghost use Rattle.rules.specs.Transactions.{isPayload, isKept, shelfWith};
-ghost use Rattle.shelving.specs.Shelve.{isAsked, askedWith, LongIf, Shelves};
+ghost use Rattle.rules.specs.Transactions.{isPayload, isKept};
+ghost use Rattle.shelving.specs.Shelve.{isAsked, readingOf, askedWith, LongIf, laidShelf, Shelves};
 
 // The bytes of a device's part of the shelf.
-pub const PART: usize = 8192;
+const PART: usize = 8192;
+
+// The packet's payload is laid by where `keeps`: in the part of the device `device`, behind `count` bytes. A request completes where `asks`: on the device `place`,
+// with these setup data and a payload of this length. Where not, the device is the first.
+pub struct Reading {
+    pub keeps: bool,
+    pub device: usize,
+    pub count: usize,
+    pub asks: bool,
+    pub place: usize,
+    pub setup: u64,
+    pub length: u64,
+}
+
+// The note of the request's row, 0 where none completes, and the device's row then.
+pub struct Shelved {
+    pub note: u64,
+    pub row: Device,
+}
 
 // Whether a packet brings a payload that is no setup data.
 fn is_payload(style: Style, pid: u8) -> bool
@@ -43,7 +64,7 @@ fn is_kept(t: Transaction, e: Endpoint, pid: u8) -> bool
 }
 
 // Whether a packet with this plan has its payload laid by.
-pub fn keeps_payload(p: Plan) -> bool
+fn keeps_payload(p: Plan) -> bool
     ensures { λ r. ⌜ r ≡ keeps p ⌝ }
 {
     let begin = p.begin;
@@ -51,21 +72,6 @@ pub fn keeps_payload(p: Plan) -> bool
     let t = begin.transaction;
     let kept = is_kept(p.brought, end.entry, t.last);
     !begin.row & kept
-}
-
-// Behind the bytes of its request that count so far.
-fn lay_payload(shelf: &mut [u8], p: Plan, packet: &[u8])
-    requires { ⌜ 524288 ≤ length (now shelf) ⌝ }
-    requires { ⌜ p .end .entry .device < 64 ⌝ }
-    requires { ⌜ LongIf p (now packet) ⌝ }
-    ensures { λ r. ⌜ now (shelf .exit) ≡ shelfWith (keeps p) (p .end .entry) (now (packet .entry)) (now (shelf .entry)) ⌝ }
-{
-    if keeps_payload(p) {
-        let end = p.end;
-        let e = end.entry;
-        let start = e.device as usize * PART;
-        lay(shelf, start, e.payload as usize, packet);
-    }
 }
 
 // Whether an end is that of a request.
@@ -95,7 +101,7 @@ fn length_of(effect: Effect) -> u64
 }
 
 // Whether a packet with this plan completes a request.
-pub fn is_asked(p: Plan) -> bool
+fn is_asked(p: Plan) -> bool
     ensures { λ r. ⌜ r ≡ isAsked p ⌝ }
 {
     let close = p.close;
@@ -104,41 +110,80 @@ pub fn is_asked(p: Plan) -> bool
     p.closes & request
 }
 
-// What it is asked, by what its device's row says.
-pub fn asked_of(p: Plan, kept: u16, chosen: u16) -> Asked
-    requires { ⌜ p .close .entry .device < 64 ⌝ }
-    ensures { λ r. ⌜ r ≡ askedWith p kept chosen ⌝ }
+// A device that something is done for, else the first.
+fn device_if(on: bool, device: u64) -> usize
+    ensures { λ r. ⌜ r ≡ pick on device 0 ⌝ }
 {
+    if on { device as usize } else { 0 }
+}
+
+// What a packet with this plan does.
+pub fn reading_of(p: Plan) -> Reading
+    ensures { λ r. ⌜ r ≡ readingOf p ⌝ }
+{
+    let end = p.end;
+    let old = end.entry;
     let close = p.close;
     let e = close.entry;
     let effect = close.effect;
+    let keeps = keeps_payload(p);
+    let asks = is_asked(p);
+    let device = device_if(keeps, old.device);
+    let place = device_if(asks, e.device);
     let length = length_of(effect);
-    let start = e.device as usize * PART;
-    Asked {
+    Reading {
+        keeps,
+        device,
+        count: old.payload as usize,
+        asks,
+        place,
         setup: e.setup,
         length,
+    }
+}
+
+// The payload, behind the bytes of its request that count so far.
+fn lay_payload(shelf: &mut [u8], t: Reading, packet: &[u8])
+    requires { ⌜ 524288 ≤ length (now shelf) ⌝ }
+    requires { ⌜ t .device < 64 ⌝ }
+    requires { ⌜ LongIf t (now packet) ⌝ }
+    ensures { λ r. ⌜ now (shelf .exit) ≡ laidShelf t (now (packet .entry)) (now (shelf .entry)) ⌝ }
+{
+    if t.keeps {
+        let start = t.device * PART;
+        lay(shelf, start, t.count, packet);
+    }
+}
+
+// What a request is asked, by the row of its device.
+fn asked_of(t: Reading, kept: u16, chosen: u16) -> Asked
+    requires { ⌜ t .place < 64 ⌝ }
+    ensures { λ r. ⌜ r ≡ askedWith t kept chosen ⌝ }
+{
+    let start = t.place * PART;
+    Asked {
+        setup: t.setup,
+        length: t.length,
         start,
         kept,
         chosen,
     }
 }
 
-// Both, the payload first: the note of the request's row, and what is then left of the device's row but for the details.
-pub fn shelve(shelf: &mut [u8], p: Plan, kept: u16, chosen: u16, packet: &[u8]) -> Completed
+// Both, the payload first; `row` is that of the device `place`.
+pub fn shelve(shelf: &mut [u8], t: Reading, row: Device, packet: &[u8]) -> Shelved
     requires { ⌜ 524288 ≤ length (now shelf) ⌝ }
-    requires { ⌜ p .end .entry .device < 64 ⌝ }
-    requires { ⌜ p .close .entry .device < 64 ⌝ }
-    requires { ⌜ LongIf p (now packet) ⌝ }
-    ensures { λ r. ⌜ Shelves p kept chosen (now (packet .entry)) (now (shelf .entry)) (now (shelf .exit)) r ⌝ }
+    requires { ⌜ t .device < 64 ⌝ }
+    requires { ⌜ t .place < 64 ⌝ }
+    requires { ⌜ LongIf t (now packet) ⌝ }
+    ensures { λ r. ⌜ Shelves t row (now (packet .entry)) (now (shelf .entry)) (now (shelf .exit)) r ⌝ }
 {
-    lay_payload(shelf, p, packet);
-    if is_asked(p) {
-        let a = asked_of(p, kept, chosen);
-        return complete(shelf, a);
+    lay_payload(shelf, t, packet);
+    if t.asks {
+        let a = asked_of(t, row.kept, row.chosen);
+        let c = complete(shelf, a);
+        let row = row_after(row, a, c, shelf);
+        return Shelved { note: c.note, row };
     }
-    Completed {
-        note: 0,
-        kept,
-        chosen,
-    }
+    Shelved { note: 0, row }
 }
