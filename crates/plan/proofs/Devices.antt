@@ -162,7 +162,7 @@ module _ (x : ℕ) (s : End) (w : World) where
   rest : restOf updated ≡ restOf w
   rest = act-rest (s .update) x (change x (becomes (s .entry)) w)
 
-  own-entry : (g : Endpoint → ℕ) → Adding g no no → g (updated .endpoints x) ≡ g (s .entry)
+  pub own-entry : (g : Endpoint → ℕ) → Adding g no no → g (updated .endpoints x) ≡ g (s .entry)
   own-entry g k = act-fixed g k (s .update) x x (change x (becomes (s .entry)) w) ∙ ap (λ (b : Bool). g (pick b (s .entry) (w .endpoints x))) (eq-eqb x x refl)
 
   pub asked-ended : (n : ℕ) → askedOf n x updated ≡ askedAt (s .entry .setup) n (s .entry .device) (w .devices (s .entry .device))
@@ -379,7 +379,7 @@ module _ (packet : List ℕ) (time : ℕ) (w : World) where
   abbrev pub deviceBegun : ℕ → Device
   deviceBegun j = placed (changes (plan .begin)) (plan .begin .place) (rowAfter (plan .begin) (w .devices)) j (w .devices j)
 
-  begun-at : (j : ℕ) → world4 plan packet time w .devices j ≡ deviceBegun j
+  pub begun-at : (j : ℕ) → world4 plan packet time w .devices j ≡ deviceBegun j
   begun-at j =
       begun-devices (w .packets) (plan .begin) (world3 plan packet time w) (λ h. plan-behind w packet h ∙ sym before-count) j
       ∙ (λ i. placed (changes (plan .begin)) (plan .begin .place) (rowAfter (plan .begin) (λ k. before-devices k i)) j (before-devices j i))
@@ -388,7 +388,7 @@ module _ (packet : List ℕ) (time : ℕ) (w : World) where
   begun-many = begun-count (w .packets) (plan .begin) (world3 plan packet time w) ∙ ap (λ (n : ℕ). n + one (plan .begin .device)) before-count
 
   -- the shelf when the packet's own transaction ends
-  shelf-begun : world4 plan packet time w .shelf ≡ w .shelf
+  pub shelf-begun : world4 plan packet time w .shelf ≡ w .shelf
   shelf-begun = begun-shelf (w .packets) (plan .begin) (world3 plan packet time w) ∙ before-shelf
 
   -- what a request that completes is asked, and device j after it

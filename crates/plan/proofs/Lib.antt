@@ -2,6 +2,7 @@ pub mod Frame
 pub mod Quiet
 pub mod Played
 pub mod Devices
+pub mod Requests
 pub mod Ends
 pub mod Alike
 pub mod Starts
