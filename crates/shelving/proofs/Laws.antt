@@ -46,3 +46,7 @@ module _ (t : Reading) (d : Device) (packet shelf h : List ℕ) (there : h ≡ l
         note = λ i. pick (sym q i) (noteBy s l) 0;
         row = λ i. pick (sym q i) (rowBy s l d) d;
       }
+
+-- what is written where a test holds
+pub put-if : (b : Bool) (l x y : List ℕ) → b ≡ true → x ≡ y → x ≡ pick b y l
+put-if b l x y h q = q ∙ ap (λ (c : Bool). pick c y l) (sym h)

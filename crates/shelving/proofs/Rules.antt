@@ -3,7 +3,8 @@
 use Prim.Native.Nat.{ℕ, _*_}
 use mathlib.Core.Path.{_≡_, refl, sym, ap, _∙_}
 use mathlib.Core.Bool.{Bool, true, false}
-use mathlib.Core.List.{List}
+use mathlib.Core.List.{List, [], _++_}
+use lib.Seq.{sets}
 use Rattle.usb.specs.Packet.{payloadOf}
 use Rattle.transaction.specs.Table.{pick}
 use Rattle.details.specs.declared.Device.{Device}
@@ -11,6 +12,7 @@ use Rattle.descriptors.specs.Laid.{laid}
 use Rattle.descriptors.specs.Complete.{noteBy, rowBy, shelfBy}
 use Rattle.descriptors.specs.declared.complete.Asked.{Asked}
 use Rattle.endpoints.specs.declared.Endpoint.{Endpoint}
+use Rattle.rules.specs.Rows.{Row, asking, requestWords, log}
 use Rattle.rules.specs.World.{World}
 use Rattle.rules.specs.Decoder.{handleRawPacket}
 use Rattle.rules.specs.Transactions.{isDropped, shelfWith}
@@ -18,6 +20,7 @@ use Rattle.plan.specs.Devices.{lengthOf, askedBy}
 use Rattle.plan.specs.Packet.{keeps, planOf, kept as laden}
 use Rattle.plan.specs.declared.Plan.{Plan}
 use Rattle.plan.proofs.Devices.{deviceBegun, askedClose, played-shelf}
+use Rattle.plan.proofs.Requests.{played-requests}
 use Rattle.plan.proofs.Packet.{plan-shelf, packet-laden}
 use Rattle.shelving.specs.Shelve.{isAsked, readingOf, askedWith, laidShelf, Shelves}
 use Rattle.shelving.specs.declared.Shelved.{Shelved}
@@ -96,3 +99,20 @@ module _ (packet : List ℕ) (time : ℕ) (w : World) where
     -- the device's row
     pub row-is : r .row ≡ pick (isAsked plan) (rowBy (askedClose packet time v) (v .shelf) rowOf) rowOf
     row-is = as-ruled (λ a l. rowBy a l rowOf) (λ l. rowOf) (r .row) (s .row)
+
+    -- and the row itself, in a log of requests that has n words
+    pub request-is : isDropped (w .slot) (w .transaction) ≡ false → w .journal ≡ [] → (requests : List ℕ) (n : ℕ)
+        → pick (readingOf p .asks) (sets requests n (requestWords (asking (readingOf p .endpoint) (readingOf p .setup) (readingOf p .length) (r .note)))) requests
+        ≡ sets requests n (log 11 (handleRawPacket packet time w .journal))
+    request-is go empty requests n =
+        (λ i. let q = sym same i in pick (isAsked q) (sets requests n (requestWords (asking (q .begin .transaction .endpoint) (q .close .entry .setup) (lengthOf (q .close .effect)) (note-is i)))) requests)
+        ∙ by (isAsked plan)
+        ∙ sym (ap (sets requests n)
+        (ap (λ (u : World). log 11 (u .journal)) (packet-laden packet time w go) ∙ played-requests packet time v ∙ ap (λ (js : List Row). log 11 js ++ pick (isAsked plan) row []) empty))
+      where
+        row : List ℕ
+        row = requestWords (asking (plan .begin .transaction .endpoint) (plan .close .entry .setup) (lengthOf (plan .close .effect)) (noteBy (askedClose packet time v) (v .shelf)))
+
+        by : (c : Bool) → pick c (sets requests n (requestWords (asking (plan .begin .transaction .endpoint) (plan .close .entry .setup) (lengthOf (plan .close .effect)) (pick c (noteBy (askedClose packet time v) (v .shelf)) 0)))) requests ≡ sets requests n ([] ++ pick c row [])
+        by true = refl
+        by false = refl

@@ -1,10 +1,11 @@
 -- Inner (cited by private contracts alone): what a packet does to the shelf and to the row of a device, by its plan.
 -- Assumes nothing.
-use Prim.Native.Nat.{ℕ, _*_, _≤_}
+use Prim.Native.Nat.{ℕ, _+_, _*_, _≤_}
 use mathlib.Core.Path.{_≡_}
 use mathlib.Core.Bool.{Bool, true, _&&_}
 use mathlib.Core.List.{List}
 use lib.ListN.{length}
+use Rattle.rows.specs.Widths.{requestWidth}
 use Rattle.usb.specs.Packet.{payloadOf}
 use Rattle.transaction.specs.Table.{pick}
 use Rattle.details.specs.declared.Device.{Device}
@@ -29,6 +30,7 @@ readingOf p =
       device = pick (keeps p) (p .end .entry .device) 0;
       count = p .end .entry .payload;
       asks = isAsked p;
+      endpoint = p .begin .transaction .endpoint;
       place = pick (isAsked p) (p .close .entry .device) 0;
       setup = p .close .entry .setup;
       length = lengthOf (p .close .effect);
@@ -37,6 +39,10 @@ readingOf p =
 -- a payload that is laid by is that of a data packet: a PID and two bytes of CRC
 abbrev pub LongIf : Reading → List ℕ → Type 0
 LongIf t packet = t .keeps ≡ true → 3 ≤ length packet
+
+-- the log of requests has room for row `at`, where one is written
+abbrev pub RoomIf : Reading → ℕ → List ℕ → Type 0
+RoomIf t at requests = t .asks ≡ true → (at + 1) * requestWidth ≤ length requests
 
 -- the shelf with the packet's payload
 abbrev pub laidShelf : Reading → List ℕ → List ℕ → List ℕ

@@ -10,30 +10,35 @@ use details::Device;
 use endpoints::Endpoint;
 use group::Effect;
 use plan::Plan;
+use rows::width;
 use transaction::Style;
 use transaction::Transaction;
 use transaction::payload::takes_setup;
 use usb::pid::DATA0;
 use usb::pid::DATA1;
 ghost use mathlib.Core.Path.{_≡_};
-ghost use Prim.Native.Nat.{_<_, _≤_};
+ghost use Prim.Native.Nat.{_*_, _<_, _≤_};
 ghost use lib.ListN.{length};
+ghost use lib.Seq.{sets};
+ghost use Rattle.rows.specs.Widths.{requestWidth};
 ghost use Rattle.transaction.specs.Table.{pick};
 ghost use Rattle.plan.specs.Devices.{asks, lengthOf};
 ghost use Rattle.plan.specs.Packet.{keeps};
+ghost use Rattle.rules.specs.Rows.{asking, requestWords};
 ghost use Rattle.rules.specs.Transactions.{isPayload, isKept};
-ghost use Rattle.shelving.specs.Shelve.{isAsked, readingOf, askedWith, LongIf, laidShelf, Shelves};
+ghost use Rattle.shelving.specs.Shelve.{isAsked, readingOf, askedWith, LongIf, RoomIf, laidShelf, Shelves};
 
 // The bytes of a device's part of the shelf.
 const PART: usize = 8192;
 
 // The packet's payload is laid by where `keeps`: in the part of the device `device`, behind `count` bytes. A request completes where `asks`: on the device `place`,
-// with these setup data and a payload of this length. Where not, the device is the first.
+// with these setup data and a payload of this length, on the endpoint `endpoint`. Where not, the device is the first.
 pub struct Reading {
     pub keeps: bool,
     pub device: usize,
     pub count: usize,
     pub asks: bool,
+    pub endpoint: usize,
     pub place: usize,
     pub setup: u64,
     pub length: u64,
@@ -121,6 +126,8 @@ fn device_if(on: bool, device: u64) -> usize
 pub fn reading_of(p: Plan) -> Reading
     ensures { λ r. ⌜ r ≡ readingOf p ⌝ }
 {
+    let begin = p.begin;
+    let t = begin.transaction;
     let end = p.end;
     let old = end.entry;
     let close = p.close;
@@ -136,6 +143,7 @@ pub fn reading_of(p: Plan) -> Reading
         device,
         count: old.payload as usize,
         asks,
+        endpoint: t.endpoint,
         place,
         setup: e.setup,
         length,
@@ -186,4 +194,21 @@ pub fn shelve(shelf: &mut [u8], t: Reading, row: Device, packet: &[u8]) -> Shelv
         return Shelved { note: c.note, row };
     }
     Shelved { note: 0, row }
+}
+
+// The row of a request that completes, as row `at`.
+pub fn put_request(requests: &mut [u64], at: usize, t: Reading, note: u64)
+    requires { ⌜ RoomIf t at (now requests) ⌝ }
+    ensures { λ r. ⌜ now (requests .exit) ≡ pick (t .asks) (sets (now (requests .entry)) (at * requestWidth) (requestWords (asking (t .endpoint) (t .setup) (t .length) note))) (now (requests .entry)) ⌝ }
+{
+    if t.asks {
+        rows::put4(
+            requests,
+            at * width::REQUEST,
+            t.endpoint as u64,
+            t.setup,
+            t.length,
+            note,
+        );
+    }
 }

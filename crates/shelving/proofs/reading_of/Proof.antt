@@ -24,7 +24,7 @@ length-of-requires : tie.Need-length-of-requires
 length-of-requires c κs = search needs
 
 returns : tie.Need-returns
-returns c = let p = c .before .before .before .before .before .before .before .before .before .args .p in let k = c .before .before .before .before .keeps-payload .ensures in let q = c .before .before .before .is-asked .ensures in let d = c .before .before .device-if .ensures ∙ ap (λ (x : Bool). pick x (p .end .entry .device) 0) k in let e = c .before .device-if2 .ensures ∙ ap (λ (x : Bool). pick x (p .close .entry .device) 0) q in let n = c .length-of .ensures in λ i. record { keeps = k i; device = d i; count = p .end .entry .payload; asks = q i; place = e i; setup = p .close .entry .setup; length = n i }
+returns c = let p = c .before .before .before .before .before .before .before .before .before .before .before .args .p in let k = c .before .before .before .before .keeps-payload .ensures in let q = c .before .before .before .is-asked .ensures in let d = c .before .before .device-if .ensures ∙ ap (λ (x : Bool). pick x (p .end .entry .device) 0) k in let e = c .before .device-if2 .ensures ∙ ap (λ (x : Bool). pick x (p .close .entry .device) 0) q in let n = c .length-of .ensures in λ i. record { keeps = k i; device = d i; count = p .end .entry .payload; asks = q i; endpoint = p .begin .transaction .endpoint; place = e i; setup = p .close .entry .setup; length = n i }
 
 pub reading-of-spec : {M : Type 1} → statement M
 reading-of-spec =
