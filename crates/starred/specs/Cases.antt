@@ -124,7 +124,7 @@ read type len =
     }
 
 abbrev pub detail : ℕ → ℕ → Detail
-detail type size = record { kind = type; max = size }
+detail type size = record { kind = type; given = false; max = size }
 
 -- ---- calls
 

@@ -38,7 +38,7 @@ use Rattle.tally.specs.Suited.{BeginSuits, EndSuits, PlanSuits, EndingSu
 
 -- what is no row changes no tally: slot, transaction, event state, keepalive group, context and details
 pub same-adds : {t : Tally} {w₀ w : World} (s : Slot) (x : Transaction) (e : EventState) (k : Bool) (c : Stamp) (d : ℕ → Device) → Adds t w₀ w
-    → Adds t w₀ (record { endpoints = w .endpoints; count = w .count; devices = d; deviceCount = w .deviceCount; slot = s; transaction = x; lastItem = w .lastItem; eventState = e; keepalive = k; context = c; bytes = w .bytes; packets = w .packets; transactions = w .transactions; groups = w .groups; stateBytes = w .stateBytes; items = w .items; journal = w .journal })
+    → Adds t w₀ (record { endpoints = w .endpoints; count = w .count; devices = d; deviceCount = w .deviceCount; slot = s; transaction = x; lastItem = w .lastItem; eventState = e; keepalive = k; context = c; shelf = w .shelf; bytes = w .bytes; packets = w .packets; transactions = w .transactions; groups = w .groups; stateBytes = w .stateBytes; items = w .items; journal = w .journal })
 same-adds s x e k c d a = record { words = a .words; waiting = a .waiting; bytes = a .bytes; devices = a .devices; endpoints = a .endpoints; packets = a .packets; transactions = a .transactions; groups = a .groups; statebytes = a .statebytes; items = a .items }
 
 -- nor where the call began with another context
