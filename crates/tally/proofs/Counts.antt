@@ -6,6 +6,7 @@ use Prim.Native.Nat.{ℕ, _+_, _/_}
 use native.Mathlib.Omega.{arith}
 use lib.ListN.{length}
 use Rattle.details.specs.declared.Device.{Device}
+use Rattle.rows.specs.Widths.{requestWidth}
 use Rattle.rules.specs.Rows.{Row, log}
 use Rattle.rules.specs.World.{World}
 use Rattle.tally.specs.Tally.{wordsIn, inLog, wordsFor, Adds}
@@ -52,7 +53,7 @@ module _ {n : Counts} {t : Tally} {w v : World} (h : Has n w) (a : Adds t w v) w
   unfolding inLog
   links = let e = words 10 in omega arith
 
-  requests : length (log 11 (v .journal)) / 3 ≡ t .requests
+  requests : length (log 11 (v .journal)) / requestWidth ≡ t .requests
   unfolding inLog
   requests = let e = words 11 in omega arith
 
