@@ -29,14 +29,18 @@ passes false true kind e = absurd (omega arith)
 passes false false true e = absurd (omega arith)
 passes false false false e = (refl, (refl, refl))
 
-module _ (s : State) (room : Counts) (kind a : ℕ) (r : room ≡ roomOf (s .logs)) (h : a ≡ firstTests (s .decoder) (s .devices) (s .table) room kind 7 4) where
-  first-is : a ≡ cond (isIll s) 1 (cond (s .decoder .finished) 2 (cond (ltb 7 kind) 4 0))
-  first-is = h ∙ ap (λ (b : Bool). cond b 1 (cond (s .decoder .finished) 2 (cond (ltb 7 kind) 4 0))) (ill-by s room r)
+-- what both calls answer by their first tests
+abbrev pub First : State → ℕ → ℕ → Type 0
+First s kind a = a ≡ cond (isIll s) 1 (cond (s .decoder .finished) 2 (cond (ltb 7 kind) 4 0))
+
+module _ (s : State) (kind a : ℕ) where
+  pub first-is : (room : Counts) → room ≡ roomOf (s .logs) → a ≡ firstTests (s .decoder) (s .devices) (s .table) room kind 7 4 → First s kind a
+  first-is room r h = h ∙ ap (λ (b : Bool). cond b 1 (cond (s .decoder .finished) 2 (cond (ltb 7 kind) 4 0))) (ill-by s room r)
 
   -- another answer than 0: whatever the rules would leave, all is as it was
-  pub first-refuses : (a ≡ 0 → ⊥) → (full over : Bool) (w : World) (f : Bool) → Answers (eventTests (isIll s) (s .decoder .finished) kind full over) w f s a s
+  pub first-refuses : (a ≡ 0 → ⊥) → First s kind a → (full over : Bool) (w : World) (f : Bool) → Answers (eventTests (isIll s) (s .decoder .finished) kind full over) w f s a s
   unfolding firstOf
-  first-refuses n full over w f = let g = refuses (isIll s) (s .decoder .finished) (ltb 7 kind) a first-is n (cond full 7 (cond over 9 0)) in refused a (g .0) (g .1)
+  first-refuses n h full over w f = let g = refuses (isIll s) (s .decoder .finished) (ltb 7 kind) a h n (cond full 7 (cond over 9 0)) in refused a (g .0) (g .1)
 
-  pub first-passes : a ≡ 0 → (isIll s ≡ false) × ((s .decoder .finished ≡ false) × (ltb 7 kind ≡ false))
-  first-passes z = passes (isIll s) (s .decoder .finished) (ltb 7 kind) (sym first-is ∙ z)
+  pub first-passes : First s kind a → a ≡ 0 → (isIll s ≡ false) × ((s .decoder .finished ≡ false) × (ltb 7 kind ≡ false))
+  first-passes h z = passes (isIll s) (s .decoder .finished) (ltb 7 kind) (sym h ∙ z)

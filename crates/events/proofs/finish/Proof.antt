@@ -1,6 +1,6 @@
 -- `events::finish` meets its contract: the first tests (Refuses), and `finish_in` past them.
 use Rattle.call.specs.State.{State, state, logs}
-use Rattle.events.proofs.Refuses.{first-refuses, first-passes}
+use Rattle.events.proofs.Refuses.{First, first-is, first-refuses, first-passes}
 use Rattle.events.proofs.finish.Statement.{statement}
 use Rattle.events.proofs.finish.Tie as tie
 mod Places
@@ -12,12 +12,15 @@ begun s =
     state (s .args .d) (s .args .devices) (s .args .table .now)
     (logs (s .args .bytes .now) (s .args .device-rows .now) (s .args .endpoint-rows .now) (s .args .packets .now) (s .args .events .now) (s .args .transactions .now) (s .args .groups .now) (s .args .statebytes .now) (s .args .states .now) (s .args .items .now) (s .args .links .now) (s .args .requests .now))
 
+tested : (c : tie.After-first-tests) → First (begun (first-tests·Start c)) 0 (c .first-tests .result)
+tested c = first-is (begun (first-tests·Start c)) 0 _ _ (first-tests·room-of c .room-of .ensures) (c .first-tests .ensures)
+
 returns : tie.Need-returns
-returns c = first-refuses (begun (returns·Start c)) _ 0 _ (returns·room-of c .room-of .ensures) (returns·first-tests c .first-tests .ensures) (c .if1 .taken) _ _ _ _
+returns c = first-refuses (begun (returns·Start c)) 0 (returns·first-tests c .first-tests .result) (c .if1 .taken) (tested (returns·first-tests c)) _ _ _ _
 
 finish-in-requires : tie.Need-finish-in-requires
 finish-in-requires c κs =
-    let p = first-passes (begun (finish-in-requires·Start c)) _ 0 _ (finish-in-requires·room-of c .room-of .ensures) (finish-in-requires·first-tests c .first-tests .ensures) (finish-in-requires·Else1 c .if1 .left) in
+    let p = first-passes (begun (finish-in-requires·Start c)) 0 _ (tested (finish-in-requires·first-tests c)) (finish-in-requires·Else1 c .if1 .left) in
     (p .0, p .1 .0)
 
 same-length : tie.Need-same-length
