@@ -1,11 +1,9 @@
 -- A begin-only packet leaves what specs/Begin.antt says: `begin-only-call`.
 use mathlib.Core.Path.{_≡_, refl, sym, ap, subst, _∙_}
-use mathlib.Core.Bool.{Bool, true, false, _&&_}
+use mathlib.Core.Bool.{Bool, true, false}
 use mathlib.Core.List.{List, [], _∷_}
 use Prim.Native.Nat.{ℕ, _+_, _*_, _/_, _^_, _<_, _≤_}
 use native.Mathlib.Omega.{arith}
-use borrow.Author.Tests.{leb-true}
-use lib.Dec.{leb}
 use lib.ListN.{length}
 use lib.Seq.{sets}
 use Rattle.rows.specs.One.{one}
@@ -18,9 +16,7 @@ use Rattle.rules.specs.declared.Slot.{Slot}
 use Rattle.rules.specs.declared.Slot.the-variants.{Current}
 use Rattle.tally.specs.Tally.{tallyUpdate}
 use Rattle.write_update.specs.Carried.{opened, closed}
-use Rattle.record.specs.Bools.{both}
-use Rattle.record.specs.Room.{fitting, mostNumber, numbered}
-use Rattle.record.specs.RoomLaws.{Within, Numbered, fitting-within, is-numbered}
+use Rattle.record.specs.RoomLaws.{Within, Numbered}
 use Rattle.record.specs.declared.Counts.{Counts}
 use Rattle.record.specs.declared.Decoder.{Decoder}
 use Rattle.plan.specs.Packet.{planOf}
@@ -29,15 +25,17 @@ use Rattle.call.specs.Outcome.{worldAt}
 use Rattle.call.specs.State.{State, state, logs, heldAt, roomBy, roomOf}
 use Rattle.endpoints.specs.Link.{T}
 use Rattle.tally.specs.Passes.{planPasses}
-use Rattle.tally.specs.Tallies.{tallyPlan, tallyBegin, addCounts, roomFor}
+use Rattle.tally.specs.Tallies.{tallyPlan, tallyBegin, addCounts}
 use Rattle.write_packet.specs.Desk.{begunDesk}
 use Rattle.write_packet.specs.Asked.{PlanAsks}
 use Rattle.packet.specs.After.{sumBy, sumPlan, tallyOf, handOf, changeBy, isChange}
 use Rattle.packet.proofs.Answers.{deskBy}
 use Rattle.packet.specs.Call.{PacketCall}
 use Rattle.packet.specs.declared.sum.Sum.{Sum}
-use Rattle.quick.specs.Begin.{onlyBegin, BeginOnly, beginCounts, mostNumbers, beginRoom, beginDecoder, beginTable, beginState, BeginFits, BeginRoom}
+use Rattle.quick.specs.Begin.{onlyBegin, BeginOnly, beginDecoder, beginTable, beginState}
+use Rattle.quick.specs.Room.{moreRows, RowsFit, RowsRoom}
 use Rattle.quick.proofs.Calls.{Enters, well, leftWith, shape-asks, shape-rows, shape-call}
+use Rattle.quick.proofs.Fit.{plain, room-by}
 
 -- ---- the shape
 
@@ -69,47 +67,11 @@ shape {p} h =
 
 -- ---- the sum
 
--- nothing more of the other kinds
-plain : (n : Counts) (len a b : ℕ) → _≡_ {A = Counts}
-    (record { bytes = n .bytes + (0 + len); devices = n .devices + 0; endpoints = n .endpoints + 0; packets = n .packets + 1; events = n .events + 0; transactions = n .transactions + a; groups = n .groups + 0; statebytes = n .statebytes + 0; states = n .states + 0; items = n .items + 0; links = n .links + b; requests = n .requests + 0 })
-    (record { bytes = n .bytes + len; devices = n .devices; endpoints = n .endpoints; packets = n .packets + 1; events = n .events; transactions = n .transactions + a; groups = n .groups; statebytes = n .statebytes; states = n .states; items = n .items; links = n .links + b; requests = n .requests })
-plain n len a b =
-    let same : (m : ℕ) → m + 0 ≡ m = λ m. omega arith in
-    let long : n .bytes + (0 + len) ≡ n .bytes + len = omega arith in
-    λ i. record { bytes = long i; devices = same (n .devices) i; endpoints = same (n .endpoints) i; packets = n .packets + 1; events = same (n .events) i; transactions = n .transactions + a; groups = same (n .groups) i; statebytes = same (n .statebytes) i; states = same (n .states) i; items = same (n .items) i; links = n .links + b; requests = same (n .requests) i }
-
--- the rows, of those that fitted before
-fits-by : (row l : Bool) (len : ℕ) (n room : Counts) → Within n room → BeginFits row l len n room → fitting (beginCounts row l len n) room ≡ true
-fits-by row l len n room w f =
-    fitting-within (beginCounts row l len n) room
-    (record {
-      bytes = f .bytes;
-      devices = w .devices;
-      fewDevices = w .fewDevices;
-      endpoints = w .endpoints;
-      fewEndpoints = w .fewEndpoints;
-      packets = f .packets;
-      events = w .events;
-      transactions = f .transactions;
-      groups = w .groups;
-      statebytes = w .statebytes;
-      states = w .states;
-      items = w .items;
-      links = f .links;
-      requests = w .requests;
-    })
-
--- and their numbers
-numbers-by : (row l : Bool) (len : ℕ) (n : Counts) → Numbered n → BeginFits row l len n mostNumbers → numbered (beginCounts row l len n) ≡ true
-numbers-by row l len n m f =
-    is-numbered (beginCounts row l len n)
-    (record { bytes = f .bytes; packets = f .packets; events = m .events; transactions = f .transactions; groups = m .groups; statebytes = m .statebytes; states = m .states; items = m .items; links = f .links })
-
 abbrev pub beginSum : Bool → Bool → ℕ → Decoder → Sum
-beginSum row l len d = record { answer = 0; counts = beginCounts row l len (d .counts); waiting = d .waiting }
+beginSum row l len d = record { answer = 0; counts = moreRows (one row) (one l) len (d .counts); waiting = d .waiting }
 
 module _ (p : Plan) (t : Transaction) (slot : Slot) (d : Decoder) (len : ℕ) where
-  counts-by : (row l : Bool) (n : Counts) → addCounts n (tallyOf d (onlyBegin p row t l slot) len) ≡ beginCounts row l len n
+  counts-by : (row l : Bool) (n : Counts) → addCounts n (tallyOf d (onlyBegin p row t l slot) len) ≡ moreRows (one row) (one l) len n
   unfolding addCounts tallyPlan tallyBegin tallyUpdate
   counts-by true true n = plain n len 1 1
   counts-by true false n = plain n len 1 0
@@ -123,18 +85,11 @@ module _ (p : Plan) (t : Transaction) (slot : Slot) (d : Decoder) (len : ℕ) wh
   waiting-by false true = refl
   waiting-by false false = refl
 
-  -- the room, of rows and numbers that fitted before
-  room-by : (row l : Bool) (held room : Counts) → Within held room → Numbered (d .counts) → BeginRoom row l len held (d .counts) room → roomFor held (d .counts) (tallyOf d (onlyBegin p row t l slot) len) room ≡ true
-  room-by row l held room w m f =
-      let a : fitting (addCounts held (tallyOf d (onlyBegin p row t l slot) len)) room ≡ true = ap (λ (n : Counts). fitting n room) (counts-by row l held) ∙ fits-by row l len held room w (f .rows) in
-      let b : numbered (addCounts (d .counts) (tallyOf d (onlyBegin p row t l slot) len)) ≡ true = ap numbered (counts-by row l (d .counts)) ∙ numbers-by row l len (d .counts) m (f .numbers) in
-      λ i. a i && b i
-
-  pub sum-by : (row l : Bool) (held room : Counts) → Within held room → Numbered (d .counts) → BeginRoom row l len held (d .counts) room
+  pub sum-by : (row l : Bool) (held room : Counts) → Within held room → Numbered (d .counts) → RowsRoom (one row) (one l) len held (d .counts) room
       → sumPlan d held (onlyBegin p row t l slot) len room ≡ beginSum row l len d
   unfolding sumPlan planPasses
   sum-by row l held room w m f =
-      ap (λ (b : Bool). sumBy b false d (tallyOf d (onlyBegin p row t l slot) len)) (room-by row l held room w m f)
+      ap (λ (b : Bool). sumBy b false d (tallyOf d (onlyBegin p row t l slot) len)) (room-by (one row) (one l) len (tallyOf d (onlyBegin p row t l slot) len) held (d .counts) room (counts-by row l) w m f)
       ∙ λ i. record { answer = 0; counts = counts-by row l (d .counts) i; waiting = waiting-by row l i }
 
 -- ---- the steps
@@ -162,7 +117,7 @@ pub record BeginPlan (packet : List ℕ) (time : ℕ) (s : State) (row : Bool) (
   pub wants : PlanAsks plan (deskBy (handOf time (s .decoder) (heldAt s) (s .table)) s) → BeginWants s t l
 
 module _ (packet : List ℕ) (time : ℕ) (s : State) (h : Enters packet s) where
-  pub only-plan : {row : Bool} {t : Transaction} {l : Bool} → BeginOnly (planOf packet (worldAt s)) row t l Current → BeginRoom row l (length packet) (heldAt s) (s .decoder .counts) (roomOf (s .logs)) → BeginPlan packet time s row t l
+  pub only-plan : {row : Bool} {t : Transaction} {l : Bool} → BeginOnly (planOf packet (worldAt s)) row t l Current → RowsRoom (one row) (one l) (length packet) (heldAt s) (s .decoder .counts) (roomOf (s .logs)) → BeginPlan packet time s row t l
   only-plan {row} {t} {l} q f =
       record {
         plan = onlyBegin (planOf packet (worldAt s)) row t l Current;
@@ -202,29 +157,7 @@ module _ (packet : List ℕ) (time : ℕ) (s : State) (h : Enters packet s) wher
         let p6 = q6 ∙ ap (λ (h : Counts). sets (s .logs .links) (h .links * linkWidth) (opt l (T ∷ t .endpoint ∷ t .id ∷ 0 ∷ []))) e in
         begin-call (λ i. state (p1 i) (s .devices) (p2 i) (logs (p3 i) (s .logs .devices) (s .logs .endpoints) (p4 i) (s .logs .events) (p5 i) (s .logs .groups) (s .logs .statebytes) (s .logs .states) (s .logs .items) (p6 i) (s .logs .requests)))
 
-pub begin-more : (s : State) (row l : Bool) (len : ℕ) → BeginFits row l len (heldAt s) (roomOf (s .logs))
+pub begin-more : (s : State) (row l : Bool) (len : ℕ) → RowsFit (one row) (one l) len (heldAt s) (roomOf (s .logs))
     → ((heldAt s .transactions + one row) * transactionWidth ≤ length (s .logs .transactions)) × ((heldAt s .links + one l) * linkWidth ≤ length (s .logs .links))
 unfolding roomBy
 begin-more s row l len f = let a = f .transactions in let b = f .links in (omega (arith, a), omega (arith, b))
-
--- the comparisons that begin_fits has made
-pub room-fits : (row l : Bool) (len : ℕ) (held n room : Counts) → beginRoom row l len held n room ≡ true → BeginRoom row l len held n room
-room-fits row l len held n room h =
-    let r1 = leb (held .bytes + len) (room .bytes) in
-    let r2 = leb (held .packets + 1) (room .packets) in
-    let r3 = leb (held .transactions + one row) (room .transactions) in
-    let r4 = leb (held .links + one l) (room .links) in
-    let n1 = leb (n .bytes + len) mostNumber in
-    let n2 = leb (n .packets + 1) mostNumber in
-    let n3 = leb (n .transactions + one row) mostNumber in
-    let a = both ((((((r1 && r2) && r3) && r4) && n1) && n2) && n3) _ h in
-    let b = both (((((r1 && r2) && r3) && r4) && n1) && n2) n3 (a .0) in
-    let c = both ((((r1 && r2) && r3) && r4) && n1) n2 (b .0) in
-    let d = both (((r1 && r2) && r3) && r4) n1 (c .0) in
-    let e = both ((r1 && r2) && r3) r4 (d .0) in
-    let f = both (r1 && r2) r3 (e .0) in
-    let g = both r1 r2 (f .0) in
-    record {
-      rows = record { bytes = leb-true _ _ (g .0); packets = leb-true _ _ (g .1); transactions = leb-true _ _ (f .1); links = leb-true _ _ (e .1) };
-      numbers = record { bytes = leb-true _ _ (d .1); packets = leb-true _ _ (c .1); transactions = leb-true _ _ (b .1); links = leb-true _ _ (a .1) };
-    }

@@ -1,8 +1,8 @@
 -- A close-only packet leaves what specs/Close.antt says: `close-only-call`.
 use mathlib.Core.Path.{_≡_, refl, sym, ap, subst, _∙_}
-use mathlib.Core.Bool.{Bool, true, false, _||_, not, false≢true}
+use mathlib.Core.Bool.{Bool, true, false, not}
 use mathlib.Core.List.{List, [], _∷_}
-use Prim.Native.Nat.{ℕ, _+_, _*_, _<_, _≤_}
+use Prim.Native.Nat.{ℕ, _+_, _*_, _≤_}
 use native.Mathlib.Omega.{arith}
 use lib.ListN.{length}
 use lib.Seq.{sets}
@@ -32,16 +32,16 @@ use Rattle.call.specs.State.{State, state, logs, heldAt, roomOf}
 use Rattle.tally.specs.Passes.{planPasses}
 use Rattle.tally.specs.Tallies.{tallyPlan, tallyBegin, tallyEnd, roomFor}
 use Rattle.tally.proofs.Bounds.{Small, small-none, more, packet-small, end-small}
-use Rattle.write_packet.specs.Asked.{PlanAsks, EndReady, EndsIf}
+use Rattle.write_packet.specs.Asked.{EndReady, EndsIf}
 use Rattle.write_packet.specs.Desk.{desk, begunDesk, endedDesk}
 use Rattle.write_packet.specs.declared.Hand.{Hand}
 use Rattle.packet.specs.After.{sumBy, sumPlan, tallyOf, accepted, handOf}
 use Rattle.packet.specs.Call.{PacketCall}
-use Rattle.packet.specs.declared.sum.Sum.{Sum}
 use Rattle.quick.specs.Close.{onlyClose, CloseOnly, endBy, closeTally, closeOf, CloseFits, holding, closeHand, closedDecoder, closeState}
 use Rattle.quick.specs.declared.close.Close.{Close}
 use Rattle.quick.specs.declared.shape.Shape.{Shape}
 use Rattle.quick.proofs.Calls.{Enters, leftWith, shape-asks, shape-rows, shape-call}
+use Rattle.quick.proofs.Fit.{off}
 
 -- ---- the shape
 
@@ -120,11 +120,7 @@ taken-fits closes e d held len room h =
     let a = both closes _ h in
     let b = both (roomFor held (d .counts) (closeTally e len d) room) _ (a .1) in
     let c = both (not (passes (e .effect) (e .entry .total))) (not (addsDevice (e .effect))) (b .1) in
-    (a .0, record { fits = b .0; total = not-true _ (c .0); device = not-true _ (c .1) })
-  where
-    not-true : (b : Bool) → not b ≡ true → b ≡ false
-    not-true true h = absurd (false≢true h)
-    not-true false h = refl
+    (a .0, record { fits = b .0; total = off _ (c .0); device = off _ (c .1) })
 
 -- the end that end_by gives
 module _ (q : Shape) (d : Decoder) (old : Detail) (table : List ℕ) {x : ℕ} {e : Endpoint} (p : x ≡ oldEndpoint (d .slot) (d .transaction)) (f : e ≡ entryAt table x) where

@@ -1,7 +1,10 @@
 pub mod Calls
+pub mod Fit
 pub mod BeginOnly
 pub mod CloseOnly
 pub mod Rest
+pub mod LightEnd
+pub mod LightCall
 pub mod Packets
 pub mod Token
 pub mod Shapes

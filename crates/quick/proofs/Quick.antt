@@ -9,6 +9,7 @@ use Rattle.rows.specs.Widths.{packetWidth, transactionWidth, linkWidth}
 use Rattle.details.specs.declared.Detail.{Detail}
 use Rattle.details.specs.declared.Device.{Device}
 use Rattle.endpoints.specs.Table.{entryAt}
+use Rattle.endpoints.specs.TableLaws.{Fits}
 use Rattle.transaction.specs.Payload.{startPid}
 use Rattle.transaction.specs.declared.Transaction.{Transaction}
 use Rattle.rules.specs.Endpoints.{detailOf}
@@ -28,19 +29,20 @@ use Rattle.call.specs.Share.{Known}
 use Rattle.call.specs.State.{State, Logs, state, heldAt, roomOf}
 use Rattle.packet.specs.After.{keeping, changed}
 use Rattle.packet.specs.Call.{PacketCall}
-use Rattle.packet.specs.Lent.{Lent}
 use Rattle.packet.specs.declared.change.Change.{Change}
 use Rattle.packet.proofs.Answers.{Passes}
 use Rattle.packet.proofs.Changes.{changed-none}
-use Rattle.decide.specs.declared.near.Near.{Near}
-use Rattle.quick.specs.Begin.{Begins, beginRoom, BeginRoom}
+use Rattle.quick.specs.Begin.{Begins}
 use Rattle.quick.specs.Close.{CloseOnly, endBy, closeTally, closeOf, CloseFits, closeHand}
+use Rattle.quick.specs.Light.{lightFits}
+use Rattle.quick.specs.Room.{rowsRoom, RowsRoom}
 use Rattle.quick.specs.Shaped.{Shaped, heldEnd}
 use Rattle.quick.specs.declared.close.Close.{Close}
 use Rattle.quick.specs.declared.shape.Shape.{Shape}
-use Rattle.quick.proofs.BeginOnly.{room-fits}
-use Rattle.quick.proofs.Calls.{Enters}
+use Rattle.quick.proofs.Calls.{Enters, well}
 use Rattle.quick.proofs.CloseOnly.{taken-fits}
+use Rattle.quick.proofs.Fit.{room-fits}
+use Rattle.quick.proofs.LightCall.{LightRoom, light-tests, light-closes, end-fits}
 
 -- what is known before the shape is
 pub record Meets (packet : List ℕ) (s : State) : Type 0 where
@@ -59,17 +61,17 @@ enters m live =
 pub record BeginTaken (packet : List ℕ) (s : State) (q : Shape) : Type 0 where
   pub enters : Enters packet s
   pub plan : Begins (planOf packet (worldAt s)) (worldAt s) (q .row) (q .transaction) (q .link)
-  pub fits : BeginRoom (q .row) (q .link) (length packet) (heldAt s) (s .decoder .counts) (roomOf (s .logs))
+  pub fits : RowsRoom (one (q .row)) (one (q .link)) (length packet) (heldAt s) (s .decoder .counts) (roomOf (s .logs))
 
 pub begin-taken : (packet : List ℕ) (s : State) (q : Shape) {held room : Counts} {f : Bool} → Meets packet s → Shaped q (planOf packet (worldAt s)) (worldAt s)
-    → held ≡ heldAt s → room ≡ roomOf (s .logs) → f ≡ beginRoom (q .row) (q .link) (length packet) held (s .decoder .counts) room → (q .begins && f) ≡ true → BeginTaken packet s q
+    → held ≡ heldAt s → room ≡ roomOf (s .logs) → f ≡ rowsRoom (one (q .row)) (one (q .link)) (length packet) held (s .decoder .counts) room → (q .begins && f) ≡ true → BeginTaken packet s q
 begin-taken packet s q {held} {room} {f} m h e1 e2 e3 t =
     let g = both (q .begins) f t in
     let b = h .begins (g .0) in
     record {
       enters = enters m (b .live);
       plan = b .plan;
-      fits = room-fits (q .row) (q .link) (length packet) (heldAt s) (s .decoder .counts) (roomOf (s .logs)) (sym (e3 ∙ λ i. beginRoom (q .row) (q .link) (length packet) (e1 i) (s .decoder .counts) (e2 i)) ∙ g .1);
+      fits = room-fits (one (q .row)) (one (q .link)) (length packet) (heldAt s) (s .decoder .counts) (roomOf (s .logs)) (sym (e3 ∙ λ i. rowsRoom (one (q .row)) (one (q .link)) (length packet) (e1 i) (s .decoder .counts) (e2 i)) ∙ g .1);
     }
 
 -- ---- close-only
@@ -79,19 +81,52 @@ pub record CloseTaken (packet : List ℕ) (s : State) (q : Shape) (e : End) : Ty
   pub plan : CloseOnly (planOf packet (worldAt s)) (q .transaction) e Empty
   pub fits : CloseFits e (length packet) (s .decoder) (heldAt s) (roomOf (s .logs))
 
+-- the plan, where the packet has that shape, with the end that end_by gives
+close-plan : (packet : List ℕ) (s : State) (q : Shape) (old : Detail) {e : End} → Shaped q (planOf packet (worldAt s)) (worldAt s)
+    → old ≡ detailOf (oldEndpoint (s .decoder .slot) (s .decoder .transaction)) (worldAt s) → e ≡ endBy q (s .decoder) old (s .table) → q .closes ≡ true
+    → (isDropped (s .decoder .slot) (s .decoder .transaction) ≡ false) × CloseOnly (planOf packet (worldAt s)) (q .transaction) e Empty
+close-plan packet s q old {e} h e1 e2 c =
+    let b = h .closes c in
+    let x = oldEndpoint (s .decoder .slot) (s .decoder .transaction) in
+    let end : e ≡ heldEnd (q .success) (q .transaction) (worldAt s) =
+    e2 ∙ ((λ i. endIf (c i) (endOf x (entryAt (s .table) x) (q .transaction) (e1 i) (s .decoder .last) (q .success) true) (entryAt (s .table) x))) in
+    (b .live, subst (λ (y : End). CloseOnly (planOf packet (worldAt s)) (q .transaction) y Empty) (sym end) (b .plan))
+
 pub close-taken : (packet : List ℕ) (s : State) (q : Shape) (old : Detail) {held room : Counts} {e : End} {c : Close} → Meets packet s → Shaped q (planOf packet (worldAt s)) (worldAt s)
     → held ≡ heldAt s → room ≡ roomOf (s .logs) → old ≡ detailOf (oldEndpoint (s .decoder .slot) (s .decoder .transaction)) (worldAt s)
     → e ≡ endBy q (s .decoder) old (s .table) → c ≡ closeOf (q .closes) e (s .decoder) held (length packet) room → c .taken ≡ true → CloseTaken packet s q e
 close-taken packet s q old {held} {room} {e} {c} m h e0 e1 e2 e3 e4 t =
     let g = taken-fits (q .closes) e (s .decoder) held (length packet) room (sym (ap (λ (x : Close). x .taken) e4) ∙ t) in
-    let b = h .closes (g .0) in
-    let x = oldEndpoint (s .decoder .slot) (s .decoder .transaction) in
-    let end : e ≡ heldEnd (q .success) (q .transaction) (worldAt s) =
-    e3 ∙ ((λ i. endIf (g .0 i) (endOf x (entryAt (s .table) x) (q .transaction) (e2 i) (s .decoder .last) (q .success) true) (entryAt (s .table) x))) in
+    let b = close-plan packet s q old h e2 e3 (g .0) in
     record {
-      enters = enters m (b .live);
-      plan = subst (λ (y : End). CloseOnly (planOf packet (worldAt s)) (q .transaction) y Empty) (sym end) (b .plan);
+      enters = enters m (b .0);
+      plan = b .1;
       fits = subst (λ (y : Counts). CloseFits e (length packet) (s .decoder) (heldAt s) y) e1 (subst (λ (y : Counts). CloseFits e (length packet) (s .decoder) y room) e0 (g .1));
+    }
+
+-- ---- close-only with a light end
+
+pub record LightTaken (packet : List ℕ) (s : State) (q : Shape) (e : End) : Type 0 where
+  pub enters : Enters packet s
+  pub plan : CloseOnly (planOf packet (worldAt s)) (q .transaction) e Empty
+  pub light : LightRoom e (length packet) (heldAt s) (s .decoder .counts) (roomOf (s .logs))
+  pub fits : CloseFits e (length packet) (s .decoder) (heldAt s) (roomOf (s .logs))
+  pub entry : Fits (e .entry)
+
+pub light-taken : (packet : List ℕ) (s : State) (q : Shape) (old : Detail) {held room : Counts} {e : End} {f : Bool} → Meets packet s → Shaped q (planOf packet (worldAt s)) (worldAt s)
+    → held ≡ heldAt s → room ≡ roomOf (s .logs) → old ≡ detailOf (oldEndpoint (s .decoder .slot) (s .decoder .transaction)) (worldAt s)
+    → e ≡ endBy q (s .decoder) old (s .table) → f ≡ lightFits e (length packet) held (s .decoder .counts) room → (q .closes && f) ≡ true → LightTaken packet s q e
+light-taken packet s q old {held} {room} {e} {f} m h e0 e1 e2 e3 e4 t =
+    let g = both (q .closes) f t in
+    let b = close-plan packet s q old h e2 e3 (g .0) in
+    let l = light-tests e (length packet) (heldAt s) (s .decoder .counts) (roomOf (s .logs)) (sym (e4 ∙ λ i. lightFits e (length packet) (e0 i) (s .decoder .counts) (e1 i)) ∙ g .1) in
+    let w = well packet 0 s (enters m (b .0)) in
+    record {
+      enters = enters m (b .0);
+      plan = b .1;
+      light = l;
+      fits = light-closes e (length packet) (s .decoder) (heldAt s) (roomOf (s .logs)) (w .counts) (w .numbered) l;
+      entry = subst (λ (x : End). Fits (x .entry)) (sym e3) (end-fits q (s .decoder) old (s .table));
     }
 
 -- ---- the devices stay
@@ -122,3 +157,9 @@ close-lent packet time s closes room t {held} {end} {c} e f w a b k = (
   subst (λ (h : Counts). (h .bytes + length packet ≤ length (s .logs .bytes)) × (((h .packets + 1) * packetWidth ≤ length (s .logs .packets)) × EndsIf true (t .endpoint) (t .id) (startPid (t .style)) end (desk (closeHand t time (s .decoder) h (s .table)) (s .table) (s .logs .devices) [] [] (s .logs .groups) (s .logs .statebytes) (s .logs .states) (s .logs .items) (s .logs .links) (s .logs .requests)))) (sym e)
       (a, (b, k)),
 )
+
+pub light-lent : (packet : List ℕ) (s : State) (k : ℕ) {held : Counts} → held ≡ heldAt s
+    → heldAt s .bytes + length packet ≤ length (s .logs .bytes) → (heldAt s .packets + 1) * packetWidth ≤ length (s .logs .packets) → (heldAt s .links + k) * linkWidth ≤ length (s .logs .links)
+    → (held .bytes + length packet ≤ length (s .logs .bytes)) × (((held .packets + 1) * packetWidth ≤ length (s .logs .packets)) × ((held .links + k) * linkWidth ≤ length (s .logs .links)))
+light-lent packet s k e a b c =
+    subst (λ (h : Counts). (h .bytes + length packet ≤ length (s .logs .bytes)) × (((h .packets + 1) * packetWidth ≤ length (s .logs .packets)) × ((h .links + k) * linkWidth ≤ length (s .logs .links)))) (sym e) (a, (b, c))

@@ -2,32 +2,28 @@
 use mathlib.Core.Path.{_≡_, refl, sym, ap, subst, _∙_}
 use mathlib.Core.Bool.{Bool, true, false, not}
 use mathlib.Core.List.{List, [], _∷_}
-use mathlib.Core.Logic.{_⊎_, inl, inr}
-use Prim.Native.Nat.{ℕ, zero, suc, _+_, _*_, _<_, _≤_}
+use mathlib.Core.Logic.{inl, inr}
+use Prim.Native.Nat.{ℕ, suc, _+_, _*_, _<_}
 use native.Mathlib.Omega.{arith}
 use lib.Dec.{eqb}
 use lib.ListN.{length, getD, set}
 use lib.Seq.{sets, set-getD}
+use Rattle.rows.specs.One.{one}
 use Rattle.rows.specs.Widths.{packetWidth}
 use Rattle.usb.specs.Pid.{SOF}
-use Rattle.usb.specs.Fields.{setupDataOf}
 use Rattle.details.specs.Kind.{Framing}
 use Rattle.details.specs.declared.Detail.{Detail}
 use Rattle.endpoints.specs.Table.{entryAt, storeAt, words}
 use Rattle.endpoints.specs.Word as word
 use Rattle.endpoints.specs.declared.Endpoint.{Endpoint}
-use Rattle.endpoints.specs.declared.Phase.{Phase}
 use Rattle.endpoints.specs.declared.Phase.the-variants.{Active}
-use Rattle.transaction.specs.Payload.{startPid, extractPayload}
-use Rattle.transaction.specs.declared.Style.{Style}
+use Rattle.transaction.specs.Payload.{startPid}
 use Rattle.transaction.specs.declared.Transaction.{Transaction}
-use Rattle.transaction.proofs.Laws.{extract-keeps}
 use Rattle.group.specs.Data.{otherGroup}
 use Rattle.group.specs.Group.{groupAt, groupStatus}
 use Rattle.group.specs.Step.{isActive, stepOf, taken, grouped}
 use Rattle.group.specs.declared.Effect.the-variants.{NoEffect}
 use Rattle.group.specs.declared.GroupStatus.the-variants.{Continue}
-use Rattle.group.specs.declared.Grouped.{Grouped}
 use Rattle.group.specs.declared.step.Step.{Step}
 use Rattle.rules.specs.World.{withLast}
 use Rattle.rules.specs.declared.Slot.the-variants.{Current}
@@ -48,14 +44,15 @@ use Rattle.call.specs.State.{State, state, logs, heldAt, roomOf}
 use Rattle.tally.specs.Passes.{planPasses}
 use Rattle.tally.specs.Tally.{tallyUpdate}
 use Rattle.tally.specs.Tallies.{tallyPlan, tallyEnd}
-use Rattle.write_packet.specs.Asked.{BeginAsks, PlanAsks}
+use Rattle.write_packet.specs.Asked.{BeginAsks}
 use Rattle.write_packet.specs.Desk.{Desk, desk, begunDesk, endedDesk}
 use Rattle.packet.specs.After.{sumPlan, handOf, decoderBy}
 use Rattle.packet.specs.declared.sum.Sum.{Sum}
 use Rattle.packet.proofs.Answers.{deskBy}
-use Rattle.quick.specs.Begin.{onlyBegin, BeginOnly, restEnd, unended, BeginRest, Begins, beginState, BeginRoom}
-use Rattle.quick.proofs.BeginOnly.{shape, beginSum, sum-by, left-by, BeginWants, BeginPlan, only-plan}
-use Rattle.quick.proofs.Calls.{Enters, well, leftWith}
+use Rattle.quick.specs.Begin.{onlyBegin, restEnd, unended, BeginRest, Begins}
+use Rattle.quick.specs.Room.{RowsRoom}
+use Rattle.quick.proofs.BeginOnly.{shape, beginSum, sum-by, left-by, BeginPlan, only-plan}
+use Rattle.quick.proofs.Calls.{Enters, well}
 
 -- ---- an entry stored as it was loaded
 
@@ -127,7 +124,7 @@ module _ (packet : List ℕ) (time : ℕ) (s : State) (h : Enters packet s) wher
         state (decoderBy (s .decoder) (onlyBegin p row t l Current) z (y .hand)) (s .devices) (y .table)
         (logs (sets (s .logs .bytes) (heldAt s .bytes) packet) (y .devices) (y .endpoints) (sets (s .logs .packets) (heldAt s .packets * packetWidth) (s .decoder .counts .bytes ∷ time ∷ [])) (s .logs .events) (y .transactions) (y .groups) (y .statebytes) (y .states) (y .items) (y .links) (y .requests))
 
-    pub rest-plan : BeginRoom row l (length packet) (heldAt s) (s .decoder .counts) (roomOf (s .logs)) → BeginPlan packet time s row t l
+    pub rest-plan : RowsRoom (one row) (one l) (length packet) (heldAt s) (s .decoder .counts) (roomOf (s .logs)) → BeginPlan packet time s row t l
     rest-plan f =
         let z = beginSum row l (length packet) (s .decoder) in
         record {
@@ -140,7 +137,7 @@ module _ (packet : List ℕ) (time : ℕ) (s : State) (h : Enters packet s) wher
           wants = λ a. let b = subst (λ (y : Desk). BeginAsks (onlyBegin p row t l Current .begin) y) rested (a .begin) in (b .there, (b .few, b .transactions));
         }
 
-  pub begins-plan : {row : Bool} {t : Transaction} {l : Bool} → Begins (planOf packet (worldAt s)) (worldAt s) row t l → BeginRoom row l (length packet) (heldAt s) (s .decoder .counts) (roomOf (s .logs)) → BeginPlan packet time s row t l
+  pub begins-plan : {row : Bool} {t : Transaction} {l : Bool} → Begins (planOf packet (worldAt s)) (worldAt s) row t l → RowsRoom (one row) (one l) (length packet) (heldAt s) (s .decoder .counts) (roomOf (s .logs)) → BeginPlan packet time s row t l
   begins-plan (inl q) f = only-plan packet time s h q f
   begins-plan (inr q) f = rest-plan q f
 

@@ -43,6 +43,7 @@ use Rattle.decide.specs.declared.near.Near.{Near}
 use Rattle.decide.proofs.Places.{place-found}
 use Rattle.quick.specs.Shaped.{beginShape, restsOn, isFree, Begun, Shaped}
 use Rattle.quick.specs.declared.shape.Shape.{Shape}
+use Rattle.quick.proofs.Fit.{off}
 use Rattle.quick.proofs.Packets.{begun-shaped, Token, token-begins, Resting, rest-begins}
 
 -- a group that starts early has the flag
@@ -72,10 +73,6 @@ active-is Early h = absurd (false≢true h)
 active-is Active h = refl
 active-is Ended h = absurd (false≢true h)
 
-not-true : (b : Bool) → not b ≡ true → b ≡ false
-not-true true h = absurd (false≢true h)
-not-true false h = refl
-
 -- a SOF at rest, by the tests
 resting-by : (w : World) (old : Detail) → restsOn (w .transaction) old (w .endpoints framingEp) ≡ true → old ≡ detailOf (w .transaction .endpoint) w → 3 ≤ w .count → Resting w
 resting-by w old h o c =
@@ -98,7 +95,7 @@ resting-by w old h o c =
       active = ap (λ (x : Endpoint). x .phase) same ∙ active-is (e .phase) (h4 .0);
       done = ap (λ (x : Endpoint). x .done) same ∙ h5 .0;
       last = ap (λ (x : Endpoint). x .last) same ∙ eqb-true _ _ (h6 .0);
-      idle = ap (λ (x : Endpoint). x .pending) same ∙ not-true (e .pending) (h7 .0);
+      idle = ap (λ (x : Endpoint). x .pending) same ∙ off (e .pending) (h7 .0);
       kind = sym (ap (λ (x : Detail). x .kind) o) ∙ eqb-true _ _ (h7 .1);
     }
 

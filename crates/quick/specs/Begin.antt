@@ -1,10 +1,9 @@
 -- Inner (cited by private contracts alone): begin-only: a packet whose plan (plan, Packet) is one step that begins, with no new device, endpoint or type, and no row but perhaps a transaction row and a T row.
-use Prim.Native.Nat.{ℕ, _+_, _*_, _<_, _≤_}
+use Prim.Native.Nat.{ℕ, _*_, _<_}
 use mathlib.Core.Path.{_≡_}
-use mathlib.Core.Bool.{Bool, true, false, _&&_}
+use mathlib.Core.Bool.{Bool, true, false}
 use mathlib.Core.List.{List, [], _∷_}
 use mathlib.Core.Logic.{_⊎_}
-use lib.Dec.{leb}
 use lib.ListN.{length}
 use lib.Seq.{sets}
 use Rattle.rows.specs.One.{one}
@@ -23,12 +22,11 @@ use Rattle.rules.specs.declared.Slot.{Slot}
 use Rattle.rules.specs.declared.Slot.the-variants.{Current}
 use Rattle.update.specs.Update.{when, links}
 use Rattle.update.specs.declared.Then.the-variants.{Keep, Last}
-use Rattle.record.specs.Room.{mostNumber}
-use Rattle.record.specs.declared.Counts.{Counts}
 use Rattle.record.specs.declared.Decoder.{Decoder}
 use Rattle.plan.specs.declared.End.{End}
 use Rattle.plan.specs.declared.Plan.{Plan}
 use Rattle.call.specs.State.{State, state, logs, heldAt}
+use Rattle.quick.specs.Room.{moreRows}
 
 -- ---- the shape: a transaction row where `row` says so, a T row where l does; t is the transaction then. What is under a flag that is off is p's
 
@@ -93,23 +91,6 @@ Begins p w row t l = BeginOnly p row t l Current ⊎ BeginRest p w row t l
 
 -- ---- what it leaves
 
-abbrev pub beginCounts : Bool → Bool → ℕ → Counts → Counts
-beginCounts row l len n =
-    record {
-      bytes = n .bytes + len;
-      devices = n .devices;
-      endpoints = n .endpoints;
-      packets = n .packets + 1;
-      events = n .events;
-      transactions = n .transactions + one row;
-      groups = n .groups;
-      statebytes = n .statebytes;
-      states = n .states;
-      items = n .items;
-      links = n .links + one l;
-      requests = n .requests;
-    }
-
 -- the transaction with its T row, of the table before it
 abbrev pub beginLink : Bool → List ℕ → Transaction → Transaction
 beginLink l table t = when l (withLink (entryAt table (t .endpoint) .transactions)) t
@@ -118,7 +99,7 @@ beginLink l table t = when l (withLink (entryAt table (t .endpoint) .transaction
 abbrev pub beginDecoder : Bool → Transaction → Bool → ℕ → List ℕ → Decoder → Decoder
 beginDecoder row t l len table d =
     record {
-      counts = beginCounts row l len (d .counts);
+      counts = moreRows (one row) (one l) len (d .counts);
       slot = Current;
       transaction = beginLink l table t;
       last = d .last;
@@ -153,45 +134,3 @@ beginState row t l packet time s =
     (g .items)
     (sets (g .links) (h .links * linkWidth) (opt l (kind.T ∷ t .endpoint ∷ t .id ∷ 0 ∷ [])))
     (g .requests))
-
--- ---- room: of the four logs that get rows, behind the rows held and by their numbers
-
--- the greatest numbers of next rows
-abbrev pub mostNumbers : Counts
-mostNumbers =
-    record {
-      bytes = mostNumber;
-      devices = mostNumber;
-      endpoints = mostNumber;
-      packets = mostNumber;
-      events = mostNumber;
-      transactions = mostNumber;
-      groups = mostNumber;
-      statebytes = mostNumber;
-      states = mostNumber;
-      items = mostNumber;
-      links = mostNumber;
-      requests = mostNumber;
-    }
-
--- the comparisons as the code makes them
-abbrev pub beginRoom : Bool → Bool → ℕ → Counts → Counts → Counts → Bool
-beginRoom row l len held n room =
-    ((((((leb (held .bytes + len) (room .bytes)
-    && leb (held .packets + 1) (room .packets))
-    && leb (held .transactions + one row) (room .transactions))
-    && leb (held .links + one l) (room .links))
-    && leb (n .bytes + len) mostNumber)
-    && leb (n .packets + 1) mostNumber)
-    && leb (n .transactions + one row) mostNumber)
-    && leb (n .links + one l) mostNumber
-
-pub record BeginFits (row l : Bool) (len : ℕ) (n room : Counts) : Type 0 where
-  pub bytes : n .bytes + len ≤ room .bytes
-  pub packets : n .packets + 1 ≤ room .packets
-  pub transactions : n .transactions + one row ≤ room .transactions
-  pub links : n .links + one l ≤ room .links
-
-pub record BeginRoom (row l : Bool) (len : ℕ) (held n room : Counts) : Type 0 where
-  pub rows : BeginFits row l len held room
-  pub numbers : BeginFits row l len n mostNumbers

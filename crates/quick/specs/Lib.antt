@@ -1,3 +1,5 @@
+pub mod Room
 pub mod Begin
 pub mod Close
+pub mod Light
 pub mod Shaped

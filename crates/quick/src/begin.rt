@@ -1,4 +1,6 @@
 // What a begin-only packet writes: its own rows, perhaps a transaction row, perhaps a T row.
+use crate::room::more_rows;
+use crate::room::rows_fit;
 use call::stamp_of;
 use endpoints::Table;
 use endpoints::entry::flag_word;
@@ -11,7 +13,6 @@ use record::Decoder;
 use rows::width;
 use rules::EventState;
 use rules::Slot;
-use tally::up_to;
 use transaction::Transaction;
 use write::leaf::put_transaction;
 ghost use mathlib.Core.List.{[], _∷_};
@@ -26,39 +27,18 @@ ghost use Rattle.endpoints.specs.Link.{T};
 ghost use Rattle.endpoints.specs.Table.{entryAt};
 ghost use Rattle.rules.specs.Rows.{naming, transactionWords};
 ghost use Rattle.tally.specs.Tallies.{Countable};
-ghost use Rattle.quick.specs.Begin.{mostNumbers, beginCounts, beginRoom, BeginFits, beginLink, beginDecoder, beginTable};
+ghost use Rattle.quick.specs.Begin.{beginLink, beginDecoder, beginTable};
+ghost use Rattle.quick.specs.Room.{mostNumbers, rowsRoom, RowsFit};
 
-// The numbers of the next rows after it, where n were numbered.
-fn begin_counts(row: bool, l: bool, len: usize, n: Counts) -> Counts
-    requires { ⌜ BeginFits row l len n mostNumbers ⌝ }
-    ensures { λ r. ⌜ r ≡ beginCounts row l len n ⌝ }
-{
-    let transactions = n.transactions + flag_word(row) as usize;
-    let links = n.links + flag_word(l) as usize;
-    let mut n = n;
-    n.bytes = n.bytes + len;
-    n.packets = n.packets + 1;
-    n.transactions = transactions;
-    n.links = links;
-    n
-}
-
-// Whether there is room for it, in the four logs that get rows: behind the rows held, and by their numbers.
+// Whether there is room for it.
 pub fn begin_fits(row: bool, l: bool, len: usize, held: Counts, n: Counts, room: Counts) -> bool
     requires { ⌜ len ≤ 4096 ⌝ }
     requires { ⌜ Countable held n ⌝ }
-    ensures { λ r. ⌜ r ≡ beginRoom row l len held n room ⌝ }
+    ensures { λ r. ⌜ r ≡ rowsRoom (one row) (one l) len held n room ⌝ }
 {
     let rows = flag_word(row) as usize;
     let links = flag_word(l) as usize;
-    (held.bytes + len <= room.bytes)
-        & (held.packets + 1 <= room.packets)
-        & (held.transactions + rows <= room.transactions)
-        & (held.links + links <= room.links)
-        & up_to(n.bytes, len)
-        & up_to(n.packets, 1)
-        & up_to(n.transactions, rows)
-        & up_to(n.links, links)
+    rows_fit(rows, links, len, held, n, room)
 }
 
 // The T row of the transaction, where it is to have one, as the link row at n.
@@ -108,7 +88,7 @@ pub fn begin_only(
 ) -> Decoder
     requires { ⌜ t .endpoint < 128 ⌝ }
     requires { ⌜ entryAt (now table) (t .endpoint) .transactions + one l < 2 ^ 64 ⌝ }
-    requires { ⌜ BeginFits row l (length (now packet)) (d .counts) mostNumbers ⌝ }
+    requires { ⌜ RowsFit (one row) (one l) (length (now packet)) (d .counts) mostNumbers ⌝ }
     requires { ⌜ held .bytes + length (now packet) ≤ length (now bytes) ⌝ }
     requires { ⌜ (held .packets + 1) * packetWidth ≤ length (now packets) ⌝ }
     requires { ⌜ (held .transactions + one row) * transactionWidth ≤ length (now transactions) ⌝ }
@@ -125,8 +105,14 @@ pub fn begin_only(
     put_packet(n.bytes, held, packet, time, bytes, packets);
     put_transaction(row, transactions, held.transactions, stamp);
     let transaction = begin_link(l, t, held.links, table, links);
+    let counts = more_rows(
+        flag_word(row) as usize,
+        flag_word(l) as usize,
+        packet.len(),
+        n,
+    );
     Decoder {
-        counts: begin_counts(row, l, packet.len(), n),
+        counts,
         slot: Slot::Current,
         transaction,
         last: d.last,

@@ -1,6 +1,8 @@
-// Two shapes of packet that are taken without a plan, since their plan has one step: the commonest packets (specs/Begin.antt, specs/Close.antt).
+// Two shapes of packet that are taken without a plan, since their plan has one step: the commonest packets (specs/Begin.antt, specs/Close.antt). Most handshakes are close-only with a light end, which has a way of its own (specs/Light.antt).
 mod begin;
 mod close;
+mod light;
+mod room;
 mod shape;
 
 use crate::begin::begin_fits;
@@ -8,6 +10,8 @@ use crate::begin::begin_only;
 use crate::close::close_of;
 use crate::close::close_only;
 use crate::close::end_by;
+use crate::light::light_fits;
+use crate::light::light_only;
 use crate::shape::shape_of;
 use call::bytes_known;
 use call::known;
@@ -100,6 +104,25 @@ pub fn quick_in(
         };
     }
     let end = end_by(q, d, near.old, table);
+    if q.closes & light_fits(end, packet.len(), rows, d.counts, room) {
+        let decoder = light_only(
+            q.transaction,
+            end,
+            rows,
+            d,
+            packet,
+            time,
+            table,
+            bytes,
+            packets,
+            links,
+        );
+        return Inner {
+            answer: 0,
+            decoder,
+            change: none,
+        };
+    }
     let c = close_of(q.closes, end, d, rows, packet.len(), room);
     if c.taken {
         let decoder = close_only(
@@ -127,7 +150,7 @@ pub fn quick_in(
             change: none,
         };
     }
-    packet_in(
+    let r = packet_in(
         d,
         near,
         packet,
@@ -145,5 +168,13 @@ pub fn quick_in(
         items,
         links,
         requests,
-    )
+    );
+    // Taken apart and put together again: as it is, the result of this call would lie in memory on every way, and the record with it (docs/SPEED.md).
+    let decoder = r.decoder;
+    let change = r.change;
+    Inner {
+        answer: r.answer,
+        decoder,
+        change,
+    }
 }

@@ -1,14 +1,11 @@
 -- `quick_in` meets its contract: a packet that is taken has the plan of its shape (Quick), and any other is packet_in's.
-use mathlib.Core.Path.{_≡_, refl, sym, ap, subst, _∙_}
+use mathlib.Core.Path.{refl, _∙_}
 use mathlib.Core.List.{List}
 use Prim.Native.Nat.{_<_}
 use native.Mathlib.Omega.{arith}
 use borrow.Author.Needs.{needs}
-use lib.ListN.{getD}
 use Rattle.transaction.specs.Payload.{startPid}
 use Rattle.details.specs.declared.Device.{Device}
-use Rattle.record.specs.declared.Counts.{Counts}
-use Rattle.record.specs.declared.Decoder.{Decoder}
 use Rattle.call.specs.OutcomeLaws.{sound}
 use Rattle.call.specs.State.{State, state, logs, roomOf}
 use Rattle.decide.specs.Ready.{Ready, ready}
@@ -16,12 +13,13 @@ use Rattle.tally.proofs.Bounds.{looser, sums-room, countable-by}
 use Rattle.tally.proofs.Formed.{waiting-few}
 use Rattle.packet.specs.Lent.{Lent}
 use Rattle.packet.proofs.Answers.{none-placed}
-use Rattle.quick.specs.Close.{closeTally, closeState}
-use Rattle.quick.specs.declared.close.Close.{Close}
-use Rattle.quick.proofs.BeginOnly.{BeginPlan, begin-asks, begin-rows, begin-more, begin-by}
+use Rattle.quick.specs.Close.{closeTally}
+use Rattle.quick.specs.Light.{linkRows}
+use Rattle.quick.proofs.BeginOnly.{begin-asks, begin-rows, begin-more, begin-by}
 use Rattle.quick.proofs.Rest.{begins-plan}
 use Rattle.quick.proofs.CloseOnly.{close-small, close-only-call, close-only-asks, close-only-rows, close-counted}
-use Rattle.quick.proofs.Quick.{Meets, begin-lent, close-lent, BeginTaken, begin-taken, CloseTaken, close-taken, kept-devices}
+use Rattle.quick.proofs.LightCall.{there, light-count, light-room, light-by}
+use Rattle.quick.proofs.Quick.{Meets, begin-lent, close-lent, light-lent, BeginTaken, begin-taken, CloseTaken, close-taken, LightTaken, light-taken, kept-devices}
 use Rattle.quick.proofs.quick_in.Statement.{statement}
 use Rattle.quick.proofs.quick_in.Tie as tie
 mod Places
@@ -102,6 +100,57 @@ returns c =
           (begin-by (a .args .packet .now) (a .args .time) (lent a v) (b .enters) (begins-plan (a .args .packet .now) (a .args .time) (lent a v) (b .enters) (b .plan) (b .fits)) n (w .0) (w .1 .0) (w .1 .1 .0) (w .1 .1 .1 .0) (w .1 .1 .1 .1 .0) (w .1 .1 .1 .1 .1)),
     )
 
+-- ---- close-only with a light end
+
+light-fits-requires : tie.Need-light-fits-requires
+light-fits-requires c κs =
+    let a = light-fits-requires·Start c in
+    let w = sound (lent a (a .pre .0 .devices)) (a .pre .0 .lent .ill) in
+    (a .pre .1 .1, countable-by (w .0) (w .1) (light-fits-requires·held-of c .held-of .ensures))
+
+lightly : (c : tie.Then2) (v : List Device) → Lends (Then2·Start c) v → LightTaken (Then2·Start c .args .packet .now) (lent (Then2·Start c) v) (Then2·shape-of c .shape-of .result) (Then2·end-by c .end-by .result)
+lightly c v h =
+    let a = Then2·Start c in
+    light-taken (a .args .packet .now) (lent a v) (Then2·shape-of c .shape-of .result) (a .args .near .old) (meets (Then2·shape-of c) v h) (Then2·shape-of c .shape-of .ensures v (h .seen))
+    (Then2·held-of c .held-of .ensures) (Then2·room-of c .room-of .ensures) (h .seen .old) (Then2·end-by c .end-by .ensures) (Then2·light-fits c .light-fits .ensures) (c .if2 .taken)
+
+light-only-requires : tie.Need-light-only-requires
+light-only-requires c κs =
+    let a = light-only-requires·Start c in
+    let v = a .pre .0 .devices in
+    let m = light-only-requires·Then2 c in
+    let b = lightly m v (a .pre .0 .lent) in
+    let end = Then2·end-by m .end-by .result in
+    let r = close-only-rows (a .args .packet .now) (a .args .time) (lent a v) (b .enters) (b .plan) (b .fits) in (
+      b .light .quiet,
+      (
+        there (a .args .packet .now) (a .args .time) (lent a v) (b .enters) (b .plan) (b .fits) (b .light) (b .entry),
+        (
+          light-count (a .args .packet .now) (a .args .time) (lent a v) (b .enters) (b .plan) (b .fits) (b .light) (b .entry),
+          (
+            b .light .total,
+            (
+              b .light .fits .numbers,
+              light-lent (a .args .packet .now) (lent a v) (linkRows (end .update) (end .effect)) (Then2·held-of m .held-of .ensures) (r .0) (r .1)
+                  (light-room (a .args .packet .now) (a .args .time) (lent a v) (b .enters) (b .plan) (b .fits) (b .light) (b .entry)),
+            ),
+          ),
+        ),
+      ),
+    )
+
+returns-2 : tie.Need-returns-2
+returns-2 c =
+    let a = returns-2·Start c in
+    let e = returns-2·no-change c .no-change .ensures in
+    let w = returns-2·light-only c .light-only .ensures in (
+      none-placed e,
+      λ v h. let b = lightly (returns-2·Then2 c) v h in
+          kept-devices (a .args .packet .now) (a .args .time) (lent a v) e
+          (light-by (a .args .packet .now) (a .args .time) (lent a v) (b .enters) (b .plan) (b .fits) (b .light) (b .entry) (w .1 .1 .1 .1 .1)
+          (returns-2·held-of c .held-of .ensures) (w .0) (w .1 .0) (w .1 .1 .0) (w .1 .1 .1 .0) (w .1 .1 .1 .1 .0)),
+    )
+
 -- ---- close-only
 
 close-of-requires : tie.Need-close-of-requires
@@ -110,38 +159,38 @@ close-of-requires c κs =
     let w = sound (lent a (a .pre .0 .devices)) (a .pre .0 .lent .ill) in
     (a .pre .1 .1, (waiting-few (w .0), (w .0 .counts .fewEndpoints, countable-by (w .0) (w .1) (close-of-requires·held-of c .held-of .ensures))))
 
-closed : (c : tie.Then2) (v : List Device) → Lends (Then2·Start c) v → CloseTaken (Then2·Start c .args .packet .now) (lent (Then2·Start c) v) (Then2·shape-of c .shape-of .result) (Then2·end-by c .end-by .result)
+closed : (c : tie.Then3) (v : List Device) → Lends (Then3·Start c) v → CloseTaken (Then3·Start c .args .packet .now) (lent (Then3·Start c) v) (Then3·shape-of c .shape-of .result) (Then3·end-by c .end-by .result)
 closed c v h =
-    let a = Then2·Start c in
-    close-taken (a .args .packet .now) (lent a v) (Then2·shape-of c .shape-of .result) (a .args .near .old) (meets (Then2·shape-of c) v h) (Then2·shape-of c .shape-of .ensures v (h .seen))
-    (Then2·held-of c .held-of .ensures) (Then2·room-of c .room-of .ensures) (h .seen .old) (Then2·end-by c .end-by .ensures) (Then2·close-of c .close-of .ensures) (c .if2 .taken)
+    let a = Then3·Start c in
+    close-taken (a .args .packet .now) (lent a v) (Then3·shape-of c .shape-of .result) (a .args .near .old) (meets (Then3·shape-of c) v h) (Then3·shape-of c .shape-of .ensures v (h .seen))
+    (Then3·held-of c .held-of .ensures) (Then3·room-of c .room-of .ensures) (h .seen .old) (Then3·end-by c .end-by .ensures) (Then3·close-of c .close-of .ensures) (c .if3 .taken)
 
 close-only-requires : tie.Need-close-only-requires
 close-only-requires c κs =
     let a = close-only-requires·Start c in
     let v = a .pre .0 .devices in
-    let b = closed (close-only-requires·Then2 c) v (a .pre .0 .lent) in
+    let b = closed (close-only-requires·Then3 c) v (a .pre .0 .lent) in
     let r = close-only-rows (a .args .packet .now) (a .args .time) (lent a v) (b .enters) (b .plan) (b .fits) in
     let w = sound (lent a v) (a .pre .0 .lent .ill) in
-    let e = Then2·held-of (close-only-requires·Then2 c) .held-of .ensures in
-    let f = Then2·close-of (close-only-requires·Then2 c) .close-of .ensures in
-    let end = Then2·end-by (close-only-requires·Then2 c) .end-by .result in
-    close-lent (a .args .packet .now) (a .args .time) (lent a v) (Then2·shape-of (close-only-requires·Then2 c) .shape-of .result .closes) (Then2·room-of (close-only-requires·Then2 c) .room-of .result) (Then2·shape-of (close-only-requires·Then2 c) .shape-of .result .transaction) e f
+    let e = Then3·held-of (close-only-requires·Then3 c) .held-of .ensures in
+    let f = Then3·close-of (close-only-requires·Then3 c) .close-of .ensures in
+    let end = Then3·end-by (close-only-requires·Then3 c) .end-by .result in
+    close-lent (a .args .packet .now) (a .args .time) (lent a v) (Then3·shape-of (close-only-requires·Then3 c) .shape-of .result .closes) (Then3·room-of (close-only-requires·Then3 c) .room-of .result) (Then3·shape-of (close-only-requires·Then3 c) .shape-of .result .transaction) e f
     (sums-room (closeTally end _ (a .args .d)) (roomOf (lent a v .logs)) (countable-by (w .0) (w .1) refl) (looser (close-small end _ (a .args .d) (a .pre .1 .1) (waiting-few (w .0)) (w .0 .counts .fewEndpoints)) _ (omega arith)) (b .fits .fits))
     (r .0) (r .1) (λ on. close-only-asks (a .args .packet .now) (a .args .time) (lent a v) (b .enters) (b .plan) (b .fits))
 
-returns-2 : tie.Need-returns-2
-returns-2 c =
-    let a = returns-2·Start c in
-    let e = returns-2·no-change c .no-change .ensures in
-    let q = returns-2·shape-of c .shape-of .result in
-    let end = returns-2·end-by c .end-by .result in (
+returns-3 : tie.Need-returns-3
+returns-3 c =
+    let a = returns-3·Start c in
+    let e = returns-3·no-change c .no-change .ensures in
+    let q = returns-3·shape-of c .shape-of .result in
+    let end = returns-3·end-by c .end-by .result in (
       none-placed e,
-      λ v h. let b = closed (returns-2·Then2 c) v h in
+      λ v h. let b = closed (returns-3·Then3 c) v h in
           kept-devices (a .args .packet .now) (a .args .time) (lent a v) e
           (close-only-call (a .args .packet .now) (a .args .time) (lent a v) (b .enters) (b .plan) (b .fits)
-          (returns-2·close-only c .close-only .ensures v (a .args .endpoint-rows .now) (a .args .events .now) (a .args .transactions .now) (returns-2·held-of c .held-of .ensures)
-          ∙ close-counted (q .transaction) end (a .args .packet .now) (a .args .time) (lent a v) (q .closes) (returns-2·held-of c .held-of .result) (returns-2·room-of c .room-of .result) (returns-2·close-of c .close-of .ensures))),
+          (returns-3·close-only c .close-only .ensures v (a .args .endpoint-rows .now) (a .args .events .now) (a .args .transactions .now) (returns-3·held-of c .held-of .ensures)
+          ∙ close-counted (q .transaction) end (a .args .packet .now) (a .args .time) (lent a v) (q .closes) (returns-3·held-of c .held-of .result) (returns-3·room-of c .room-of .result) (returns-3·close-of c .close-of .ensures))),
     )
 
 pub quick-in-spec : {M : Type 1} → statement M
@@ -163,28 +212,34 @@ quick-in-spec =
     (λ c. returns·begin-only c .begin-only .kept .1 .1 .1 .1 .1 .1 .1 .1 .1 .1 .1 .0)
     returns
     (λ c κs. ready-by (end-by-requires·Start c))
+    light-fits-requires
+    light-only-requires
+    (λ c. returns-2·light-only c .light-only .kept .1 .1 .1 .1 .1 .1 .1 .0)
+    (λ c. returns-2·light-only c .light-only .kept .1 .1 .1 .1 .1 .1 .1 .1 .0)
+    (λ c. returns-2·light-only c .light-only .kept .1 .1 .1 .1 .1 .1 .1 .1 .1 .0)
+    returns-2
     close-of-requires
     close-only-requires
-    (λ c. returns-2·close-only c .close-only .kept .1 .1 .1 .1 .1 .1 .1 .1 .0)
-    (λ c. returns-2·close-only c .close-only .kept .1 .1 .1 .1 .1 .1 .1 .1 .1 .0)
-    (λ c. returns-2·close-only c .close-only .kept .1 .1 .1 .1 .1 .1 .1 .1 .1 .1 .0)
-    (λ c. returns-2·close-only c .close-only .kept .1 .1 .1 .1 .1 .1 .1 .1 .1 .1 .1 .0)
-    (λ c. returns-2·close-only c .close-only .kept .1 .1 .1 .1 .1 .1 .1 .1 .1 .1 .1 .1 .0)
-    (λ c. returns-2·close-only c .close-only .kept .1 .1 .1 .1 .1 .1 .1 .1 .1 .1 .1 .1 .1 .0)
-    (λ c. returns-2·close-only c .close-only .kept .1 .1 .1 .1 .1 .1 .1 .1 .1 .1 .1 .1 .1 .1 .0)
-    (λ c. returns-2·close-only c .close-only .kept .1 .1 .1 .1 .1 .1 .1 .1 .1 .1 .1 .1 .1 .1 .1 .0)
-    (λ c. returns-2·close-only c .close-only .kept .1 .1 .1 .1 .1 .1 .1 .1 .1 .1 .1 .1 .1 .1 .1 .1 .0)
-    returns-2
+    (λ c. returns-3·close-only c .close-only .kept .1 .1 .1 .1 .1 .1 .1 .1 .0)
+    (λ c. returns-3·close-only c .close-only .kept .1 .1 .1 .1 .1 .1 .1 .1 .1 .0)
+    (λ c. returns-3·close-only c .close-only .kept .1 .1 .1 .1 .1 .1 .1 .1 .1 .1 .0)
+    (λ c. returns-3·close-only c .close-only .kept .1 .1 .1 .1 .1 .1 .1 .1 .1 .1 .1 .0)
+    (λ c. returns-3·close-only c .close-only .kept .1 .1 .1 .1 .1 .1 .1 .1 .1 .1 .1 .1 .0)
+    (λ c. returns-3·close-only c .close-only .kept .1 .1 .1 .1 .1 .1 .1 .1 .1 .1 .1 .1 .1 .0)
+    (λ c. returns-3·close-only c .close-only .kept .1 .1 .1 .1 .1 .1 .1 .1 .1 .1 .1 .1 .1 .1 .0)
+    (λ c. returns-3·close-only c .close-only .kept .1 .1 .1 .1 .1 .1 .1 .1 .1 .1 .1 .1 .1 .1 .1 .0)
+    (λ c. returns-3·close-only c .close-only .kept .1 .1 .1 .1 .1 .1 .1 .1 .1 .1 .1 .1 .1 .1 .1 .1 .0)
+    returns-3
     (λ c κs. packet-in-requires·Start c .pre)
-    (λ c. returns-3·packet-in c .packet-in .kept .1 .1 .1 .1 .1 .0)
-    (λ c. returns-3·packet-in c .packet-in .kept .1 .1 .1 .1 .1 .1 .0)
-    (λ c. returns-3·packet-in c .packet-in .kept .1 .1 .1 .1 .1 .1 .1 .0)
-    (λ c. returns-3·packet-in c .packet-in .kept .1 .1 .1 .1 .1 .1 .1 .1 .0)
-    (λ c. returns-3·packet-in c .packet-in .kept .1 .1 .1 .1 .1 .1 .1 .1 .1 .1 .0)
-    (λ c. returns-3·packet-in c .packet-in .kept .1 .1 .1 .1 .1 .1 .1 .1 .1 .1 .1 .0)
-    (λ c. returns-3·packet-in c .packet-in .kept .1 .1 .1 .1 .1 .1 .1 .1 .1 .1 .1 .1 .0)
-    (λ c. returns-3·packet-in c .packet-in .kept .1 .1 .1 .1 .1 .1 .1 .1 .1 .1 .1 .1 .1 .0)
-    (λ c. returns-3·packet-in c .packet-in .kept .1 .1 .1 .1 .1 .1 .1 .1 .1 .1 .1 .1 .1 .1 .0)
-    (λ c. returns-3·packet-in c .packet-in .kept .1 .1 .1 .1 .1 .1 .1 .1 .1 .1 .1 .1 .1 .1 .1 .0)
-    (λ c. returns-3·packet-in c .packet-in .kept .1 .1 .1 .1 .1 .1 .1 .1 .1 .1 .1 .1 .1 .1 .1 .1 .0)
-    (λ c. returns-3·packet-in c .packet-in .ensures))
+    (λ c. returns-4·packet-in c .packet-in .kept .1 .1 .1 .1 .1 .0)
+    (λ c. returns-4·packet-in c .packet-in .kept .1 .1 .1 .1 .1 .1 .0)
+    (λ c. returns-4·packet-in c .packet-in .kept .1 .1 .1 .1 .1 .1 .1 .0)
+    (λ c. returns-4·packet-in c .packet-in .kept .1 .1 .1 .1 .1 .1 .1 .1 .0)
+    (λ c. returns-4·packet-in c .packet-in .kept .1 .1 .1 .1 .1 .1 .1 .1 .1 .1 .0)
+    (λ c. returns-4·packet-in c .packet-in .kept .1 .1 .1 .1 .1 .1 .1 .1 .1 .1 .1 .0)
+    (λ c. returns-4·packet-in c .packet-in .kept .1 .1 .1 .1 .1 .1 .1 .1 .1 .1 .1 .1 .0)
+    (λ c. returns-4·packet-in c .packet-in .kept .1 .1 .1 .1 .1 .1 .1 .1 .1 .1 .1 .1 .1 .0)
+    (λ c. returns-4·packet-in c .packet-in .kept .1 .1 .1 .1 .1 .1 .1 .1 .1 .1 .1 .1 .1 .1 .0)
+    (λ c. returns-4·packet-in c .packet-in .kept .1 .1 .1 .1 .1 .1 .1 .1 .1 .1 .1 .1 .1 .1 .1 .0)
+    (λ c. returns-4·packet-in c .packet-in .kept .1 .1 .1 .1 .1 .1 .1 .1 .1 .1 .1 .1 .1 .1 .1 .1 .0)
+    (λ c. returns-4·packet-in c .packet-in .ensures))

@@ -2,21 +2,19 @@
 use Prim.Native.Nat.{ℕ, _+_, _*_, _≤_}
 use native.Mathlib.Omega.{arith}
 use mathlib.Core.Bool.{Bool, true, false}
-use mathlib.Core.List.{List}
-use mathlib.Core.Path.{_≡_, refl, sym, ap, subst, _∙_}
+use mathlib.Core.Path.{ap, _∙_}
 use lib.ListN.{length}
 use lib.Seq.{sets}
 use Rattle.rows.specs.One.{one}
 use Rattle.rows.specs.Sets.{opt}
 use Rattle.rows.specs.Widths.{transactionWidth}
-use Rattle.transaction.specs.declared.Transaction.{Transaction}
 use Rattle.rules.specs.Rows.{naming, transactionWords}
 use Rattle.rules.specs.World.{stamp}
 use Rattle.rules.specs.declared.Stamp.{Stamp}
 use Rattle.rules.specs.declared.EventState.the-variants.{Idle}
 use Rattle.rules.specs.declared.Slot.the-variants.{Current}
-use Rattle.record.specs.declared.Counts.{Counts}
-use Rattle.record.specs.declared.Decoder.{Decoder}
+use Rattle.quick.specs.Room.{moreRows}
+use Rattle.quick.proofs.Fit.{fit-same}
 use Rattle.quick.proofs.begin.begin_only.Statement.{statement}
 use Rattle.quick.proofs.begin.begin_only.Tie as tie
 mod Places
@@ -36,8 +34,9 @@ returns c =
     let s = returns·Start c in
     let l = returns·begin-link c .begin-link .ensures in
     let p = returns·put-packet c .put-packet .ensures in
-    let d = s .args .d in (
-      λ i. record { counts = returns·begin-counts c .begin-counts .ensures i; slot = Current; transaction = l .0 i; last = d .last; event = Idle; keepalive = d .keepalive; waiting = d .waiting; finished = d .finished },
+    let d = s .args .d in
+    let counts = returns·more-rows c .more-rows .ensures ∙ λ i. moreRows (returns·flag-word c .flag-word .ensures i) (returns·flag-word2 c .flag-word2 .ensures i) (length (s .args .packet .now)) (d .counts) in (
+      λ i. record { counts = counts i; slot = Current; transaction = l .0 i; last = d .last; event = Idle; keepalive = d .keepalive; waiting = d .waiting; finished = d .finished },
       (l .1 .0, (p .0, (p .1, (returns·put-transaction c .put-transaction .ensures ∙ ap (λ (x : Stamp). sets (s .args .transactions .now) (s .args .held .transactions * transactionWidth) (opt (s .args .row) (transactionWords (naming (x .packet))))) (returns·stamp-of c .stamp-of .ensures), l .1 .1)))),
     )
 
@@ -49,7 +48,9 @@ begin-only-spec =
     (λ c κs. let s = put-packet-requires·Start c in (s .pre .1 .1 .1 .0, s .pre .1 .1 .1 .1 .0))
     put-transaction-requires
     (λ c κs. let s = begin-link-requires·Start c in (s .pre .0, (s .pre .1 .0, s .pre .1 .1 .1 .1 .1 .1)))
-    (λ c κs. begin-counts-requires·Start c .pre .1 .1 .0)
+    (λ c κs. tt)
+    (λ c κs. tt)
+    (λ c κs. fit-same (more-rows-requires·flag-word c .flag-word .ensures) (more-rows-requires·flag-word2 c .flag-word2 .ensures) (more-rows-requires·Start c .pre .1 .1 .0))
     (λ c. returns·put-packet c .put-packet .kept .1 .1 .1 .1 .0)
     (λ c. returns·put-packet c .put-packet .kept .1 .1 .1 .1 .1 .0)
     (λ c. returns·put-transaction c .put-transaction .kept .1 .0)

@@ -64,62 +64,107 @@ returns·shape-of c = c .before .before .before .before .before .before .before 
 abbrev pub returns·Then1 : tie.After-slice-known15 → tie.Then1
 returns·Then1 c = c .before .before .before .before .before .before .before .before .before .before .before .before .before .before
 
-abbrev pub close-of-requires·Start : tie.After-end-by → tie.Start
-close-of-requires·Start c = c .before .before .before .before .before .before .before .before .before .before .before .before .before .before .before .before .before .before .before .before .before .before .before .before .before .before .before .before .before
+abbrev pub light-fits-requires·Start : tie.After-end-by → tie.Start
+light-fits-requires·Start c = c .before .before .before .before .before .before .before .before .before .before .before .before .before .before .before .before .before .before .before .before .before .before .before .before .before .before .before .before .before
 
-abbrev pub close-of-requires·held-of : tie.After-end-by → tie.After-held-of
-close-of-requires·held-of c = c .before .before .before .before .before .before .before
+abbrev pub light-fits-requires·held-of : tie.After-end-by → tie.After-held-of
+light-fits-requires·held-of c = c .before .before .before .before .before .before .before
 
 abbrev pub Then2·Start : tie.Then2 → tie.Start
-Then2·Start c = c .before .before .before .before .before .before .before .before .before .before .before .before .before .before .before .before .before .before .before .before .before .before .before .before .before .before .before .before .before .before .before
+Then2·Start c = c .before .before .before .before .before .before .before .before .before .before .before .before .before .before .before .before .before .before .before .before .before .before .before .before .before .before .before .before .before .before .before .before
 
 abbrev pub Then2·shape-of : tie.Then2 → tie.After-shape-of
-Then2·shape-of c = c .before .before .before .before .before .before .before
+Then2·shape-of c = c .before .before .before .before .before .before .before .before
 
 abbrev pub Then2·end-by : tie.Then2 → tie.After-end-by
-Then2·end-by c = c .before .before
+Then2·end-by c = c .before .before .before
 
 abbrev pub Then2·held-of : tie.Then2 → tie.After-held-of
-Then2·held-of c = c .before .before .before .before .before .before .before .before .before
+Then2·held-of c = c .before .before .before .before .before .before .before .before .before .before
 
 abbrev pub Then2·room-of : tie.Then2 → tie.After-room-of
-Then2·room-of c = c .before .before .before .before .before .before .before .before .before .before .before .before .before .before .before .before .before
+Then2·room-of c = c .before .before .before .before .before .before .before .before .before .before .before .before .before .before .before .before .before .before
 
-abbrev pub Then2·close-of : tie.Then2 → tie.After-close-of
-Then2·close-of c = c .before
+abbrev pub Then2·light-fits : tie.Then2 → tie.After-light-fits
+Then2·light-fits c = c .before .before
+
+abbrev pub light-only-requires·Start : tie.After-light-only-arg4 → tie.Start
+light-only-requires·Start c = c .before .before .before .before .before .before .before .before .before .before .before .before .before .before .before .before .before .before .before .before .before .before .before .before .before .before .before .before .before .before .before .before .before .before .before .before
+
+abbrev pub light-only-requires·Then2 : tie.After-light-only-arg4 → tie.Then2
+light-only-requires·Then2 c = c .before .before .before .before
+
+abbrev pub returns-2·Start : tie.After-slice-known18 → tie.Start
+returns-2·Start c = c .before .before .before .before .before .before .before .before .before .before .before .before .before .before .before .before .before .before .before .before .before .before .before .before .before .before .before .before .before .before .before .before .before .before .before .before .before .before .before .before .before .before .before
+
+abbrev pub returns-2·no-change : tie.After-slice-known18 → tie.After-no-change
+returns-2·no-change c = c .before .before .before .before .before .before .before .before .before .before .before .before .before .before .before .before .before .before .before .before .before .before .before
+
+abbrev pub returns-2·light-only : tie.After-slice-known18 → tie.After-light-only
+returns-2·light-only c = c .before .before .before .before .before .before
+
+abbrev pub returns-2·Then2 : tie.After-slice-known18 → tie.Then2
+returns-2·Then2 c = c .before .before .before .before .before .before .before .before .before .before .before
+
+abbrev pub returns-2·held-of : tie.After-slice-known18 → tie.After-held-of
+returns-2·held-of c = c .before .before .before .before .before .before .before .before .before .before .before .before .before .before .before .before .before .before .before .before .before
+
+abbrev pub close-of-requires·Start : tie.Else2 → tie.Start
+close-of-requires·Start c = c .before .before .before .before .before .before .before .before .before .before .before .before .before .before .before .before .before .before .before .before .before .before .before .before .before .before .before .before .before .before .before .before
+
+abbrev pub close-of-requires·held-of : tie.Else2 → tie.After-held-of
+close-of-requires·held-of c = c .before .before .before .before .before .before .before .before .before .before
+
+abbrev pub Then3·Start : tie.Then3 → tie.Start
+Then3·Start c = c .before .before .before .before .before .before .before .before .before .before .before .before .before .before .before .before .before .before .before .before .before .before .before .before .before .before .before .before .before .before .before .before .before .before
+
+abbrev pub Then3·shape-of : tie.Then3 → tie.After-shape-of
+Then3·shape-of c = c .before .before .before .before .before .before .before .before .before .before
+
+abbrev pub Then3·end-by : tie.Then3 → tie.After-end-by
+Then3·end-by c = c .before .before .before .before .before
+
+abbrev pub Then3·held-of : tie.Then3 → tie.After-held-of
+Then3·held-of c = c .before .before .before .before .before .before .before .before .before .before .before .before
+
+abbrev pub Then3·room-of : tie.Then3 → tie.After-room-of
+Then3·room-of c = c .before .before .before .before .before .before .before .before .before .before .before .before .before .before .before .before .before .before .before .before
+
+abbrev pub Then3·close-of : tie.Then3 → tie.After-close-of
+Then3·close-of c = c .before
 
 abbrev pub close-only-requires·Start : tie.After-close-only-arg10 → tie.Start
-close-only-requires·Start c = c .before .before .before .before .before .before .before .before .before .before .before .before .before .before .before .before .before .before .before .before .before .before .before .before .before .before .before .before .before .before .before .before .before .before .before .before .before .before .before .before .before
+close-only-requires·Start c = c .before .before .before .before .before .before .before .before .before .before .before .before .before .before .before .before .before .before .before .before .before .before .before .before .before .before .before .before .before .before .before .before .before .before .before .before .before .before .before .before .before .before .before .before
 
-abbrev pub close-only-requires·Then2 : tie.After-close-only-arg10 → tie.Then2
-close-only-requires·Then2 c = c .before .before .before .before .before .before .before .before .before .before
+abbrev pub close-only-requires·Then3 : tie.After-close-only-arg10 → tie.Then3
+close-only-requires·Then3 c = c .before .before .before .before .before .before .before .before .before .before
 
-abbrev pub returns-2·Start : tie.After-slice-known24 → tie.Start
-returns-2·Start c = c .before .before .before .before .before .before .before .before .before .before .before .before .before .before .before .before .before .before .before .before .before .before .before .before .before .before .before .before .before .before .before .before .before .before .before .before .before .before .before .before .before .before .before .before .before .before .before .before .before .before .before .before .before .before .before .before .before .before .before .before
+abbrev pub returns-3·Start : tie.After-slice-known27 → tie.Start
+returns-3·Start c = c .before .before .before .before .before .before .before .before .before .before .before .before .before .before .before .before .before .before .before .before .before .before .before .before .before .before .before .before .before .before .before .before .before .before .before .before .before .before .before .before .before .before .before .before .before .before .before .before .before .before .before .before .before .before .before .before .before .before .before .before .before .before .before
 
-abbrev pub returns-2·no-change : tie.After-slice-known24 → tie.After-no-change
-returns-2·no-change c = c .before .before .before .before .before .before .before .before .before .before .before .before .before .before .before .before .before .before .before .before .before .before .before .before .before .before .before .before .before .before .before .before .before .before .before .before .before .before .before .before
+abbrev pub returns-3·no-change : tie.After-slice-known27 → tie.After-no-change
+returns-3·no-change c = c .before .before .before .before .before .before .before .before .before .before .before .before .before .before .before .before .before .before .before .before .before .before .before .before .before .before .before .before .before .before .before .before .before .before .before .before .before .before .before .before .before .before .before
 
-abbrev pub returns-2·shape-of : tie.After-slice-known24 → tie.After-shape-of
-returns-2·shape-of c = c .before .before .before .before .before .before .before .before .before .before .before .before .before .before .before .before .before .before .before .before .before .before .before .before .before .before .before .before .before .before .before .before .before .before .before .before
+abbrev pub returns-3·shape-of : tie.After-slice-known27 → tie.After-shape-of
+returns-3·shape-of c = c .before .before .before .before .before .before .before .before .before .before .before .before .before .before .before .before .before .before .before .before .before .before .before .before .before .before .before .before .before .before .before .before .before .before .before .before .before .before .before
 
-abbrev pub returns-2·end-by : tie.After-slice-known24 → tie.After-end-by
-returns-2·end-by c = c .before .before .before .before .before .before .before .before .before .before .before .before .before .before .before .before .before .before .before .before .before .before .before .before .before .before .before .before .before .before .before
+abbrev pub returns-3·end-by : tie.After-slice-known27 → tie.After-end-by
+returns-3·end-by c = c .before .before .before .before .before .before .before .before .before .before .before .before .before .before .before .before .before .before .before .before .before .before .before .before .before .before .before .before .before .before .before .before .before .before
 
-abbrev pub returns-2·Then2 : tie.After-slice-known24 → tie.Then2
-returns-2·Then2 c = c .before .before .before .before .before .before .before .before .before .before .before .before .before .before .before .before .before .before .before .before .before .before .before .before .before .before .before .before .before
+abbrev pub returns-3·Then3 : tie.After-slice-known27 → tie.Then3
+returns-3·Then3 c = c .before .before .before .before .before .before .before .before .before .before .before .before .before .before .before .before .before .before .before .before .before .before .before .before .before .before .before .before .before
 
-abbrev pub returns-2·close-only : tie.After-slice-known24 → tie.After-close-only
-returns-2·close-only c = c .before .before .before .before .before .before .before .before .before .before .before .before .before .before .before .before .before .before
+abbrev pub returns-3·close-only : tie.After-slice-known27 → tie.After-close-only
+returns-3·close-only c = c .before .before .before .before .before .before .before .before .before .before .before .before .before .before .before .before .before .before
 
-abbrev pub returns-2·held-of : tie.After-slice-known24 → tie.After-held-of
-returns-2·held-of c = c .before .before .before .before .before .before .before .before .before .before .before .before .before .before .before .before .before .before .before .before .before .before .before .before .before .before .before .before .before .before .before .before .before .before .before .before .before .before
+abbrev pub returns-3·held-of : tie.After-slice-known27 → tie.After-held-of
+returns-3·held-of c = c .before .before .before .before .before .before .before .before .before .before .before .before .before .before .before .before .before .before .before .before .before .before .before .before .before .before .before .before .before .before .before .before .before .before .before .before .before .before .before .before .before
 
-abbrev pub returns-2·room-of : tie.After-slice-known24 → tie.After-room-of
-returns-2·room-of c = c .before .before .before .before .before .before .before .before .before .before .before .before .before .before .before .before .before .before .before .before .before .before .before .before .before .before .before .before .before .before .before .before .before .before .before .before .before .before .before .before .before .before .before .before .before .before
+abbrev pub returns-3·room-of : tie.After-slice-known27 → tie.After-room-of
+returns-3·room-of c = c .before .before .before .before .before .before .before .before .before .before .before .before .before .before .before .before .before .before .before .before .before .before .before .before .before .before .before .before .before .before .before .before .before .before .before .before .before .before .before .before .before .before .before .before .before .before .before .before .before
 
-abbrev pub returns-2·close-of : tie.After-slice-known24 → tie.After-close-of
-returns-2·close-of c = c .before .before .before .before .before .before .before .before .before .before .before .before .before .before .before .before .before .before .before .before .before .before .before .before .before .before .before .before .before .before
+abbrev pub returns-3·close-of : tie.After-slice-known27 → tie.After-close-of
+returns-3·close-of c = c .before .before .before .before .before .before .before .before .before .before .before .before .before .before .before .before .before .before .before .before .before .before .before .before .before .before .before .before .before .before
 
 abbrev pub shape-of-requires·Start : tie.After-shape-of-arg → tie.Start
 shape-of-requires·Start c = c .before .before .before .before .before .before .before .before .before .before .before .before .before .before .before .before .before .before .before .before .before .before .before
@@ -128,7 +173,7 @@ abbrev pub end-by-requires·Start : tie.After-end-by-arg → tie.Start
 end-by-requires·Start c = c .before .before .before .before .before .before .before .before .before .before .before .before .before .before .before .before .before .before .before .before .before .before .before .before .before .before .before .before
 
 abbrev pub packet-in-requires·Start : tie.After-packet-in-arg12 → tie.Start
-packet-in-requires·Start c = c .before .before .before .before .before .before .before .before .before .before .before .before .before .before .before .before .before .before .before .before .before .before .before .before .before .before .before .before .before .before .before .before .before .before .before .before .before .before .before .before .before .before .before
+packet-in-requires·Start c = c .before .before .before .before .before .before .before .before .before .before .before .before .before .before .before .before .before .before .before .before .before .before .before .before .before .before .before .before .before .before .before .before .before .before .before .before .before .before .before .before .before .before .before .before .before .before
 
-abbrev pub returns-3·packet-in : tie.After-slice-known35 → tie.After-packet-in
-returns-3·packet-in c = c .before .before .before .before .before .before .before .before .before .before .before .before .before .before .before .before .before .before .before .before .before .before
+abbrev pub returns-4·packet-in : tie.After-change → tie.After-packet-in
+returns-4·packet-in c = c .before .before .before .before .before .before .before .before .before .before .before .before .before .before .before .before .before .before .before .before .before .before .before .before

@@ -7,23 +7,29 @@ put-transaction-requires·Start c = c .before .before .before .before .before .b
 abbrev pub put-transaction-requires·stamp-of : tie.After-put-transaction-arg → tie.After-stamp-of
 put-transaction-requires·stamp-of c = c .before .before .before .before .before .before .before .before
 
-abbrev pub returns·Start : tie.After-begin-counts → tie.Start
-returns·Start c = c .before .before .before .before .before .before .before .before .before .before .before .before .before .before .before .before .before .before .before .before .before .before .before .before
+abbrev pub returns·Start : tie.After-more-rows → tie.Start
+returns·Start c = c .before .before .before .before .before .before .before .before .before .before .before .before .before .before .before .before .before .before .before .before .before .before .before .before .before .before
 
-abbrev pub returns·begin-link : tie.After-begin-counts → tie.After-begin-link
-returns·begin-link c = c .before .before .before
+abbrev pub returns·begin-link : tie.After-more-rows → tie.After-begin-link
+returns·begin-link c = c .before .before .before .before .before
 
-abbrev pub returns·put-packet : tie.After-begin-counts → tie.After-put-packet
-returns·put-packet c = c .before .before .before .before .before .before .before .before .before .before .before .before .before .before
+abbrev pub returns·put-packet : tie.After-more-rows → tie.After-put-packet
+returns·put-packet c = c .before .before .before .before .before .before .before .before .before .before .before .before .before .before .before .before
 
-abbrev pub returns·begin-counts : tie.After-begin-counts → tie.After-begin-counts
-returns·begin-counts c = c
+abbrev pub returns·more-rows : tie.After-more-rows → tie.After-more-rows
+returns·more-rows c = c
 
-abbrev pub returns·put-transaction : tie.After-begin-counts → tie.After-put-transaction
-returns·put-transaction c = c .before .before .before .before .before .before .before .before
+abbrev pub returns·flag-word : tie.After-more-rows → tie.After-flag-word
+returns·flag-word c = c .before .before
 
-abbrev pub returns·stamp-of : tie.After-begin-counts → tie.After-stamp-of
-returns·stamp-of c = c .before .before .before .before .before .before .before .before .before .before .before .before .before .before .before .before .before
+abbrev pub returns·flag-word2 : tie.After-more-rows → tie.After-flag-word2
+returns·flag-word2 c = c .before
+
+abbrev pub returns·put-transaction : tie.After-more-rows → tie.After-put-transaction
+returns·put-transaction c = c .before .before .before .before .before .before .before .before .before .before
+
+abbrev pub returns·stamp-of : tie.After-more-rows → tie.After-stamp-of
+returns·stamp-of c = c .before .before .before .before .before .before .before .before .before .before .before .before .before .before .before .before .before .before .before
 
 abbrev pub put-packet-requires·Start : tie.After-put-packet-arg2 → tie.Start
 put-packet-requires·Start c = c .before .before .before .before .before .before .before .before .before
@@ -31,5 +37,11 @@ put-packet-requires·Start c = c .before .before .before .before .before .before
 abbrev pub begin-link-requires·Start : tie.After-begin-link-arg2 → tie.Start
 begin-link-requires·Start c = c .before .before .before .before .before .before .before .before .before .before .before .before .before .before .before .before .before .before .before .before
 
-abbrev pub begin-counts-requires·Start : tie.After-slice-known8 → tie.Start
-begin-counts-requires·Start c = c .before .before .before .before .before .before .before .before .before .before .before .before .before .before .before .before .before .before .before .before .before .before .before
+abbrev pub more-rows-requires·flag-word : tie.After-flag-word2 → tie.After-flag-word
+more-rows-requires·flag-word c = c .before
+
+abbrev pub more-rows-requires·flag-word2 : tie.After-flag-word2 → tie.After-flag-word2
+more-rows-requires·flag-word2 c = c
+
+abbrev pub more-rows-requires·Start : tie.After-flag-word2 → tie.Start
+more-rows-requires·Start c = c .before .before .before .before .before .before .before .before .before .before .before .before .before .before .before .before .before .before .before .before .before .before .before .before .before
