@@ -1,7 +1,7 @@
 //! Blocks of records (change request 3): what a block must answer, by single calls, and the comparison with a port that takes blocks.
 
 use crate::calls::{Calls, LOGS, Mechanism, Rows, words};
-use crate::compare::{Left, Rust, difference};
+use crate::compare::{Left, Rust, Shelves, difference};
 use crate::damage::made;
 use crate::decoder::machine::Machine;
 use crate::generate::Random;
@@ -65,17 +65,22 @@ pub struct Taken {
 /// before stopped, with the clock that that one left, so that a record which a cut divides is answered 13 and taken by the next. A cut behind the
 /// end counts as the end, and one before the place where a block begins makes it empty. An answer other than 0 and 13 ends it. Nothing finishes.
 pub trait Blocks {
-    fn take(&mut self, input: &Input, room: &Rows) -> Result<Taken, String>;
+    fn take(&mut self, input: &Input, room: &Rows, shelf: &mut [u8]) -> Result<Taken, String>;
 }
 
 impl<M: Mechanism> Blocks for Rust<M> {
-    fn take(&mut self, input: &Input, room: &Rows) -> Result<Taken, String> {
-        Ok(taken(input, room, block::<M>))
+    fn take(&mut self, input: &Input, room: &Rows, shelf: &mut [u8]) -> Result<Taken, String> {
+        Ok(taken(input, room, shelf, block::<M>))
     }
 }
 
 /// All blocks by a function that takes one.
-fn taken<M: Mechanism>(input: &Input, room: &Rows, one: impl Fn(&mut Calls<M>, Clock, &[u8]) -> Block) -> Taken {
+fn taken<M: Mechanism>(
+    input: &Input,
+    room: &Rows,
+    shelf: &mut [u8],
+    one: impl Fn(&mut Calls<M>, Clock, &[u8]) -> Block,
+) -> Taken {
     let mut calls = Calls::<M>::new(*room, 0, false);
     if calls.fresh != 0 {
         return Taken { blocks: vec![], left: Left { answer: calls.fresh, at: 0, rows: [0; 12], words: Default::default() } };
@@ -90,6 +95,7 @@ fn taken<M: Mechanism>(input: &Input, room: &Rows, one: impl Fn(&mut Calls<M>, C
             break;
         }
     }
+    calls.write_shelf(shelf);
     let left = Left { answer: 0, at: blocks.len() as u64, rows: calls.rows().0, words: words(calls.machine.capture()) };
     Taken { blocks, left }
 }
@@ -145,6 +151,9 @@ pub struct Tally {
     /// Runs refused with 7 for one row short, and blocks by their answers (and runs in which fresh was refused).
     pub short: u64,
     pub ends: [u64; 14],
+    /// The shelves of the run under way, and the bytes that runs changed on them.
+    shelves: Shelves,
+    pub shelved: u64,
     pub differences: u64,
 }
 
@@ -153,8 +162,11 @@ const TOLD: u64 = 20;
 
 impl Tally {
     fn run(&mut self, port: &mut dyn Blocks, input: &Input, room: &Rows, what: &str) -> Taken {
-        let rust = taken(input, room, block::<Machine>);
-        if let Some(text) = port.take(input, room).map_or_else(Some, |port| differs(&rust, &port)) {
+        self.shelves.fill();
+        let rust = taken(input, room, &mut self.shelves.rust, block::<Machine>);
+        let took = port.take(input, room, &mut self.shelves.port);
+        self.shelved += self.shelves.written();
+        if let Some(text) = took.map_or_else(Some, |port| differs(&rust, &port).or_else(|| self.shelves.difference())) {
             self.differences += 1;
             if self.differences <= TOLD {
                 println!("differs: {what}, cuts {:?}, clock {:?}, room {:?}: {text}", input.cuts, input.clock, room.0);
@@ -196,7 +208,7 @@ pub fn blocks(port: &mut dyn Blocks, count: u64, seed: u64) -> Tally {
         let clock = start(&mut random);
         let input = Input { records, clock, cuts: cuts(&mut random, records) };
         let what = format!("trace {i} of seed {seed} ({})", made.kind);
-        let enough = Rows(taken(&input, &Rows::LARGEST, block::<Machine>).left.rows);
+        let enough = Rows(taken(&input, &Rows::LARGEST, &mut [], block::<Machine>).left.rows);
         tally.run(port, &input, &enough, &what);
         tally.run(port, &input, &Rows(enough.0.map(|rows| rows + random.below(5))), &what);
         let log = (i as usize..).map(|k| k % LOGS.len()).find(|log| enough.0[*log] > 0).expect("a log with rows");
@@ -220,8 +232,8 @@ mod tests {
     struct Slip(One);
 
     impl Blocks for Slip {
-        fn take(&mut self, input: &Input, room: &Rows) -> Result<Taken, String> {
-            Ok(taken(input, room, self.0))
+        fn take(&mut self, input: &Input, room: &Rows, shelf: &mut [u8]) -> Result<Taken, String> {
+            Ok(taken(input, room, shelf, self.0))
         }
     }
 
@@ -285,13 +297,15 @@ mod tests {
             let records = made.bytes.get(HEADER..).unwrap_or_default();
             let clock = start(&mut random);
             let cut = Input { records, clock, cuts: cuts(&mut random, records) };
-            let parts = taken(&cut, &Rows::LARGEST, block::<Machine>);
-            let mut whole = taken(&Input { cuts: vec![], ..cut }, &Rows::LARGEST, block::<Machine>);
+            let mut shelves = Shelves::default();
+            shelves.fill();
+            let parts = taken(&cut, &Rows::LARGEST, &mut shelves.port, block::<Machine>);
+            let mut whole = taken(&Input { cuts: vec![], ..cut }, &Rows::LARGEST, &mut shelves.rust, block::<Machine>);
             let sum = |word: usize| parts.blocks.iter().map(|block| block[word]).sum::<u64>();
             let last = parts.blocks.last().expect("a block");
             assert_eq!(whole.blocks, [[last[0], sum(1), sum(2), sum(3), last[4], last[5]]]);
             whole.left.at = parts.left.at;
-            assert_eq!(difference(&whole.left, &parts.left), None);
+            assert_eq!(difference(&whole.left, &parts.left).or_else(|| shelves.difference()), None);
         }
     }
 

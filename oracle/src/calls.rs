@@ -6,7 +6,7 @@ use std::sync::Arc;
 
 use crate::capture::{CaptureWriter, DeviceData, Request};
 use crate::crates::Error;
-use crate::descriptors::Descriptors;
+use crate::descriptors::{Descriptors, PART};
 use crate::event::{EventType, LineState};
 use crate::storage::{Journal, Mark};
 use crate::usb::{Direction, EndpointAddr, EndpointNum, EndpointType};
@@ -256,6 +256,14 @@ impl<M: Mechanism> Calls<M> {
 
     pub fn rows(&self) -> Rows {
         count(self.machine.capture())
+    }
+
+    /// What the calls write to a lent shelf, of which each device has a part; other bytes stay.
+    pub fn write_shelf(&self, shelf: &mut [u8]) {
+        let devices = self.machine.capture().shared.device_data.load();
+        for (part, device) in shelf.chunks_mut(PART).zip(devices.values()) {
+            device.write_shelf(part);
+        }
     }
 
     /// Answers 1 and 2, which every call tests first.

@@ -123,7 +123,9 @@ impl DeviceData {
     /// A payload that was seen on an endpoint whose request is a read (src/descriptors.rs, R3).
     pub fn lay(&self, counted: usize, payload: &[u8]) {
         if let Reading::Ruled(kept) = &self.reading {
-            kept.borrow_mut().0.lay(counted, payload);
+            let shelf = &mut kept.borrow_mut().0;
+            assert!(counted.min(BYTES) <= shelf.written()[0].len(), "bytes count that were not laid by");
+            shelf.lay(counted, payload);
         }
     }
 
@@ -154,6 +156,15 @@ impl DeviceData {
         self.requests.marks.borrow_mut().extend(cases.into_iter().map(|case| (row, case)));
         witness.follow(setup, payload);
         shelf.request(setup, payload.len(), &mut details)
+    }
+
+    /// What the device's part of the shelf holds of it is written there; other bytes stay.
+    pub fn write_shelf(&self, part: &mut [u8]) {
+        if let Reading::Ruled(kept) = &self.reading {
+            for (half, bytes) in part.chunks_mut(BYTES).zip(kept.borrow().0.written()) {
+                half[..bytes.len()].copy_from_slice(bytes);
+            }
+        }
     }
 
     /// The details of each place as a number for the type, 4 for none, and the max, 0 for none.

@@ -4,11 +4,12 @@
 use std::collections::BTreeMap;
 use std::marker::PhantomData;
 
-use crate::calls::{LOGS, Mechanism, Rows, WIDTHS, words};
+use crate::calls::{LOGS, Mechanism, REQUESTS, Rows, WIDTHS, words};
 use crate::counted::machine::Machine as Counted;
 use crate::coverage::Seen;
 use crate::damage::{DAMAGES, INPUTS, Made, made};
 use crate::decoder::machine::Machine;
+use crate::descriptors::{PART, SHELF};
 use crate::generate::Random;
 use crate::generate::steered::every_pair;
 use crate::limits::limits;
@@ -17,6 +18,7 @@ use crate::trace::{Played, play};
 use crate::traces::{all, written};
 
 /// What playing a trace leaves: its answer and offset (0 and the trace's length where it finished), and of each log the rows and their words.
+/// What it leaves on the shelf stands there.
 #[derive(PartialEq)]
 pub struct Left {
     pub answer: u8,
@@ -25,9 +27,10 @@ pub struct Left {
     pub words: [Vec<u64>; 12],
 }
 
-/// Whatever plays a trace on logs of a given room. An error is a fault that no row shows, such as a byte written beyond the rows.
+/// Whatever plays a trace on logs of a given room and on a lent shelf. An error is a fault that no row shows, such as a byte written beyond
+/// the rows.
 pub trait Port {
-    fn play(&mut self, trace: &[u8], room: &Rows) -> Result<Left, String>;
+    fn play(&mut self, trace: &[u8], room: &Rows, shelf: &mut [u8]) -> Result<Left, String>;
 }
 
 /// Whatever lists a trace as the program does.
@@ -45,8 +48,8 @@ impl<M> Default for Rust<M> {
 }
 
 impl<M: Mechanism> Port for Rust<M> {
-    fn play(&mut self, trace: &[u8], room: &Rows) -> Result<Left, String> {
-        Ok(left(trace, play::<M>(trace, *room, 0, &mut ())))
+    fn play(&mut self, trace: &[u8], room: &Rows, shelf: &mut [u8]) -> Result<Left, String> {
+        Ok(left(trace, play::<M>(trace, *room, 0, &mut ()), shelf))
     }
 }
 
@@ -56,11 +59,14 @@ impl<M: Mechanism> Lister for Rust<M> {
     }
 }
 
-fn left<M: Mechanism>(trace: &[u8], played: Played<M>) -> Left {
+fn left<M: Mechanism>(trace: &[u8], played: Played<M>, shelf: &mut [u8]) -> Left {
     let (answer, at) = played.refused.map_or((0, trace.len()), |r| (r.answer, r.at));
     // A decoder that could not be made has no row, and wrote none.
     let (rows, words) = match played.calls {
-        Some(calls) if calls.fresh == 0 => (calls.rows().0, words(calls.machine.capture())),
+        Some(calls) if calls.fresh == 0 => {
+            calls.write_shelf(shelf);
+            (calls.rows().0, words(calls.machine.capture()))
+        }
         _ => Default::default(),
     };
     Left { answer, at: at as u64, rows, words }
@@ -77,6 +83,47 @@ pub fn difference(rust: &Left, port: &Left) -> Option<String> {
     let (name, row) = (LOGS[log], word / WIDTHS[log]);
     let rows = (rust.rows[log], port.rows[log]);
     Some(format!("{name}: rows {} and {}, row {row}: the Rust {:?}, the port {:?}", rows.0, rows.1, a.get(word), b.get(word)))
+}
+
+/// Where the two shelves differ, if they do.
+pub fn shelf_difference(rust: &[u8], port: &[u8]) -> Option<String> {
+    // Slices are compared faster than byte by byte.
+    let part = rust.chunks(PART).zip(port.chunks(PART)).position(|(a, b)| a != b)?;
+    let place = (part * PART..).find(|i| rust[*i] != port[*i]).expect("a byte that differs");
+    let (a, b) = (rust[place], port[place]);
+    Some(format!("shelf, part {part}, byte {}: the Rust {a:02X}, the port {b:02X}", place % PART))
+}
+
+/// Two shelves that hold the same before a run, other bytes each time.
+#[derive(Default)]
+pub struct Shelves {
+    turn: u8,
+    before: Vec<u8>,
+    pub rust: Vec<u8>,
+    pub port: Vec<u8>,
+}
+
+impl Shelves {
+    pub fn fill(&mut self) {
+        if self.before.is_empty() {
+            self.before = Random::new(2).bytes(SHELF as u64);
+        }
+        self.turn = self.turn.wrapping_add(1);
+        for shelf in [&mut self.rust, &mut self.port] {
+            shelf.clear();
+            shelf.extend(self.before.iter().map(|byte| byte.wrapping_add(self.turn)));
+        }
+    }
+
+    pub fn difference(&self) -> Option<String> {
+        shelf_difference(&self.rust, &self.port)
+    }
+
+    /// The bytes that the Rust wrote.
+    pub fn written(&self) -> u64 {
+        let changed = |(now, before): (&u8, &u8)| *now != before.wrapping_add(self.turn);
+        self.rust.iter().zip(&self.before).filter(|pair| changed(*pair)).count() as u64
+    }
 }
 
 /// What was compared, and what came of it.
@@ -100,6 +147,10 @@ pub struct Tally {
     pub wanting: [u64; 12],
     /// Listings compared by their first word (a listing, `refused` with its number, `too long`).
     pub listings: BTreeMap<String, u64>,
+    /// The shelves of the run under way, the bytes that traces changed on them, and how often each kind of note was met.
+    shelves: Shelves,
+    pub shelved: u64,
+    pub notes: [u64; 4],
     pub seen: Seen,
     pub differences: u64,
 }
@@ -117,14 +168,20 @@ impl Tally {
 
     /// One trace with one room: the Rust, the counting Rust and the port.
     fn run(&mut self, port: &mut dyn Port, trace: &[u8], room: &Rows, what: &str) -> Left {
-        let rust = left(trace, play::<Machine>(trace, *room, 0, &mut ()));
-        let counted = left(trace, play::<Counted>(trace, *room, 0, &mut self.seen));
+        self.shelves.fill();
+        let rust = left(trace, play::<Machine>(trace, *room, 0, &mut ()), &mut self.shelves.rust);
+        let counted = left(trace, play::<Counted>(trace, *room, 0, &mut self.seen), &mut []);
         if let Some(text) = difference(&rust, &counted) {
             self.differ(format!("{what}: counting changes what the Rust does: {text}"));
         }
-        match port.play(trace, room).map(|port| difference(&rust, &port)) {
+        let played = port.play(trace, room, &mut self.shelves.port);
+        match played.map(|port| difference(&rust, &port).or_else(|| self.shelves.difference())) {
             Ok(None) => {}
             Ok(Some(text)) | Err(text) => self.differ(format!("{what}, room {:?}: {text}", room.0)),
+        }
+        self.shelved += self.shelves.written();
+        for row in rust.words[REQUESTS].chunks(WIDTHS[REQUESTS]) {
+            self.notes[row[3] as usize % 4] += 1;
         }
         self.runs += 1;
         self.ends[rust.answer as usize] += 1;
@@ -202,7 +259,7 @@ impl Tally {
 
 /// The answer of a trace and the rows that it leaves where there is all the room that may be; the program's room where it leaves none.
 fn wanted(trace: &[u8]) -> (u8, Rows) {
-    let whole = left(trace, play::<Machine>(trace, Rows::LARGEST, 0, &mut ()));
+    let whole = left(trace, play::<Machine>(trace, Rows::LARGEST, 0, &mut ()), &mut []);
     (whole.answer, if whole.rows[1] == 0 { Rows::PROGRAM } else { Rows(whole.rows) })
 }
 
@@ -280,6 +337,8 @@ mod slips {
     use std::panic::{AssertUnwindSafe, catch_unwind};
 
     use super::*;
+    use crate::descriptors::BYTES;
+    use crate::enumerations;
 
     include!(concat!(env!("OUT_DIR"), "/slips.rs"));
 
@@ -295,6 +354,40 @@ mod slips {
         assert_eq!(check::<Machine>(1, 50), Ok(0));
         for (name, differences) in each(1, 50) {
             assert_ne!(differences, Ok(0), "{name} is not found");
+        }
+    }
+
+    /// A port whose rows are right, and whose shelf, which held the first bytes before and should hold the second, is left wrong.
+    struct Shelved(fn(&[u8], &mut [u8]));
+
+    impl Port for Shelved {
+        fn play(&mut self, trace: &[u8], room: &Rows, shelf: &mut [u8]) -> Result<Left, String> {
+            let before = shelf.to_vec();
+            let left = Rust::<Machine>::default().play(trace, room, shelf);
+            (self.0)(&before, shelf);
+            left
+        }
+    }
+
+    #[test]
+    fn each_is_found_on_the_shelf() {
+        let slips: [(&str, fn(&[u8], &mut [u8])); 4] = [
+            ("nothing is written", |before, shelf| shelf.copy_from_slice(before)),
+            ("entries are not written", |before, shelf| {
+                shelf
+                    .chunks_mut(PART)
+                    .zip(before.chunks(PART))
+                    .for_each(|(now, before)| now[BYTES..].copy_from_slice(&before[BYTES..]))
+            }),
+            ("the last byte is written", |_, shelf| shelf[SHELF - 1] ^= 1),
+            ("another device's part is written", |_, shelf| shelf.copy_within(PART..2 * PART, 2 * PART)),
+        ];
+        for (name, slip) in slips {
+            let mut tally = Tally::default();
+            for (what, trace) in enumerations::all() {
+                tally.rooms(&mut Shelved(slip), &trace, &what, &mut Random::new(1));
+            }
+            assert_ne!(tally.differences, 0, "{name} is not found");
         }
     }
 }

@@ -1,5 +1,5 @@
 //! The scenes `descriptors` and `reread`: devices that are asked for random configurations, damaged now and then, and traffic around the
-//! sizes that these give. They stand apart from `KINDS` and `EXTRA` until the port reads descriptors.
+//! sizes that these give.
 
 use super::{Bench, Random};
 use crate::chapter9::{association, audio_endpoint, configuration, device, endpoint, hid, interface, many, unknown};

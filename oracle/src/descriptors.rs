@@ -19,8 +19,8 @@ pub enum Descriptors {
 }
 
 impl Descriptors {
-    /// What holds wherever no mode is named. The port does not read descriptors yet; once it does, this is `Ruled`.
-    pub const DEFAULT: Descriptors = Descriptors::Off;
+    /// What holds wherever no mode is named: what the port does.
+    pub const DEFAULT: Descriptors = Descriptors::Ruled;
 
     /// The words of a request row.
     pub const fn request_words(self) -> usize {
@@ -41,6 +41,9 @@ impl Default for Descriptors {
 pub const BYTES: usize = 4096;
 /// The entries that are kept for a device: 585 of 7 bytes are 4,095.
 pub const ENTRIES: usize = 585;
+/// The port's shelf: for each of 64 devices 4,096 bytes for the payload and 4,096 for the entries.
+pub const PART: usize = 2 * BYTES;
+pub const SHELF: usize = 64 * PART;
 
 /// R2: what a request is, by its 8 setup bytes alone.
 #[derive(Copy, Clone, PartialEq, Debug)]
@@ -118,6 +121,12 @@ impl Entry {
     pub fn place(&self) -> EndpointAddr {
         EndpointAddr::from_parts(EndpointNum(self.address % 16), Direction::from(self.address / 128))
     }
+
+    /// The 7 bytes that the port keeps.
+    fn bytes(&self) -> [u8; 7] {
+        let [low, high] = self.size.to_le_bytes();
+        [self.value, self.interface, self.alternate, self.address, self.attributes, low, high]
+    }
 }
 
 /// R6: the value of a configuration that was read and its endpoints in order; nothing where no configuration descriptor stands first. An
@@ -163,6 +172,8 @@ pub struct Shelf {
     bytes: Vec<u8>,
     pub entries: Vec<Entry>,
     pub chosen: Option<u8>,
+    /// The entries as the port stores them; behind them stands what is left of earlier ones.
+    stored: Vec<u8>,
 }
 
 impl Shelf {
@@ -171,10 +182,7 @@ impl Shelf {
     pub fn lay(&mut self, counted: usize, payload: &[u8]) {
         let from = counted.min(BYTES);
         let length = payload.len().min(BYTES - from);
-        if self.bytes.len() < from + length {
-            self.bytes.resize(from + length, 0);
-        }
-        self.bytes[from..from + length].copy_from_slice(&payload[..length]);
+        write(&mut self.bytes, from, &payload[..length]);
     }
 
     /// R3: the payload of a read that counted so many bytes.
@@ -211,7 +219,14 @@ impl Shelf {
         self.entries.retain(|e| e.value != value);
         let fitting = new.len().min(ENTRIES - self.entries.len());
         self.entries.extend(&new[..fitting]);
+        let bytes: Vec<u8> = self.entries.iter().flat_map(Entry::bytes).collect();
+        write(&mut self.stored, 0, &bytes);
         note(fitting, 2)
+    }
+
+    /// What was written to the device's part of the port's shelf: the payload's half and that of the entries, each from its beginning.
+    pub fn written(&self) -> [&[u8]; 2] {
+        [&self.bytes, &self.stored]
     }
 
     /// R7, R8: the chosen entries, in their order, set the details of their endpoints; those of other endpoints stay.
@@ -222,6 +237,12 @@ impl Shelf {
         }
         note(setting.len(), 3)
     }
+}
+
+/// Bytes from a place on.
+fn write(to: &mut Vec<u8>, from: usize, bytes: &[u8]) {
+    to.resize(to.len().max(from + bytes.len()), 0);
+    to[from..from + bytes.len()].copy_from_slice(bytes);
 }
 
 /// Details that a descriptor gave; a max of 0 is unknown.

@@ -1,5 +1,4 @@
 //! The traces of change request 2 by name: devices that are enumerated, in each of the ways that the rules and the listed cases tell apart.
-//! They stay out of traces/ until the port reads descriptors; `oracle traces --descriptors DIR` writes them.
 
 use crate::chapter9::{association, audio_endpoint, configuration, device, disk, endpoint, hid, interface, many, unknown};
 use crate::packets::setup;

@@ -74,15 +74,21 @@ pub const KINDS: [(&str, fn(&mut Bench)); 16] = [
 
 /// Kinds that the comparison plays besides, to reach what the scenes above seldom do. They stand apart, since traces/ and the runs of
 /// crates/runs are made of the others.
-pub const EXTRA: [(&str, fn(&mut Bench)); 4] =
-    [("walk", Bench::walk), ("stages", Bench::stages), ("transfers", Bench::transfers), ("crowd", Bench::crowd)];
+pub const EXTRA: [(&str, fn(&mut Bench)); 6] = [
+    ("walk", Bench::walk),
+    ("stages", Bench::stages),
+    ("transfers", Bench::transfers),
+    ("crowd", Bench::crowd),
+    DESCRIBED[0],
+    DESCRIBED[1],
+];
 
-/// Kinds of change request 2. The comparison with the port does not play them yet, since the port does not read descriptors.
+/// Those of them that read descriptors (change request 2).
 pub const DESCRIBED: [(&str, fn(&mut Bench)); 2] = [("descriptors", Bench::descriptors), ("reread", Bench::reread)];
 
 /// A trace of n records of a kind, or none where there is no such kind.
 pub fn generate(seed: u64, n: u64, kind: &str) -> Option<Vec<u8>> {
-    let (_, scene) = KINDS.iter().chain(&EXTRA).chain(&DESCRIBED).find(|(name, _)| *name == kind)?;
+    let (_, scene) = KINDS.iter().chain(&EXTRA).find(|(name, _)| *name == kind)?;
     let mut bench = Bench::new(seed);
     if kind == "mixed" {
         bench.noise = 6;

@@ -33,6 +33,13 @@ use Rattle.usb.specs.Packet.{formatOf, tokenOk, splitOk, dataOk, handshakeOk, f
 use Rattle.transaction.specs.Status.{transactionStatus}
 use Rattle.transaction.specs.Payload.{extractPayload}
 use Rattle.details.specs.Details.{detailsOf, withType, withDetail, fresh}
+use Rattle.descriptors.specs.Kind.{isRead, isSetConfiguration, isSetInterface, kindBy, kindOf}
+use Rattle.descriptors.specs.Laid.{laid}
+use Rattle.descriptors.specs.Whole.{isWhole, wholeIn, whole}
+use Rattle.descriptors.specs.Entries.{isOf, firstOf, maxOf, valueOf}
+use Rattle.descriptors.specs.Store.{chunks}
+use Rattle.descriptors.specs.Chosen.{applied, countSet}
+use Rattle.descriptors.specs.Complete.{noteOf, withMax, deviceAfter, countAfter, shelfAfter, rowAfter}
 use Rattle.group.specs.Control.{setupGroup, controlGroup}
 use Rattle.group.specs.Data.{beginGroup, repeatGroup, otherGroup}
 use Rattle.group.specs.Group.{groupStatus}
@@ -40,13 +47,14 @@ use Rattle.rules.specs.Groups.{groupUpdate, groupEarlyStart, groupEarlyAppend}
 use Rattle.rules.specs.Transactions.{transactionUpdate}
 use Rattle.rules.specs.Events.{eventUpdate}
 use Rattle.rules.specs.Decoder.{handleRawPacket, handleEvent, handleDetail, finish}
-use Rattle.rules.specs.Demand.{packet, event, detail, finishing}
-use Rattle.rules.proofs.Runs.{Leaves}
+use Rattle.rules.proofs.Runs.{packet, event, detail, finishing, Leaves}
 ";
 
 const PROOF: &str = "unfolding step bits bytes crc5Of crc16Of after formatOf tokenOk splitOk dataOk handshakeOk formatOk checkedOf transactionStatus \
-                     extractPayload detailsOf withType withDetail fresh setupGroup controlGroup beginGroup repeatGroup otherGroup groupStatus \
-                     groupUpdate groupEarlyStart groupEarlyAppend transactionUpdate eventUpdate handleRawPacket handleEvent handleDetail finish";
+                     extractPayload detailsOf withType withDetail fresh isRead isSetConfiguration isSetInterface kindBy kindOf laid isWhole wholeIn \
+                     whole isOf firstOf maxOf valueOf chunks applied countSet noteOf withMax deviceAfter countAfter shelfAfter rowAfter setupGroup controlGroup beginGroup \
+                     repeatGroup otherGroup groupStatus groupUpdate groupEarlyStart groupEarlyAppend transactionUpdate eventUpdate handleRawPacket \
+                     handleEvent handleDetail finish";
 
 fn list(items: impl Iterator<Item = String>) -> String {
     let mut text: String = items.map(|item| format!("{item} ∷ ")).collect();

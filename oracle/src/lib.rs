@@ -66,7 +66,7 @@ pub mod capture {
     use anyhow::{Context, Error};
 
     use crate::bitfield;
-    use crate::descriptors::{Descriptors, Kind, Shelf, kind};
+    use crate::descriptors::{BYTES, Descriptors, Kind, Shelf, kind};
     use crate::listed::{Case, Witness};
     use crate::own;
     use crate::storage::{CompactWriter, DataWriter, Id, Journal, Link, LinkWriter, Mark, Shared, SharedJournal, VecMap};

@@ -27,21 +27,22 @@ pub fn group_status(state: &State) -> [u64; 10] {
     out
 }
 
-/// The words of the endpoint table.
+/// The words of the endpoint table; the bytes of the shelf are `descriptors::SHELF`.
 pub const TABLE: usize = 2704;
 
 /// A lent log: where it starts, and how many elements it has.
 pub type Slice<T> = (*mut T, usize);
 
-/// What is lent for a call: the table, the two logs of bytes, and the logs of words in their order.
+/// What is lent for a call: the table, the shelf, the two logs of bytes, and the logs of words in their order.
 pub struct Lent {
     pub table: *mut u64,
+    pub shelf: *mut u8,
     pub bytes: Slice<u8>,
     pub statebytes: Slice<u8>,
     pub words: [Slice<u64>; 10],
 }
 
-/// An entry on lent logs: behind what is its own come the table, the logs and the counts. It answers an answer in the top byte and a number
+/// An entry on lent logs: behind what is its own come the table, the logs, the shelf and the counts. It answers an answer in the top byte and a number
 /// below it, which are taken apart.
 macro_rules! entry {
     ($(#[$on:meta])* $entry:ident($($own:ident: $type:ty),*)) => {
@@ -63,10 +64,11 @@ macro_rules! entry {
                     items: *mut u64, items_len: usize,
                     links: *mut u64, links_len: usize,
                     requests: *mut u64, requests_len: usize,
+                    shelf: *mut u8,
                     counts: *mut u64, counts_len: usize,
                 ) -> u64;
             }
-            let Lent { table, bytes, statebytes, words: w } = lent;
+            let Lent { table, shelf, bytes, statebytes, words: w } = lent;
             let told = unsafe {
                 $entry(
                     $($own,)*
@@ -75,6 +77,7 @@ macro_rules! entry {
                     w[0].0, w[0].1, w[1].0, w[1].1, w[2].0, w[2].1, w[3].0, w[3].1, w[4].0, w[4].1, w[5].0, w[5].1,
                     statebytes.0, statebytes.1,
                     w[6].0, w[6].1, w[7].0, w[7].1, w[8].0, w[8].1, w[9].0, w[9].1,
+                    *shelf,
                     counts.as_mut_ptr(), counts.len(),
                 )
             };
@@ -88,7 +91,7 @@ entry!(pivotspark_trace(trace: *const u8, trace_len: usize));
 /// A whole trace by the port: the answer and the offset.
 ///
 /// # Safety
-/// Each log and the table have as many elements as `lent` says, are initialised, and nobody else uses them during the call.
+/// Each log, the table and the shelf have as many elements as is said, are initialised, and nobody else uses them during the call.
 pub unsafe fn trace(trace: &[u8], lent: &Lent, counts: &mut [u64]) -> (u8, u64) {
     unsafe { pivotspark_trace(trace.as_ptr(), trace.len(), lent, counts) }
 }

@@ -43,7 +43,7 @@ pub fn limits() -> Vec<(&'static str, Vec<u8>)> {
         ("state-bytes", format!("{}; {}", each(40, added), each(96, again("PING 0 1")))),
         ("items", [each(128, again("event 7")), each(30, |_| interleaved()), each(9, |i| format!("OUT 0 {}", i + 1))].join("; ")),
         ("links", each(8, ended)),
-        ("requests", each(65, |_| transfer(0, 9, 1))),
+        ("requests", each(49, |_| transfer(0, 9, 1))),
     ];
     texts.into_iter().map(|(log, text)| (log, written(&text))).collect()
 }

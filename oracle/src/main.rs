@@ -7,7 +7,7 @@ use oracle::calls::{LOGS, Rows};
 use oracle::compare::Rust;
 use oracle::decoder::machine::Machine;
 use oracle::descriptors::Descriptors;
-use oracle::generate::{DESCRIBED, EXTRA, KINDS, download, generate};
+use oracle::generate::{EXTRA, KINDS, download, generate};
 use oracle::mixed::mixed;
 use oracle::{bench, compare, lemmas, listing, own_and_ruled, report, selfcheck, trace, traces};
 
@@ -24,7 +24,6 @@ const USAGE: &str = "usage: oracle COMMAND
                          outside the listed cases, and how often each of them was met
   traces DIR             writes the traces of the repository and the listings that they must give
   traces --check DIR     compares them with what stands in DIR
-  traces --descriptors DIR  writes the traces of change request 2, with the listings that descriptors give them
   lemmas SEED RUNS CALLS writes the sequences of `traces` and RUNS random runs of CALLS records as lemmas of crates/runs (proofs/Oracle.antt)
 options:
   --program              room and buffer of the program `listing` (docs/SIZES.md); otherwise the largest that 01 allows
@@ -111,7 +110,7 @@ fn run(words: &[String]) -> Result<bool, String> {
             output(answers(&input()?, &o).as_bytes())?;
         }
         ("gen", [kinds]) if kinds == "kinds" => {
-            let names: String = KINDS.iter().chain(&EXTRA).chain(&DESCRIBED).map(|(name, _)| format!("{name}\n")).collect();
+            let names: String = KINDS.iter().chain(&EXTRA).map(|(name, _)| format!("{name}\n")).collect();
             output(names.as_bytes())?;
         }
         ("gen", [seed, n, kind]) => {
@@ -131,7 +130,6 @@ fn run(words: &[String]) -> Result<bool, String> {
         }
         ("descriptors", [n, seed]) => return Ok(own_and_ruled::report(number(n)?, number(seed)?)),
         ("traces", [folder]) => traces::write(folder)?,
-        ("traces", [flag, folder]) if flag == "--descriptors" => traces::write_descriptors(folder)?,
         ("lemmas", [seed, runs, calls]) => output(lemmas::lemmas(number(seed)?, number(runs)?, number(calls)?).as_bytes())?,
         ("traces", [flag, folder]) if flag == "--check" => traces::check(folder)?,
         _ => return Err(USAGE.to_string()),

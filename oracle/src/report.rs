@@ -66,14 +66,15 @@ pub fn blocks(t: &blocks::Tally) -> bool {
     let names = || numbers.iter().map(String::as_str);
     println!("runs {}, blocks {}, records taken {}, 8s among them {}", t.runs, t.blocks, t.records, t.eights);
     println!("blocks that were empty {}, records that a cut divided and the next block took {}", t.empty, t.divided);
-    println!("one row short and so refused with 7: {}", t.short);
+    println!("one row short and so refused with 7: {}; bytes changed on the shelf: {}", t.short, t.shelved);
     println!("answers of blocks: {}", named(names(), &t.ends));
     let mut met = t.ends;
     for never in [1, 2, 8, 9, 10, 11] {
         met[never] = 1;
     }
-    let cases = ["an 8", "an empty block", "a divided record", "one row short"];
-    let good = all_met("answer", names(), &met) & all_met("of blocks:", cases, &[t.eights, t.empty, t.divided, t.short]);
+    let cases = ["an 8", "an empty block", "a divided record", "one row short", "a byte of the shelf"];
+    let counts = [t.eights, t.empty, t.divided, t.short, t.shelved];
+    let good = all_met("answer", names(), &met) & all_met("of blocks:", cases, &counts);
     println!("{} differences", t.differences);
     good && t.differences == 0
 }
@@ -103,10 +104,14 @@ fn listings(t: &Tally) {
 /// be met was not.
 pub fn traces(tally: &Tally, table: bool) -> bool {
     what_was_compared(tally);
-    let good = [answers(tally), limits(tally), cases(table), pairs(tally), events(tally, table)];
+    let notes = all_met("note", NOTES, &tally.notes);
+    let good = [answers(tally), limits(tally), cases(table), pairs(tally), events(tally, table), notes];
     println!("{} differences", tally.differences);
-    good == [true; 5] && tally.differences == 0
+    good == [true; 6] && tally.differences == 0
 }
+
+/// How the lines of requests end.
+const NOTES: [&str; 4] = ["none", "max", "read", "set"];
 
 fn what_was_compared(t: &Tally) {
     let kinds: Vec<String> = t.kinds.iter().map(|(kind, n)| format!("{kind} {n}")).collect();
@@ -114,6 +119,7 @@ fn what_was_compared(t: &Tally) {
     println!("damaged {}: {}", t.damages.iter().sum::<u64>(), named(DAMAGES.iter().map(|d| d.0), &t.damages));
     println!("played {} times, {} calls", t.runs, t.seen.calls);
     println!("rows compared: {}; links: {}", named(LOGS, &t.rows), named(["T", "G", "D", "E"], &t.links));
+    println!("notes of requests: {}; bytes changed on the shelf: {}", named(NOTES, &t.notes), t.shelved);
     listings(t);
 }
 

@@ -1,15 +1,14 @@
-//! The traces of the repository: 01's bench cases, the sequences where readers slip, and small traces of every kind, each with the
-//! listing that it must give. A port replays them with no Rust at hand.
+//! The traces of the repository: 01's bench cases, the sequences where readers slip, enumerations, and small traces of every kind, each
+//! with the listing that it must give. A port replays them with no Rust at hand.
 
 use std::fs;
 use std::path::Path;
 
 use crate::calls::Rows;
 use crate::decoder::machine::Machine;
-use crate::descriptors::Descriptors;
 use crate::enumerations;
 use crate::generate::{KINDS, generate};
-use crate::listing::{BUFFER, listing, listing_by};
+use crate::listing::{BUFFER, listing};
 use crate::packets::{data, handshake, sof, split, token};
 use crate::trace::Writer;
 use crate::usb::PID;
@@ -131,6 +130,7 @@ fn byte_traces() -> Vec<(String, Vec<u8>)> {
 pub fn all() -> Vec<(String, Vec<u8>)> {
     let mut traces: Vec<_> = SEQUENCES.iter().map(|(name, text)| (name.to_string(), written(text))).collect();
     traces.extend(byte_traces());
+    traces.extend(enumerations::all());
     for (kind, _) in KINDS {
         for seed in 1..=2 {
             traces.push((format!("{kind}-seed{seed}"), generate(seed, 60, kind).expect("a kind of the list")));
@@ -196,18 +196,9 @@ pub fn expected(trace: &[u8]) -> String {
 
 /// Writes NAME.utl and NAME.listing for every trace.
 pub fn write(folder: &str) -> Result<(), String> {
-    write_all(folder, &all(), expected)
-}
-
-/// The same of the traces of change request 2, with the listings that they must give once the port reads descriptors.
-pub fn write_descriptors(folder: &str) -> Result<(), String> {
-    let expected = |trace: &[u8]| listing_by::<Machine>(Descriptors::Ruled, trace, BUFFER, Rows::PROGRAM, 0);
-    write_all(folder, &enumerations::all(), expected)
-}
-
-fn write_all(folder: &str, traces: &[(String, Vec<u8>)], expected: impl Fn(&[u8]) -> String) -> Result<(), String> {
+    let traces = all();
     fs::create_dir_all(folder).map_err(|e| format!("{folder}: {e}"))?;
-    for (name, trace) in traces {
+    for (name, trace) in &traces {
         for (ending, bytes) in [("utl", trace.clone()), ("listing", expected(trace).into_bytes())] {
             let path = Path::new(folder).join(format!("{name}.{ending}"));
             fs::write(&path, bytes).map_err(|e| format!("{}: {e}", path.display()))?;

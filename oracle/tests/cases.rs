@@ -150,7 +150,7 @@ fn mends() {
 fn requests() {
     let control_write = "SETUP 0 0; DATA0 =00 09 01 00 00 00 08 00; ACK; OUT 0 0; DATA1 *8; ACK; IN 0 0; DATA1 *0; ACK";
     let rows = list(&format!("{control_write}; OUT 0 0; DATA1 *8; ACK; IN 0 0; DATA1 *0; ACK"));
-    assert_eq!(lines(&rows, "request"), ["request 0 3 0009010000000800 8", "request 1 3 0009010000000800 0"]);
+    assert_eq!(lines(&rows, "request"), ["request 0 3 0009010000000800 8 set 0", "request 1 3 0009010000000800 0 set 0"]);
     // SET_ADDRESS makes a device and no request row.
     let rows = list("SETUP 0 0; DATA0 =00 05 C8 01 00 00 00 00; ACK; IN 0 0; DATA1 *0; ACK");
     assert_eq!(lines(&rows, "device"), ["device 0 0", "device 1 200"]);

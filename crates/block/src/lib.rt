@@ -3,6 +3,7 @@ use call::room_of;
 use details::Device;
 use endpoints::Table;
 use record::Decoder;
+use shelving::Shelf;
 use single::single_step;
 use sound::is_sound;
 use step::eight;
@@ -11,7 +12,7 @@ use trace::clock::Clock;
 use trace::reader::record_at;
 ghost use mathlib.Core.Path.{_≡_};
 ghost use Rattle.call.specs.State.{state, logs};
-ghost use Rattle.step.specs.Block.{Takes};
+ghost use Rattle.step.specs.Block.{stand, Takes};
 
 pub struct Taken {
     // 0, or the answer of the record that stopped it.
@@ -48,8 +49,9 @@ pub fn records(
     items: &mut [u64],
     links: &mut [u64],
     requests: &mut [u64],
+    shelf: &mut Shelf,
 ) -> Taken
-    ensures { λ r. ⌜ Takes (now (records .entry)) at clock (state d devices (now (table .entry)) (logs (now (bytes .entry)) (now («device_rows» .entry)) (now («endpoint_rows» .entry)) (now (packets .entry)) (now (events .entry)) (now (transactions .entry)) (now (groups .entry)) (now (statebytes .entry)) (now (states .entry)) (now (items .entry)) (now (links .entry)) (now (requests .entry)))) (r .taken) (r .eights) (r .answer) (r .place) (r .clock) (state (r .decoder) (r .devices) (now (table .exit)) (logs (now (bytes .exit)) (now («device_rows» .exit)) (now («endpoint_rows» .exit)) (now (packets .exit)) (now (events .exit)) (now (transactions .exit)) (now (groups .exit)) (now (statebytes .exit)) (now (states .exit)) (now (items .exit)) (now (links .exit)) (now (requests .exit)))) ⌝ }
+    ensures { λ r. ⌜ Takes (now (records .entry)) at clock (stand (state d devices (now (table .entry)) (logs (now (bytes .entry)) (now («device_rows» .entry)) (now («endpoint_rows» .entry)) (now (packets .entry)) (now (events .entry)) (now (transactions .entry)) (now (groups .entry)) (now (statebytes .entry)) (now (states .entry)) (now (items .entry)) (now (links .entry)) (now (requests .entry)))) (now (shelf .entry))) (r .taken) (r .eights) (r .answer) (r .place) (r .clock) (stand (state (r .decoder) (r .devices) (now (table .exit)) (logs (now (bytes .exit)) (now («device_rows» .exit)) (now («endpoint_rows» .exit)) (now (packets .exit)) (now (events .exit)) (now (transactions .exit)) (now (groups .exit)) (now (statebytes .exit)) (now (states .exit)) (now (items .exit)) (now (links .exit)) (now (requests .exit)))) (now (shelf .exit))) ⌝ }
 {
     let room = room_of(
         bytes.len(),
@@ -94,6 +96,7 @@ pub fn records(
             items,
             links,
             requests,
+            shelf,
         );
         taken += p.taken;
         eights += p.eights;
@@ -132,6 +135,7 @@ pub fn records(
             items,
             links,
             requests,
+            shelf,
         );
         let next = r.decoder;
         let rest = r.devices;
@@ -174,8 +178,9 @@ pub fn block(
     items: &mut [u64],
     links: &mut [u64],
     requests: &mut [u64],
+    shelf: &mut Shelf,
 ) -> Taken
-    ensures { λ r. ⌜ Takes (now (block .entry)) 0 clock (state d devices (now (table .entry)) (logs (now (bytes .entry)) (now («device_rows» .entry)) (now («endpoint_rows» .entry)) (now (packets .entry)) (now (events .entry)) (now (transactions .entry)) (now (groups .entry)) (now (statebytes .entry)) (now (states .entry)) (now (items .entry)) (now (links .entry)) (now (requests .entry)))) (r .taken) (r .eights) (r .answer) (r .place) (r .clock) (state (r .decoder) (r .devices) (now (table .exit)) (logs (now (bytes .exit)) (now («device_rows» .exit)) (now («endpoint_rows» .exit)) (now (packets .exit)) (now (events .exit)) (now (transactions .exit)) (now (groups .exit)) (now (statebytes .exit)) (now (states .exit)) (now (items .exit)) (now (links .exit)) (now (requests .exit)))) ⌝ }
+    ensures { λ r. ⌜ Takes (now (block .entry)) 0 clock (stand (state d devices (now (table .entry)) (logs (now (bytes .entry)) (now («device_rows» .entry)) (now («endpoint_rows» .entry)) (now (packets .entry)) (now (events .entry)) (now (transactions .entry)) (now (groups .entry)) (now (statebytes .entry)) (now (states .entry)) (now (items .entry)) (now (links .entry)) (now (requests .entry)))) (now (shelf .entry))) (r .taken) (r .eights) (r .answer) (r .place) (r .clock) (stand (state (r .decoder) (r .devices) (now (table .exit)) (logs (now (bytes .exit)) (now («device_rows» .exit)) (now («endpoint_rows» .exit)) (now (packets .exit)) (now (events .exit)) (now (transactions .exit)) (now (groups .exit)) (now (statebytes .exit)) (now (states .exit)) (now (items .exit)) (now (links .exit)) (now (requests .exit)))) (now (shelf .exit))) ⌝ }
 {
     records(
         d,
@@ -196,5 +201,6 @@ pub fn block(
         items,
         links,
         requests,
+        shelf,
     )
 }

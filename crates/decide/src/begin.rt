@@ -172,6 +172,7 @@ fn transaction_start(
 {
     let invalid = Detail {
         kind: kind::INVALID,
+        given: false,
         max: 0,
     };
     match pid {
@@ -225,6 +226,7 @@ fn typed_detail(address: u8, kind: u8, detail: Detail) -> Detail
     if (number != 0) & ((number < 16) & (detail.kind == kind::UNKNOWN)) {
         Detail {
             kind,
+            given: detail.given,
             max: detail.max,
         }
     } else {

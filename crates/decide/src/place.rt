@@ -155,6 +155,7 @@ pub fn detail_by(pid: u8, near: Near) -> Detail
     if pid == SOF {
         return Detail {
             kind: kind::FRAMING,
+            given: false,
             max: 0,
         };
     }
@@ -163,6 +164,7 @@ pub fn detail_by(pid: u8, near: Near) -> Detail
     } else {
         Detail {
             kind: kind::INVALID,
+            given: false,
             max: 0,
         }
     }

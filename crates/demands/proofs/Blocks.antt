@@ -1,9 +1,10 @@
 -- What specs/Blocks.antt claims: each record of a block is a call of the sequence, or none.
-use Prim.Native.Nat.{ℕ}
+use Prim.Native.Nat.{ℕ, _-_}
 use native.Mathlib.Omega.{arith}
 use mathlib.Core.Bool.{Bool, true, false}
 use mathlib.Core.List.{List, [], _∷_, _++_}
 use mathlib.Core.Path.{_≡_, refl, sym, ap, subst, _∙_}
+use lib.ListN.{take, drop}
 use Rattle.rules.specs.Demand.{Call, packet, event, detail}
 use Rattle.rules.specs.Rows.{Row}
 use Rattle.trace.specs.Clock.{tickOf}
@@ -13,7 +14,7 @@ use Rattle.trace.specs.declared.Next.the-variants.{Packet, Event, Detail, Unkno
 use Rattle.trace.specs.declared.clock.Clock.{Clock}
 use Rattle.call.specs.Outcome.{accepts}
 use Rattle.call.specs.State.{State}
-use Rattle.step.specs.Block.{Gives, Takes}
+use Rattle.step.specs.Block.{Stand, Gives, Takes}
 use Rattle.step.specs.Block.Takes.{done, stops, goes}
 use Rattle.demands.specs.Sequence.{Does, adds, Sequence, then, Meets}
 use Rattle.demands.specs.Blocks.{Continues, Blocks}
@@ -28,35 +29,37 @@ called : {js : List Row} {s : State} (k : Call) (a : ℕ) (s′ : State) → Seq
 called {s = s} k a s′ q d = record { rows = adds k s a; sequence = then k a s′ q d }
 
 -- a record is a call, or none
-one : (t : List ℕ) (n : Next) (c : Clock) {s : State} {js : List Row} (a : ℕ) (s′ : State) → Sequence js s → Gives t n c s a s′ → Continues js s′
-one t (Packet ticks start end next) c a s′ q g = called (packet _ _) a s′ q g
-one t (Event ticks kind code next) c a s′ q g = called (event kind code (tickOf c ticks .time)) a s′ q g
-one t (Detail address number direction kind max next) c a s′ q g = called (detail address number direction kind max) a s′ q g
-one t Unknown c {js = js} a s′ q g = record { rows = []; sequence = subst (Sequence js) (sym (g .1)) q }
-one t Cut c {js = js} a s′ q g = record { rows = []; sequence = subst (Sequence js) (sym (g .1)) q }
-one t End c a s′ q g = absurd g
+one : (t : List ℕ) (n : Next) (c : Clock) (s : Stand) {js : List Row} (a : ℕ) (s′ : Stand) → Sequence js (s .state) → Gives t n c s a s′ → Continues js (s′ .state)
+one t (Packet ticks start end next) c s a s′ q g =
+    called (packet (take (end - start) (drop start t)) (tickOf c ticks .time) (s .shelf)) a (s′ .state) q (record { left = s′ .shelf; does = g })
+one t (Event ticks kind code next) c s a s′ q g = called (event kind code (tickOf c ticks .time)) a (s′ .state) q (g .0)
+one t (Detail address number direction kind max next) c s a s′ q g = called (detail address number direction kind max) a (s′ .state) q (g .0)
+one t Unknown c s {js = js} a s′ q g = record { rows = []; sequence = subst (λ (z : Stand). Sequence js (z .state)) (sym (g .1)) q }
+one t Cut c s {js = js} a s′ q g = record { rows = []; sequence = subst (λ (z : Stand). Sequence js (z .state)) (sym (g .1)) q }
+one t End c s a s′ q g = absurd g
 
 -- and none answers 1
-not-1 : (t : List ℕ) (n : Next) (c : Clock) {s : State} {js : List Row} (a : ℕ) (s′ : State) → Sequence js s → Gives t n c s a s′ → ¬ (a ≡ 1)
-not-1 t (Packet ticks start end next) c a s′ q g = meets q .never-1 (packet _ _) a s′ g
-not-1 t (Event ticks kind code next) c a s′ q g = meets q .never-1 (event kind code (tickOf c ticks .time)) a s′ g
-not-1 t (Detail address number direction kind max next) c a s′ q g = meets q .never-1 (detail address number direction kind max) a s′ g
-not-1 t Unknown c a s′ q g = λ e. let h = g .0 in omega arith
-not-1 t Cut c a s′ q g = λ e. let h = g .0 in omega arith
-not-1 t End c a s′ q g = absurd g
+not-1 : (t : List ℕ) (n : Next) (c : Clock) (s : Stand) {js : List Row} (a : ℕ) (s′ : Stand) → Sequence js (s .state) → Gives t n c s a s′ → ¬ (a ≡ 1)
+not-1 t (Packet ticks start end next) c s a s′ q g =
+    meets q .never-1 (packet (take (end - start) (drop start t)) (tickOf c ticks .time) (s .shelf)) a (s′ .state) (record { left = s′ .shelf; does = g })
+not-1 t (Event ticks kind code next) c s a s′ q g = meets q .never-1 (event kind code (tickOf c ticks .time)) a (s′ .state) (g .0)
+not-1 t (Detail address number direction kind max next) c s a s′ q g = meets q .never-1 (detail address number direction kind max) a (s′ .state) (g .0)
+not-1 t Unknown c s a s′ q g = λ e. let h = g .0 in omega arith
+not-1 t Cut c s a s′ q g = λ e. let h = g .0 in omega arith
+not-1 t End c s a s′ q g = absurd g
 
-pub block-sequence : {t : List ℕ} {at n e a p : ℕ} {c c′ : Clock} {s s′ : State} {js : List Row} → Sequence js s → Takes t at c s n e a p c′ s′ → Continues js s′
+pub block-sequence : {t : List ℕ} {at n e a p : ℕ} {c c′ : Clock} {s s′ : Stand} {js : List Row} → Sequence js (s .state) → Takes t at c s n e a p c′ s′ → Continues js (s′ .state)
 block-sequence q (done x) = record { rows = []; sequence = q }
-block-sequence {t} {at} {a = a} {c = c} {s′ = s′} q (stops x h) = one t (nextAt t at) c a s′ q x
-block-sequence {t} {at} {c = c} {s′ = s″} {js = js} q (goes {s′ = s′} b x h r) =
-    let o = one t (nextAt t at) c b s′ q x in
+block-sequence {t} {at} {a = a} {c = c} {s = s} {s′ = s′} q (stops x h) = one t (nextAt t at) c s a s′ q x
+block-sequence {t} {at} {c = c} {s = s} {s′ = s″} {js = js} q (goes {s′ = s′} b x h r) =
+    let o = one t (nextAt t at) c s b s′ q x in
     let z = block-sequence (o .sequence) r in
-    record { rows = z .rows ++ o .rows; sequence = subst (λ (l : List Row). Sequence l s″) (joined (z .rows) (o .rows) js) (z .sequence) }
+    record { rows = z .rows ++ o .rows; sequence = subst (λ (l : List Row). Sequence l (s″ .state)) (joined (z .rows) (o .rows) js) (z .sequence) }
 
-pub block-never-1 : {t : List ℕ} {at n e a p : ℕ} {c c′ : Clock} {s s′ : State} {js : List Row} → Sequence js s → Takes t at c s n e a p c′ s′ → ¬ (a ≡ 1)
+pub block-never-1 : {t : List ℕ} {at n e a p : ℕ} {c c′ : Clock} {s s′ : Stand} {js : List Row} → Sequence js (s .state) → Takes t at c s n e a p c′ s′ → ¬ (a ≡ 1)
 block-never-1 q (done x) = λ e. omega arith
-block-never-1 {t} {at} {a = a} {c = c} {s′ = s′} q (stops x h) = not-1 t (nextAt t at) c a s′ q x
-block-never-1 {t} {at} {c = c} q (goes {s′ = s′} b x h r) = block-never-1 (one t (nextAt t at) c b s′ q x .sequence) r
+block-never-1 {t} {at} {a = a} {c = c} {s = s} {s′ = s′} q (stops x h) = not-1 t (nextAt t at) c s a s′ q x
+block-never-1 {t} {at} {c = c} {s = s} q (goes {s′ = s′} b x h r) = block-never-1 (one t (nextAt t at) c s b s′ q x .sequence) r
 
 pub blocks : Blocks
 blocks = record { sequence = block-sequence; meets = λ q x. meets (block-sequence q x .sequence); never-1 = block-never-1 }

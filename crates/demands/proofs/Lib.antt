@@ -4,3 +4,7 @@ pub mod Kept
 pub mod Never
 pub mod Meets
 pub mod Blocks
+pub mod Alike
+pub mod Unread
+pub mod Asked
+pub mod Shelves

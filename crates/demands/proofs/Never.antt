@@ -33,7 +33,7 @@ not-first q h =
     (other (q .dropped) 8 0 (λ e. omega arith) (λ e. omega arith)))))))))
 
 ill-of : (k : Call) (s : State) → testsFor k s .ill ≡ isIll s
-ill-of (packet p time) s = refl
+ill-of (packet p time shelf) s = refl
 ill-of (event kind code time) s = refl
 ill-of (detail a n r k m) s = refl
 ill-of finishing s = refl
@@ -44,10 +44,10 @@ not-1 k s a s′ h d e = not-first (testsFor k s) (ill-of k s ∙ h) (sym (answe
 -- ---- a sequence leaves sound states
 
 next : (k : Call) (s : State) (a : ℕ) (s′ : State) → Does k s a s′ → isSound s ≡ true → isSound s′ ≡ true
-next (packet bytes time) = kept .packet bytes time
-next (event kind code time) = kept .event kind code time
-next (detail address number direction kind max) = kept .detail address number direction kind max
-next finishing = kept .finish
+next (packet bytes time shelf) s a s′ d = kept .packet bytes time shelf (d .left) s a s′ (d .does)
+next (event kind code time) s a s′ d = kept .event kind code time s a s′ d
+next (detail address number direction kind max) s a s′ d = kept .detail address number direction kind max s a s′ d
+next finishing s a s′ d = kept .finish s a s′ d
 
 always-sound : {js : List Row} {s : State} → Sequence js s → isSound s ≡ true
 always-sound (made {v} {t} {l} {s} hv ht m) = kept .fresh v t l s m ht (omega arith)

@@ -20,20 +20,20 @@ use Rattle.demands.specs.Sequence.{Does}
 -- ---- each contract is an `Answers`
 
 abbrev pub testsFor : Call → State → Tests
-testsFor (packet p time) s = testsOf p time s
+testsFor (packet p time shelf) s = testsOf p time s shelf
 testsFor (event kind code time) s = eventTestsOf kind (handleEvent kind code time (worldAt s)) s
 testsFor (detail a n r k m) s = detailTests (isIll s) (s .decoder .finished) n r k (deviceFor a (worldAt s))
 testsFor finishing s = finishTestsOf (finish (worldAt s)) s
 
 abbrev pub finishes : Call → State → Bool
-finishes (packet p time) s = s .decoder .finished
+finishes (packet p time shelf) s = s .decoder .finished
 finishes (event kind code time) s = s .decoder .finished
 finishes (detail a n r k m) s = s .decoder .finished
 finishes finishing s = true
 
 pub answers : (k : Call) (s : State) (a : ℕ) (s′ : State) → Does k s a s′ → Answers (testsFor k s) (call k (worldAt s)) (finishes k s) s a s′
 unfolding Details
-answers (packet p time) s a s′ d = d
+answers (packet p time shelf) s a s′ d = d .does .answers
 answers (event kind code time) s a s′ d = d
 answers (detail b n r k m) s a s′ d = d
 answers finishing s a s′ d = d
@@ -41,7 +41,7 @@ answers finishing s a s′ d = d
 -- ---- there is room for what an accepted call leaves
 
 roomy : (k : Call) (s : State) → Passed (testsFor k s) → Roomy (s .table) (countsAfter (s .decoder .counts) (call k (worldAt s))) (roomOf (s .logs))
-roomy (packet p time) s q = room-left s _ (q .full)
+roomy (packet p time shelf) s q = room-left s _ (q .full)
 roomy (event kind code time) s q = room-left s _ (q .full)
 roomy (detail a n r k m) s q = detail-room a n r k m s (sound s (q .ill) .0)
 roomy finishing s q = room-left s _ (q .full)

@@ -6,7 +6,7 @@ use mathlib.Core.List.{List, _++_}
 use Rattle.rules.specs.Rows.{Row}
 use Rattle.trace.specs.declared.clock.Clock.{Clock}
 use Rattle.call.specs.State.{State}
-use Rattle.step.specs.Block.{Takes}
+use Rattle.step.specs.Block.{Stand, Takes}
 use Rattle.demands.specs.Sequence.{Sequence, Meets}
 
 -- the history js, with the rows of more calls
@@ -15,7 +15,7 @@ pub record Continues (js : List Row) (s : State) : Type 0 where
   pub sequence : Sequence (rows ++ js) s
 
 pub record Blocks : Type 0 where
-  pub sequence : {t : List ℕ} {at n e a p : ℕ} {c c′ : Clock} {s s′ : State} {js : List Row} → Sequence js s → Takes t at c s n e a p c′ s′ → Continues js s′
+  pub sequence : {t : List ℕ} {at n e a p : ℕ} {c c′ : Clock} {s s′ : Stand} {js : List Row} → Sequence js (s .state) → Takes t at c s n e a p c′ s′ → Continues js (s′ .state)
   -- demand 3, well formed, and the rest of it
-  pub meets : {t : List ℕ} {at n e a p : ℕ} {c c′ : Clock} {s s′ : State} {js : List Row} (q : Sequence js s) (x : Takes t at c s n e a p c′ s′) → Meets (sequence q x .rows ++ js) s′
-  pub never-1 : {t : List ℕ} {at n e a p : ℕ} {c c′ : Clock} {s s′ : State} {js : List Row} → Sequence js s → Takes t at c s n e a p c′ s′ → ¬ (a ≡ 1)
+  pub meets : {t : List ℕ} {at n e a p : ℕ} {c c′ : Clock} {s s′ : Stand} {js : List Row} (q : Sequence js (s .state)) (x : Takes t at c s n e a p c′ s′) → Meets (sequence q x .rows ++ js) (s′ .state)
+  pub never-1 : {t : List ℕ} {at n e a p : ℕ} {c c′ : Clock} {s s′ : Stand} {js : List Row} → Sequence js (s .state) → Takes t at c s n e a p c′ s′ → ¬ (a ≡ 1)

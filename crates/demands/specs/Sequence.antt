@@ -29,9 +29,14 @@ use Rattle.events.specs.Call.{EventCall, FinishCall}
 
 -- ---- "from a fresh decoder, after any calls, each on the record and logs that the one before left, refused ones among them"
 
+-- a packet with a shelf that is lent to it. The shelf may hold anything, not only what the call before left there
+pub record OnShelf (bytes : List ℕ) (time : ℕ) (shelf : List ℕ) (s : State) (a : ℕ) (s′ : State) : Type 0 where
+  pub left : List ℕ
+  pub does : PacketCall bytes time s shelf a s′ left
+
 -- the call on the state s answers a and leaves s′, by the contract of its public function
 abbrev pub Does : Call → State → ℕ → State → Type 0
-Does (packet bytes time) s a s′ = PacketCall bytes time s a s′
+Does (packet bytes time shelf) s a s′ = OnShelf bytes time shelf s a s′
 Does (event kind code time) s a s′ = EventCall kind code time s a s′
 Does (detail address number direction kind max) s a s′ = Details address number direction kind max s a s′
 Does finishing s a s′ = FinishCall s a s′

@@ -9,7 +9,7 @@ use Rattle.descriptors.specs.Whole.{isWhole, wholeIn, whole}
 use Rattle.descriptors.specs.Kind.{isRead, isSetConfiguration, isSetInterface, kindBy, kindOf}
 use Rattle.descriptors.specs.Entries.{isOf, firstOf, maxOf, valueOf, settingAfter, givesEntry, entryOf, entriesIn, entriesBehind, entriesOf}
 use Rattle.usb.specs.Fields.{setupOf}
-use Rattle.details.specs.Details.{stored, withDetail, fresh}
+use Rattle.details.specs.Details.{stored, withGiven, fresh}
 use Rattle.details.specs.declared.Device.{Device}
 use Rattle.descriptors.specs.Chosen.{configurationChoice, interfaceChoice, isChosen, setFrom, setIf, applied, countSet}
 use Rattle.descriptors.specs.Store.{without, leftBy, addedBy}
@@ -83,8 +83,8 @@ after-set : Device
 after-set = applied (configurationChoice (setupOf 0x0000000000010900)) (in-entry ∷ out-entry ∷ []) (fresh 3)
 
 set-disk : map (stored after-set) (1 ∷ 2 ∷ 17 ∷ 18 ∷ [])
-    ≡ record { kind = 4; max = 0 } ∷ record { kind = 2; max = 512 } ∷ record { kind = 2; max = 512 } ∷ record { kind = 4; max = 0 } ∷ []
-unfolding after-set in-entry out-entry applied setIf setFrom isChosen withDetail fresh
+    ≡ record { kind = 4; given = false; max = 0 } ∷ record { kind = 2; given = true; max = 512 } ∷ record { kind = 2; given = true; max = 512 } ∷ record { kind = 4; given = false; max = 0 } ∷ []
+unfolding after-set in-entry out-entry applied setIf setFrom isChosen withGiven fresh
 set-disk = refl
 
 -- SET_INTERFACE 2, 1, where configuration 5 is chosen and where none is; SET_CONFIGURATION 5, which means alternate setting 0 alone
@@ -99,8 +99,8 @@ unfolding camera noteOf countSet isChosen
 counts = refl
 
 -- 3 x 1,024 bytes a microframe: bits 10..0 alone
-set-camera : stored (applied (interfaceChoice (setupOf 0x0000000200010B01) 5) camera (fresh 3)) 17 ≡ record { kind = 1; max = 1024 }
-unfolding camera applied setIf setFrom isChosen withDetail fresh
+set-camera : stored (applied (interfaceChoice (setupOf 0x0000000200010B01) 5) camera (fresh 3)) 17 ≡ record { kind = 1; given = true; max = 1024 }
+unfolding camera applied setIf setFrom isChosen withGiven fresh
 set-camera = refl
 
 -- an enumeration: SET_CONFIGURATION 1 before anything is read, the device descriptor, a configuration read of 9 bytes, one in two packets of which the second came
@@ -124,6 +124,6 @@ unfolding enumerated enumeration device disk isRead isSetConfiguration isSetInte
 notes = refl
 
 details-read : map (stored (enumerated .device)) (0 ∷ 1 ∷ 2 ∷ 17 ∷ [])
-    ≡ record { kind = 0; max = 64 } ∷ record { kind = 4; max = 0 } ∷ record { kind = 2; max = 512 } ∷ record { kind = 2; max = 512 } ∷ []
-unfolding enumerated enumeration device disk isRead isSetConfiguration isSetInterface kindBy kindOf withMax deviceAfter isWhole wholeIn whole isOf firstOf maxOf valueOf settingAfter givesEntry entryOf entriesIn entriesBehind entriesOf fitting without leftBy addedBy isChosen applied setIf setFrom withDetail fresh
+    ≡ record { kind = 0; given = true; max = 64 } ∷ record { kind = 4; given = false; max = 0 } ∷ record { kind = 2; given = true; max = 512 } ∷ record { kind = 2; given = true; max = 512 } ∷ []
+unfolding enumerated enumeration device disk isRead isSetConfiguration isSetInterface kindBy kindOf withMax deviceAfter isWhole wholeIn whole isOf firstOf maxOf valueOf settingAfter givesEntry entryOf entriesIn entriesBehind entriesOf fitting without leftBy addedBy isChosen applied setIf setFrom withGiven fresh
 details-read = refl

@@ -8,7 +8,7 @@ use lib.Dec.{eqb}
 use lib.ListN.{getD}
 use Rattle.rows.specs.One.{one}
 use Rattle.usb.specs.declared.fields.Setup.{Setup}
-use Rattle.details.specs.Details.{withDetail}
+use Rattle.details.specs.Details.{withGiven}
 use Rattle.details.specs.declared.Device.{Device}
 use Rattle.descriptors.specs.declared.choose.Choice.{Choice}
 use Rattle.descriptors.specs.declared.request.Kind.{Kind}
@@ -40,7 +40,7 @@ isChosen c e = isMeant c (getD e 0 0) (getD e 1 0) (getD e 2 0)
 -- table 9-13: bEndpointAddress has the number in bits 3..0 and the direction in bit 7, bmAttributes the type in bits 1..0, wMaxPacketSize the size in
 -- bits 10..0
 unfoldable pub setFrom : ℕ → ℕ → ℕ → ℕ → Device → Device
-setFrom address attributes low high d = withDetail d (address % 16) (address / 128 % 2) (attributes % 4) ((low + high * 256) % 2048)
+setFrom address attributes low high d = withGiven d (address % 16) (address / 128 % 2) (attributes % 4) ((low + high * 256) % 2048)
 
 unfoldable pub setIf : Bool → List ℕ → Device → Device
 setIf on e d = cond on (setFrom (getD e 3 0) (getD e 4 0) (getD e 5 0) (getD e 6 0) d) d

@@ -12,7 +12,7 @@ use lib.Seq.{sets}
 use Rattle.usb.specs.Fields.{setupOf}
 use Rattle.usb.specs.Types.{Control}
 use Rattle.usb.specs.declared.fields.Setup.{Setup}
-use Rattle.details.specs.Details.{withDetail}
+use Rattle.details.specs.Details.{withGiven}
 use Rattle.details.specs.declared.Device.{Device}
 use Rattle.descriptors.specs.Whole.{joined}
 use Rattle.descriptors.specs.Kind.{kindOf}
@@ -56,7 +56,7 @@ noteOf Other s chosen p es = 0
 
 -- 9.6.1, table 9-8: bMaxPacketSize0 is the max of number 0, which is control
 unfoldable pub withMax : List ℕ → Device → Device
-withMax p d = cond (maxOf p .taken) (withDetail d 0 0 Control (maxOf p .number)) d
+withMax p d = cond (maxOf p .taken) (withGiven d 0 0 Control (maxOf p .number)) d
 
 -- the device's details: the SETs make them, and no configuration read does
 unfoldable pub deviceAfter : Kind → Setup → ℕ → List ℕ → List (List ℕ) → Device → Device
@@ -108,3 +108,22 @@ Completes a = CompletesAs (kindOf (a .setup)) a
 
 abbrev pub deviceBy : Kind → Asked → List ℕ → Device → Device
 deviceBy kind a shelf d = deviceAfter kind (setupOf (a .setup)) (a .chosen) (payloadFor a shelf) (entriesFor a shelf) d
+
+-- a device's row with what a request left of it
+abbrev pub rowWith : Completed → Device → Device
+rowWith r d = record { address = d .address; chosen = r .chosen; kept = r .kept; details = d .details }
+
+-- the row of its device after a request, by the shelf before it
+unfoldable pub rowAfter : Kind → Asked → List ℕ → Device → Device
+rowAfter kind a shelf d = rowWith (completedBy a shelf kind) (deviceBy kind a shelf d)
+
+-- all that a completed request does, by its setup data: the note of its row, the row of its device, the shelf
+module _ (a : Asked) (shelf : List ℕ) where
+  abbrev pub noteBy : ℕ
+  noteBy = completedBy a shelf (kindOf (a .setup)) .note
+
+  abbrev pub rowBy : Device → Device
+  rowBy = rowAfter (kindOf (a .setup)) a shelf
+
+  abbrev pub shelfBy : List ℕ
+  shelfBy = shelfAfter (kindOf (a .setup)) (a .start) (payloadFor a shelf) (entriesFor a shelf) shelf

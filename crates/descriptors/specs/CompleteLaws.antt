@@ -10,7 +10,7 @@ use lib.Dec.{ltb}
 use lib.ListN.{length, take, drop, length-append}
 use Rattle.rows.specs.Sets.{one-small}
 use Rattle.usb.specs.Fields.{setupOf}
-use Rattle.details.specs.Details.{withDetail}
+use Rattle.details.specs.Details.{withGiven}
 use Rattle.details.specs.declared.Device.{Device}
 use Rattle.descriptors.specs.Kind.{kindOf}
 use Rattle.descriptors.specs.Entries.{maxOf, valueOf}
@@ -50,9 +50,9 @@ module _ (p : List ℕ) (t : Taken) (e : t ≡ maxOf p) where
   unfolding withMax
   max-unset d h = let q = sym (ap (λ (t : Taken). t .taken) e) ∙ h in rw q
 
-  pub max-set : (d : Device) → t .taken ≡ true → withDetail d 0 0 0 (t .number) ≡ withMax p d
+  pub max-set : (d : Device) → t .taken ≡ true → withGiven d 0 0 0 (t .number) ≡ withMax p d
   unfolding withMax
-  max-set d h = let q = sym (ap (λ (t : Taken). t .taken) e) ∙ h in rw q (ap (λ (t : Taken). withDetail d 0 0 0 (t .number)) e)
+  max-set d h = let q = sym (ap (λ (t : Taken). t .taken) e) ∙ h in rw q (ap (λ (t : Taken). withGiven d 0 0 0 (t .number)) e)
 
 -- entries that are meant are no more than entries
 pub count-few : (c : Choice) (es : List (List ℕ)) → countSet c es ≤ length es

@@ -18,3 +18,4 @@ pub mod SetLaws
 pub mod CompleteLaws
 pub mod ShelfLaws
 pub mod FateLaws
+pub mod RowLaws

@@ -11,7 +11,7 @@ use lib.Dec.{eqb}
 use lib.ListN.{length, getD}
 use Rattle.rows.specs.One.{one}
 use Rattle.details.specs.Details.{stored, detailEntry}
-use Rattle.details.specs.DetailsLaws.{detail-kept, detail-other, detail-same}
+use Rattle.details.specs.DetailsLaws.{given-kept, given-other, given-same}
 use Rattle.details.specs.declared.Detail.{Detail}
 use Rattle.details.specs.declared.Device.{Device}
 use Rattle.descriptors.specs.Whole.{whole}
@@ -30,22 +30,22 @@ abbrev pub placeOf : List ℕ → ℕ
 placeOf e = detailEntry (getD e 3 0 % 16) (getD e 3 0 / 128 % 2)
 
 abbrev pub detailOf : List ℕ → Detail
-detailOf e = record { kind = getD e 4 0 % 4; max = (getD e 5 0 + getD e 6 0 * 256) % 2048 }
+detailOf e = record { kind = getD e 4 0 % 4; given = true; max = (getD e 5 0 + getD e 6 0 * 256) % 2048 }
 
 module _ (e : List ℕ) (d : Device) where
   set-count : (on : Bool) → length (setIf on e d .details) ≡ length (d .details)
   unfolding setIf setFrom
-  set-count true = detail-kept d (getD e 3 0 % 16) (getD e 3 0 / 128 % 2) (getD e 4 0 % 4) ((getD e 5 0 + getD e 6 0 * 256) % 2048) .count
+  set-count true = given-kept d (getD e 3 0 % 16) (getD e 3 0 / 128 % 2) (getD e 4 0 % 4) ((getD e 5 0 + getD e 6 0 * 256) % 2048) .count
   set-count false = refl
 
   set-other : (on : Bool) (j : ℕ) → (on ≡ true → j ≡ placeOf e → ⊥) → stored (setIf on e d) j ≡ stored d j
   unfolding setIf setFrom
-  set-other true j h = detail-other d (getD e 3 0 % 16) (getD e 3 0 / 128 % 2) (getD e 4 0 % 4) ((getD e 5 0 + getD e 6 0 * 256) % 2048) j (h refl)
+  set-other true j h = given-other d (getD e 3 0 % 16) (getD e 3 0 / 128 % 2) (getD e 4 0 % 4) ((getD e 5 0 + getD e 6 0 * 256) % 2048) j (h refl)
   set-other false j h = refl
 
   set-same : (on : Bool) → on ≡ true → placeOf e < length (d .details) → stored (setIf on e d) (placeOf e) ≡ detailOf e
   unfolding setIf setFrom
-  set-same on q h = rw q (detail-same d (getD e 3 0 % 16) (getD e 3 0 / 128 % 2) (getD e 4 0 % 4) ((getD e 5 0 + getD e 6 0 * 256) % 2048) h)
+  set-same on q h = rw q (given-same d (getD e 3 0 % 16) (getD e 3 0 / 128 % 2) (getD e 4 0 % 4) ((getD e 5 0 + getD e 6 0 * 256) % 2048) h)
 
 module _ (c : Choice) where
   -- no entry that is meant is of the endpoint at j

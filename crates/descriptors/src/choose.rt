@@ -16,9 +16,6 @@ pub struct Choice {
     pub alternate: u16,
 }
 
-// No configuration is chosen.
-pub const UNCHOSEN: u16 = 256;
-
 // SET_CONFIGURATION: all interfaces of the configuration, at alternate setting 0.
 pub fn configuration_choice(setup: u64) -> Choice
     ensures { λ r. ⌜ r ≡ configurationChoice (setupOf setup) ⌝ }
@@ -66,7 +63,7 @@ fn set_from(device: Device, address: u8, attributes: u8, low: u8, high: u8) -> D
     let direction = address / 128 % 2;
     let kind = attributes % 4;
     let max = usb::fields::pair(low, high) % 2048;
-    details::set_detail(device, number, direction, kind, max)
+    details::set_given(device, number, direction, kind, max)
 }
 
 // The details of the endpoint of the entry at a place, where `on`.

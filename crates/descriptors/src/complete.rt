@@ -1,6 +1,5 @@
 // What a completed request does (change request 2): to the device's part of the shelf, to the device's row, and the note of the request's row.
 use crate::choose::Choice;
-use crate::choose::UNCHOSEN;
 use crate::choose::apply;
 use crate::choose::configuration_choice;
 use crate::choose::count_set;
@@ -13,13 +12,14 @@ use crate::store::keep_own;
 use crate::walk::read_max;
 use crate::walk::read_value;
 use details::Device;
+use details::UNCHOSEN;
 use usb::types;
 ghost use mathlib.Core.Path.{_≡_};
 ghost use Prim.Native.Nat.{_+_, _≤_, _<_, min};
 ghost use lib.ListN.{length};
 ghost use Rattle.descriptors.specs.Kind.{kindOf};
 ghost use Rattle.descriptors.specs.Chosen.{applied};
-ghost use Rattle.descriptors.specs.Complete.{payloadFor, entriesFor, noted, maxNote, setNote, withMax, completedBy, CompletesAs, Completes, deviceBy};
+ghost use Rattle.descriptors.specs.Complete.{payloadFor, entriesFor, noted, maxNote, setNote, withMax, completedBy, CompletesAs, Completes, deviceBy, rowWith};
 ghost use Rattle.descriptors.specs.declared.request.Kind.the-variants.{ConfigurationRead, SetConfiguration, SetInterface};
 
 // A request that completes: its setup data, the length of its payload, where its device's part of the shelf begins, and what the device's row says:
@@ -169,7 +169,7 @@ fn set_max(device: Device, a: Asked, shelf: &[u8]) -> Device
     if !first.taken {
         return device;
     }
-    details::set_detail(device, 0, 0, types::CONTROL, first.number as u16)
+    details::set_given(device, 0, 0, types::CONTROL, first.number as u16)
 }
 
 fn apply_kept(device: Device, a: Asked, choice: Choice, shelf: &[u8]) -> Device
@@ -208,4 +208,15 @@ pub fn device_after(device: Device, a: Asked, shelf: &[u8]) -> Device
         Kind::SetInterface => apply_interface(device, a, shelf),
         Kind::Other => device,
     }
+}
+
+// The device's row: with those details, and with what the request left of it otherwise.
+pub fn row_after(device: Device, a: Asked, r: Completed, shelf: &[u8]) -> Device
+    requires { ⌜ a .start + 8192 ≤ length (now shelf) ⌝ }
+    ensures { λ d. ⌜ d ≡ rowWith r (deviceBy (kindOf (a .setup)) a (now (shelf .entry)) device) ⌝ }
+{
+    let mut d = device_after(device, a, shelf);
+    d.chosen = r.chosen;
+    d.kept = r.kept;
+    d
 }

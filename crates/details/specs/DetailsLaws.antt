@@ -6,18 +6,20 @@ use lib.ListN.{length, length-set}
 use lib.Seq.{getD-set-same, getD-set-other}
 use Rattle.details.specs.declared.Detail.{Detail}
 use Rattle.details.specs.declared.Device.{Device}
-use Rattle.details.specs.Details.{bare, entryFor, stored, change, storable, withType, detailEntry, withDetail, fresh}
+use Rattle.details.specs.Details.{bare, entryFor, stored, change, storable, withType, detailEntry, withDetail, withGiven, fresh}
 
--- the device keeps its address and its number of entries
+-- the device keeps its address, its configuration, its number of descriptor entries, and its number of details
 pub record Kept (d e : Device) : Type 0 where
   pub address : e .address ≡ d .address
+  pub chosen : e .chosen ≡ d .chosen
+  pub kept : e .kept ≡ d .kept
   pub count : length (e .details) ≡ length (d .details)
 
 -- a change that is made or not
 module _ (d : Device) (i : ℕ) (x : Detail) where
   maybe-kept : (b : Bool) → Kept d (cond b (change d i x) d)
-  maybe-kept true = record { address = refl; count = length-set (d .details) i x }
-  maybe-kept false = record { address = refl; count = refl }
+  maybe-kept true = record { address = refl; chosen = refl; kept = refl; count = length-set (d .details) i x }
+  maybe-kept false = record { address = refl; chosen = refl; kept = refl; count = refl }
 
   maybe-other : (b : Bool) (j : ℕ) → (j ≡ i → ⊥) → stored (cond b (change d i x) d) j ≡ stored d j
   maybe-other true j ne = getD-set-other (d .details) i j x (bare 0) ne
@@ -33,19 +35,38 @@ module _ (d : Device) (address k : ℕ) where
   unfolding withType
   type-other j ne = maybe-other d (entryFor address) _ (storable d address) j ne
 
+-- a detail call's entry and a descriptor's
 module _ (d : Device) (number direction k m : ℕ) where
+  abbrev pub typedEntry : Detail
+  typedEntry = record { kind = k; given = stored d (detailEntry number direction) .given; max = m }
+
+  abbrev pub givenEntry : Detail
+  givenEntry = record { kind = k; given = true; max = m }
+
   pub detail-kept : Kept d (withDetail d number direction k m)
   unfolding withDetail
-  detail-kept = maybe-kept d (detailEntry number direction) (record { kind = k; max = m }) true
+  detail-kept = maybe-kept d (detailEntry number direction) typedEntry true
 
   pub detail-other : (j : ℕ) → (j ≡ detailEntry number direction → ⊥) → stored (withDetail d number direction k m) j ≡ stored d j
   unfolding withDetail
-  detail-other j ne = maybe-other d (detailEntry number direction) (record { kind = k; max = m }) true j ne
+  detail-other j ne = maybe-other d (detailEntry number direction) typedEntry true j ne
 
   -- the entry itself holds both
-  pub detail-same : detailEntry number direction < length (d .details) → stored (withDetail d number direction k m) (detailEntry number direction) ≡ record { kind = k; max = m }
+  pub detail-same : detailEntry number direction < length (d .details) → stored (withDetail d number direction k m) (detailEntry number direction) ≡ typedEntry
   unfolding withDetail
-  detail-same h = getD-set-same (d .details) (detailEntry number direction) (record { kind = k; max = m }) (bare 0) h
+  detail-same h = getD-set-same (d .details) (detailEntry number direction) typedEntry (bare 0) h
+
+  pub given-kept : Kept d (withGiven d number direction k m)
+  unfolding withGiven
+  given-kept = maybe-kept d (detailEntry number direction) givenEntry true
+
+  pub given-other : (j : ℕ) → (j ≡ detailEntry number direction → ⊥) → stored (withGiven d number direction k m) j ≡ stored d j
+  unfolding withGiven
+  given-other j ne = maybe-other d (detailEntry number direction) givenEntry true j ne
+
+  pub given-same : detailEntry number direction < length (d .details) → stored (withGiven d number direction k m) (detailEntry number direction) ≡ givenEntry
+  unfolding withGiven
+  given-same h = getD-set-same (d .details) (detailEntry number direction) givenEntry (bare 0) h
 
 pub length-fresh : (address : ℕ) → length (fresh address .details) ≡ 32
 unfolding fresh

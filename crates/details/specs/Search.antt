@@ -19,4 +19,4 @@ lastOf test (suc n) = cond (test n) (At n) (lastOf test n)
 
 -- what is read past the last device row
 abbrev pub blank : Device
-blank = record { address = 0; details = [] }
+blank = record { address = 0; chosen = 0; kept = 0; details = [] }

@@ -5,18 +5,22 @@ pub mod kind;
 use usb::types;
 ghost use mathlib.Core.Path.{_≡_};
 ghost use Prim.Native.Nat.{_<_};
-ghost use Rattle.details.specs.Details.{entryFor, bare, ordinary, detailsOf, withType, detailEntry, withDetail, fresh};
+ghost use Rattle.details.specs.Details.{entryFor, bare, ordinary, detailsOf, withType, detailEntry, withDetail, withGiven, fresh};
 ghost use Rattle.details.specs.Lookup.{noDevice, detailAnswer};
 
-// What is known of an endpoint: its type, and the largest payload it sends (0 where it is not known).
+// What is known of an endpoint: its type, whether a descriptor gave it, and the largest payload it sends (0 where it is not known).
 pub struct Detail {
     pub kind: u8,
+    pub given: bool,
     pub max: u16,
 }
 
-// A device row: its address, and the details of its 16 endpoint numbers, out (0 to 15) and then in (16 to 31).
+// A device row: its address, the configuration that is chosen (256 and more: none is), how many descriptor entries it keeps, and the details of its 16
+// endpoint numbers, out (0 to 15) and then in (16 to 31).
 pub struct Device {
     pub address: u8,
+    pub chosen: u16,
+    pub kept: u16,
     pub details: [Detail; 32],
 }
 
@@ -34,6 +38,9 @@ pub const INVALID_EP_NUM: u8 = 0x11;
 
 pub const FRAMING_EP_NUM: u8 = 0x12;
 
+// No configuration is chosen.
+pub const UNCHOSEN: u16 = 256;
+
 // Document 01's answers to a detail call.
 const WRONG: u8 = 5;
 
@@ -43,7 +50,11 @@ const NO_DEVICE: u8 = 6;
 fn bare_kind(kind: u8) -> Detail
     ensures { λ r. ⌜ r ≡ bare kind ⌝ }
 {
-    Detail { kind, max: 0 }
+    Detail {
+        kind,
+        given: false,
+        max: 0,
+    }
 }
 
 // The entry of an ordinary address: its number, and 16 more where its direction is In.
@@ -75,6 +86,7 @@ pub fn endpoint_details(device: Device, address: u8) -> Detail
             let known = device.details[0];
             Detail {
                 kind: types::CONTROL,
+                given: known.given,
                 max: known.max,
             }
         }
@@ -100,6 +112,7 @@ pub fn set_endpoint_type(device: Device, address: u8, kind: u8) -> Device
     let mut device = device;
     device.details[at] = Detail {
         kind,
+        given: known.given,
         max: known.max,
     };
     device
@@ -117,15 +130,36 @@ fn detail_entry(number: u8, direction: u8) -> usize
     (number + 16 * direction) as usize
 }
 
-// A detail call sets both type and max.
+// A detail call sets both type and max; what a descriptor gave stays marked as given.
 pub fn set_detail(device: Device, number: u8, direction: u8, kind: u8, max: u16) -> Device
     requires { ⌜ number < 16 ⌝ }
     requires { ⌜ direction < 2 ⌝ }
     ensures { λ r. ⌜ r ≡ withDetail device number direction kind max ⌝ }
 {
     let at = detail_entry(number, direction);
+    let before = device.details[at];
     let mut device = device;
-    device.details[at] = Detail { kind, max };
+    device.details[at] = Detail {
+        kind,
+        given: before.given,
+        max,
+    };
+    device
+}
+
+// A descriptor sets both, and that it gave them.
+pub fn set_given(device: Device, number: u8, direction: u8, kind: u8, max: u16) -> Device
+    requires { ⌜ number < 16 ⌝ }
+    requires { ⌜ direction < 2 ⌝ }
+    ensures { λ r. ⌜ r ≡ withGiven device number direction kind max ⌝ }
+{
+    let at = detail_entry(number, direction);
+    let mut device = device;
+    device.details[at] = Detail {
+        kind,
+        given: true,
+        max,
+    };
     device
 }
 
@@ -135,7 +169,12 @@ pub fn fresh_device(address: u8) -> Device
 {
     let unknown = bare_kind(kind::UNKNOWN);
     let details = [unknown; 32];
-    Device { address, details }
+    Device {
+        address,
+        chosen: UNCHOSEN,
+        kept: 0,
+        details,
+    }
 }
 
 fn no_device(found: Found) -> u8

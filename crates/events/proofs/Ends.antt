@@ -22,9 +22,6 @@ use Rattle.call.specs.State.{State}
 use Rattle.plan.specs.Sound.{EndFits}
 use Rattle.plan.specs.Step.{ended}
 use Rattle.plan.specs.declared.End.{End}
-use Rattle.details.specs.Details.{fresh}
-use Rattle.plan.specs.Devices.{addsDevice, addressOf}
-use Rattle.plan.proofs.Devices.{placed, ended-devices}
 use Rattle.plan.proofs.Frame.{Rest, act-rest, act-log}
 use Rattle.plan.proofs.Played.{event-untouched, keepalive-untouched, ended-keeps, ended-tied}
 use Rattle.write_event.specs.EndedLaws.{over-log, ended-holds as all-holds}
@@ -47,7 +44,7 @@ module _ (c : Stamp) (s : State) (b : Bool) (w : World) (m : Memory) (h : Reache
             subst (λ (v : World). HoldsAt c s v after) (sym (quiet x e w q))
             (holds-carried few byte x there (e .update) (holds-altered (h .holds) x (becomes (e .entry)) there few (λ a b. f .bytes)));
         table = carried-tabled few byte x there (e .update) (s .decoder .transaction .id) _ (tabled-store (h .table) few x (e .entry) there (f .bytes));
-        devices = λ j. ended-devices x e w j ∙ ap (λ (g : Effect). placed (addsDevice g) (w .deviceCount) (fresh (addressOf g)) j (w .devices j)) q ∙ h .devices j;
+        devices = λ j. ap (λ (v : World). v .devices j) (quiet x e w q) ∙ ap (λ (r : Rest). r .devices j) (act-rest (e .update) x (change x (becomes (e .entry)) w)) ∙ h .devices j;
         transaction = ended-tied (s .decoder .transaction) x e w (h .transaction);
         event = ended-keeps _ event-untouched x e w ∙ h .event;
         keepalive = ended-keeps _ keepalive-untouched x e w ∙ h .keepalive;

@@ -56,7 +56,7 @@ fn row_line(out: &mut [u8], at: usize, kind: Kind, row: u64, w: &[u64]) -> usize
         Kind::Group => text::group_line(out, at, row, w[0], w[1], w[2]),
         Kind::Item => text::item_line(out, at, row, w[0]),
         Kind::Link => text::link_line(out, at, w[0], w[1], w[2], w[3]),
-        Kind::Request => text::request_line(out, at, row, w[0], w[1], w[2]),
+        Kind::Request => text::request_line(out, at, row, w[0], w[1], w[2], w[3]),
     }
 }
 

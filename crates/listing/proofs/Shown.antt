@@ -14,8 +14,9 @@ use Rattle.record.specs.declared.Counts.{Counts}
 use Rattle.call.specs.State.{Logs, State, roomBy, roomOf}
 use Rattle.lines.specs.Listing.{listing, Counted, rowsOf}
 use Rattle.lines.specs.ListingLaws.{counted, listing-fits, listed, listing-listed}
+use Rattle.step.specs.Block.{Stand}
 use Rattle.run.specs.Run.{Ran}
-use Rattle.listing.specs.Prints.{mostInput, noTable, noRows, shown, Prints, Printed, textRoom}
+use Rattle.listing.specs.Prints.{mostInput, noTable, noRows, noShelf, shown, Prints, Printed, textRoom}
 use Rattle.listing.specs.Shows.{Listable, Shows}
 use Rattle.listing.specs.PrintsLaws.{ran-within}
 
@@ -40,25 +41,28 @@ shown-fits : (a p : ℕ) (n : Counts) (l l₀ : Logs) → (a ≡ 0 → Within n 
 shown-fits zero p n l l₀ h = omega (arith, listing-fits n l, rows-within n (roomOf l₀) (h refl))
 shown-fits (suc a) p n l l₀ h = omega (arith, refused-fits (suc a) p)
 
-module _ {trace t : List ℕ} {l : Logs} {a p : ℕ} {s : State} (ran : Ran trace t l a p s) where
+module _ {trace t : List ℕ} {l : Logs} {h : List ℕ} {a p : ℕ} {q : Stand} (ran : Ran trace t l h a p q) where
+  abbrev s : State
+  s = q .state
+
   pub has-rows : Listable a (s .decoder .counts) (listed (s .logs))
   has-rows e = counted (s .decoder .counts) (s .logs) (ran-within ran e)
 
   -- on logs as long as those that the run began with
   pub text-room : (out : List ℕ) → roomOf (s .logs) ≡ roomOf l → textRoom l ≤ length out → Room out 0 (shown a p (s .decoder .counts) (listed (s .logs)))
-  text-room out k h =
+  text-room out k u =
       omega (arith, shown-fits a p (s .decoder .counts) (listed (s .logs)) l (λ e. subst (Within (s .decoder .counts)) k (ran-within ran e)))
 
   pub shows :
       {before after : List ℕ} {end : ℕ}
       → Room before 0 (shown a p (s .decoder .counts) (listed (s .logs)))
       → Appended before 0 (shown a p (s .decoder .counts) (listed (s .logs))) after end
-      → Shows trace t l before after end
+      → Shows trace t l h before after end
   shows {before} {after} {end} r x =
       record {
         answer = a;
         place = p;
-        final = s;
+        final = q;
         ran = ran;
         appended = rw (shown-listed a p (s .decoder .counts) (s .logs)) at x;
         within = omega (arith, x .place);
@@ -70,7 +74,7 @@ module _ {trace t : List ℕ} {l : Logs} {a p : ℕ} {s : State} (ran : Ran trac
 pub zeros : (n : ℕ) → n ≡ length (replicate {A = ℕ} n 0)
 zeros n = sym (length-replicate {A = ℕ} n 0)
 
-pub own-room : textRoom noRows ≡ 419484
+pub own-room : textRoom noRows ≡ 416988
 unfolding roomBy
 own-room = refl
 
@@ -82,10 +86,10 @@ pub too-long :
     → Printed trace before after end
 too-long h r x = record { text = tooLong; prints = Prints.long h; appended = x; within = omega (arith, own-room, x .place) }
 
-pub printed : {trace before after : List ℕ} {end : ℕ} → length trace ≤ mostInput → Shows trace noTable noRows before after end → Printed trace before after end
+pub printed : {trace before after : List ℕ} {end : ℕ} → length trace ≤ mostInput → Shows trace noTable noRows noShelf before after end → Printed trace before after end
 printed h x =
     record {
-      text = shown (x .answer) (x .place) (x .final .decoder .counts) (x .final .logs);
+      text = shown (x .answer) (x .place) (x .final .state .decoder .counts) (x .final .state .logs);
       prints = Prints.runs h (x .ran);
       appended = x .appended;
       within = x .within;

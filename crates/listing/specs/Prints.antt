@@ -9,8 +9,9 @@ use Rattle.text.specs.Append.{Appended}
 use Rattle.text.specs.Lines.{longest, refusedLine}
 use Rattle.text.specs.Words.{tooLong}
 use Rattle.record.specs.declared.Counts.{Counts}
-use Rattle.call.specs.State.{Logs, logs, State, roomOf}
+use Rattle.call.specs.State.{Logs, logs, roomOf}
 use Rattle.lines.specs.Listing.{listing, rowsOf}
+use Rattle.step.specs.Block.{Stand}
 use Rattle.run.specs.Run.{Ran}
 
 -- the longest trace that is read
@@ -26,6 +27,10 @@ noRows =
     logs (replicate 8192 0) (replicate 64 0) (replicate 384 0) (replicate 1024 0) (replicate 256 0) (replicate 384 0) (replicate 768 0) (replicate 8192 0)
     (replicate 256 0) (replicate 256 0) (replicate 2560 0) (replicate 192 0)
 
+-- and the shelf
+abbrev pub noShelf : List ℕ
+noShelf = replicate 524288 0
+
 -- of a run that ended with this answer, at this place, with these counts and logs: the listing where it finished, else "only the line `refused N at B`"
 abbrev pub shown : ℕ → ℕ → Counts → Logs → List ℕ
 shown zero place n l = listing n l
@@ -34,8 +39,8 @@ shown (suc a) place n l = refusedLine (suc a) place
 -- "Input longer than the program's buffer prints only `too long`"
 pub data Prints (trace : List ℕ) : List ℕ → Type 0 where
   long : mostInput < length trace → Prints trace tooLong
-  runs : {answer place : ℕ} {s : State} → length trace ≤ mostInput → Ran trace noTable noRows answer place s
-      → Prints trace (shown answer place (s .decoder .counts) (s .logs))
+  runs : {answer place : ℕ} {s : Stand} → length trace ≤ mostInput → Ran trace noTable noRows noShelf answer place s
+      → Prints trace (shown answer place (s .state .decoder .counts) (s .state .logs))
 
 -- the text is in the buffer, and the result is its length
 pub record Printed (trace before after : List ℕ) (end : ℕ) : Type 0 where

@@ -28,7 +28,7 @@ use Rattle.start.specs.Fresh.{made, noDevices}
 use Rattle.trace.specs.Trace.{nextAt}
 use Rattle.trace.specs.declared.Next.{Next}
 use Rattle.trace.specs.declared.Next.the-variants.{Packet, Event, Detail, Unknown, Cut, End}
-use Rattle.step.specs.Block.{Gives, Takes}
+use Rattle.step.specs.Block.{Stand, Gives, Takes}
 use Rattle.run.specs.Run.{Runs, Ran}
 use Rattle.run.specs.RunLaws.{Same, run-unique}
 use Rattle.listing.specs.Prints.{mostInput, shown, Prints, textRoom}
@@ -38,7 +38,7 @@ pub prints-unique : {trace x y : List ℕ} → Prints trace x → Prints trace y
 prints-unique (Prints.long h) (Prints.long k) = refl
 prints-unique (Prints.long h) (Prints.runs k r) = absurd (omega arith)
 prints-unique (Prints.runs h q) (Prints.long k) = absurd (omega arith)
-prints-unique (Prints.runs h q) (Prints.runs k r) = let e = run-unique q r in λ i. shown (e .answer i) (e .place i) (e .final i .decoder .counts) (e .final i .logs)
+prints-unique (Prints.runs h q) (Prints.runs k r) = let e = run-unique q r in λ i. shown (e .answer i) (e .place i) (e .final i .state .decoder .counts) (e .final i .state .logs)
 
 -- ---- a run that finished
 
@@ -58,22 +58,22 @@ finish-within {a} {s} {s′} z f e =
     rw (left .decoder, same-room w (heldAt s) (s .logs) (s′ .logs) (left .logs)) h
 
 -- a record leaves the first numbers
-gives-whole : (trace : List ℕ) (n : Next) (c : Clock) (s : State) (a : ℕ) (s′ : State) → Gives trace n c s a s′ → Whole s → Whole s′
+gives-whole : (trace : List ℕ) (n : Next) (c : Clock) (s : Stand) (a : ℕ) (s′ : Stand) → Gives trace n c s a s′ → Whole (s .state) → Whole (s′ .state)
 unfolding Details
-gives-whole trace (Packet ticks start end next) c s a s′ g z = λ k. same-firsts g k ∙ z k
-gives-whole trace (Event ticks kind code next) c s a s′ g z = λ k. same-firsts g k ∙ z k
-gives-whole trace (Detail address number direction kind max next) c s a s′ g z = λ k. same-firsts g k ∙ z k
-gives-whole trace Unknown c s a s′ g z = subst Whole (sym (g .1)) z
-gives-whole trace Cut c s a s′ g z = subst Whole (sym (g .1)) z
+gives-whole trace (Packet ticks start end next) c s a s′ g z = λ k. same-firsts (g .answers) k ∙ z k
+gives-whole trace (Event ticks kind code next) c s a s′ g z = λ k. same-firsts (g .0) k ∙ z k
+gives-whole trace (Detail address number direction kind max next) c s a s′ g z = λ k. same-firsts (g .0) k ∙ z k
+gives-whole trace Unknown c s a s′ g z = subst (λ (u : Stand). Whole (u .state)) (sym (g .1)) z
+gives-whole trace Cut c s a s′ g z = subst (λ (u : Stand). Whole (u .state)) (sym (g .1)) z
 gives-whole trace End c s a s′ g z = absurd g
 
 -- and so do the records of a block
-takes-whole : {trace : List ℕ} {at n m a p : ℕ} {c c′ : Clock} {s s′ : State} → Takes trace at c s n m a p c′ s′ → Whole s → Whole s′
+takes-whole : {trace : List ℕ} {at n m a p : ℕ} {c c′ : Clock} {s s′ : Stand} → Takes trace at c s n m a p c′ s′ → Whole (s .state) → Whole (s′ .state)
 takes-whole (Takes.done h) z = z
 takes-whole {trace} {at} {a = a} {c = c} (Takes.stops g h) z = gives-whole trace (nextAt trace at) c _ a _ g z
 takes-whole {trace} {at} {c = c} (Takes.goes a g h x) z = takes-whole x (gives-whole trace (nextAt trace at) c _ a _ g z)
 
-runs-within : {trace : List ℕ} {at a p : ℕ} {c : Clock} {s s′ : State} → Whole s → Runs trace at c s a p s′ → a ≡ 0 → Within (s′ .decoder .counts) (roomOf (s′ .logs))
+runs-within : {trace : List ℕ} {at a p : ℕ} {c : Clock} {s s′ : Stand} → Whole (s .state) → Runs trace at c s a p s′ → a ≡ 0 → Within (s′ .state .decoder .counts) (roomOf (s′ .state .logs))
 runs-within z (Runs.ends x f) e = finish-within (takes-whole x z) f e
 runs-within z (Runs.stops x h) e = absurd (h e)
 
@@ -82,7 +82,7 @@ made-whole : (v : List Device) (t : List ℕ) (l : Logs) → Whole (made v t l)
 unfolding made
 made-whole v t l = fresh-first t
 
-pub ran-within : {trace t : List ℕ} {l : Logs} {a p : ℕ} {s : State} → Ran trace t l a p s → a ≡ 0 → Within (s .decoder .counts) (roomOf (s .logs))
+pub ran-within : {trace t : List ℕ} {l : Logs} {h : List ℕ} {a p : ℕ} {s : Stand} → Ran trace t l h a p s → a ≡ 0 → Within (s .state .decoder .counts) (roomOf (s .state .logs))
 ran-within (Ran.wrong h) e = absurd (h e)
 ran-within (Ran.refused h m n) e = absurd (n e)
 ran-within {t = t} {l} (Ran.runs h m r) e = runs-within (subst Whole (sym (m .accepted refl)) (made-whole noDevices t l)) r e

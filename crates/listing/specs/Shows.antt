@@ -5,18 +5,19 @@ use mathlib.Core.Path.{_≡_}
 use lib.ListN.{length}
 use Rattle.text.specs.Append.{Appended}
 use Rattle.record.specs.declared.Counts.{Counts}
-use Rattle.call.specs.State.{Logs, State}
+use Rattle.call.specs.State.{Logs}
 use Rattle.lines.specs.Listing.{Counted}
+use Rattle.step.specs.Block.{Stand}
 use Rattle.run.specs.Run.{Ran}
 use Rattle.listing.specs.Prints.{shown}
 
--- a run on a table and logs that a caller lent, and the text of it; its end is within the buffer
-pub record Shows (trace t : List ℕ) (l : Logs) (before after : List ℕ) (end : ℕ) : Type 0 where
+-- a run on a table, logs and a shelf that a caller lent, and the text of it; its end is within the buffer
+pub record Shows (trace t : List ℕ) (l : Logs) (h before after : List ℕ) (end : ℕ) : Type 0 where
   pub answer : ℕ
   pub place : ℕ
-  pub final : State
-  pub ran : Ran trace t l answer place final
-  pub appended : Appended before 0 (shown answer place (final .decoder .counts) (final .logs)) after end
+  pub final : Stand
+  pub ran : Ran trace t l h answer place final
+  pub appended : Appended before 0 (shown answer place (final .state .decoder .counts) (final .state .logs)) after end
   pub within : end ≤ length before
 
 -- what `report` asks of the logs: where there is a listing, they have the rows that are counted

@@ -6,6 +6,7 @@ use libc::STDIN_FILENO;
 use libc::STDOUT_FILENO;
 use record::Counts;
 use run::run;
+use shelving::Shelf;
 ghost use Prim.Native.Nat.{_≤_};
 ghost use mathlib.Core.List.{[]};
 ghost use lib.ListN.{length};
@@ -17,8 +18,8 @@ ghost use Rattle.listing.specs.Shows.{Listable, Shows};
 // The longest trace (docs/SIZES.md).
 const INPUT: usize = 16384;
 
-// A line of at most 156 bytes (text, Lengths) for each of the 2,688 rows that there is room for, and one more.
-const TEXT: usize = 156 * 2689;
+// A line of at most 156 bytes (text, Lengths) for each of the 2,672 rows that there is room for, and one more.
+const TEXT: usize = 156 * 2673;
 
 // What is shown of a run that ended with this answer at this place: the listing, or the refusal; gives its length.
 fn report(
@@ -62,7 +63,7 @@ fn report(
     )
 }
 
-// The text of a trace that is run on the lent table and logs; gives its length.
+// The text of a trace that is run on the lent table, logs and shelf; gives its length.
 fn show(
     trace: &[u8],
     table: &mut Table,
@@ -78,10 +79,11 @@ fn show(
     items: &mut [u64],
     links: &mut [u64],
     requests: &mut [u64],
+    shelf: &mut Shelf,
     out: &mut [u8],
 ) -> usize
     requires { ⌜ textRoom (logs (now bytes) (now «device_rows») (now «endpoint_rows») (now packets) (now events) (now transactions) (now groups) (now statebytes) (now states) (now items) (now links) (now requests)) ≤ length (now out) ⌝ }
-    ensures { λ r. ⌜ Shows (now (trace .entry)) (now (table .entry)) (logs (now (bytes .entry)) (now («device_rows» .entry)) (now («endpoint_rows» .entry)) (now (packets .entry)) (now (events .entry)) (now (transactions .entry)) (now (groups .entry)) (now (statebytes .entry)) (now (states .entry)) (now (items .entry)) (now (links .entry)) (now (requests .entry))) (now (out .entry)) (now (out .exit)) r ⌝ }
+    ensures { λ r. ⌜ Shows (now (trace .entry)) (now (table .entry)) (logs (now (bytes .entry)) (now («device_rows» .entry)) (now («endpoint_rows» .entry)) (now (packets .entry)) (now (events .entry)) (now (transactions .entry)) (now (groups .entry)) (now (statebytes .entry)) (now (states .entry)) (now (items .entry)) (now (links .entry)) (now (requests .entry))) (now (shelf .entry)) (now (out .entry)) (now (out .exit)) r ⌝ }
 {
     let r = run(
         trace,
@@ -98,6 +100,7 @@ fn show(
         items,
         links,
         requests,
+        shelf,
     );
     let d = r.decoder;
     let n = d.counts;
@@ -141,6 +144,7 @@ fn print(trace: &[u8], out: &mut [u8]) -> usize
     let mut items = [0u64; 256];
     let mut links = [0u64; 2560];
     let mut requests = [0u64; 192];
+    let mut shelf = [0u8; 524288];
     show(
         trace,
         &mut table,
@@ -156,6 +160,7 @@ fn print(trace: &[u8], out: &mut [u8]) -> usize
         &mut items,
         &mut links,
         &mut requests,
+        &mut shelf,
         out,
     )
 }

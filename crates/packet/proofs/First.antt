@@ -12,7 +12,7 @@ use Rattle.record.specs.declared.Counts.{Counts}
 use Rattle.call.specs.Outcome.{isIll, accepts}
 use Rattle.call.specs.OutcomeLaws.{ill-by, refused}
 use Rattle.call.specs.State.{State, roomOf}
-use Rattle.packet.specs.Call.{testsOf, PacketCall}
+use Rattle.packet.specs.Call.{after, testsOf, PacketCall}
 use Rattle.call.specs.Share.{firstTests}
 use Rattle.packet.proofs.Answers.{Passes}
 
@@ -35,14 +35,15 @@ three-none false true long h = absurd (omega arith)
 three-none false false true h = absurd (omega arith)
 three-none false false false h = (refl, (refl, refl))
 
-module _ (packet : List ℕ) (time : ℕ) (s : State) {room : Counts} (e : room ≡ roomOf (s .logs)) {a : ℕ} (f : a ≡ firstTests (s .decoder) (s .devices) (s .table) room (length packet) 4096 3) where
+module _ (packet : List ℕ) (time : ℕ) (s : State) (shelf : List ℕ) {room : Counts} (e : room ≡ roomOf (s .logs)) {a : ℕ} (f : a ≡ firstTests (s .decoder) (s .devices) (s .table) room (length packet) 4096 3) where
   is-three : a ≡ three (isIll s) (s .decoder .finished) (ltb 4096 (length packet))
   is-three = f ∙ ap (λ (b : Bool). three b (s .decoder .finished) (ltb 4096 (length packet))) (ill-by s room e)
 
-  pub first-refused : (a ≡ 0 → ⊥) → PacketCall packet time s a s
+  pub first-refused : (a ≡ 0 → ⊥) → PacketCall packet time s shelf a s shelf
   first-refused ne =
       let h = three-first _ _ _ (length packet) (isIll s) (s .decoder .finished) (ltb 4096 (length packet)) refl (λ z. ne (is-three ∙ z)) in
-      refused a (is-three ∙ h .0) (ap accepts is-three ∙ h .1)
+      let r = ap accepts is-three ∙ h .1 in
+      record { answers = refused a (is-three ∙ h .0) r; shelf = ap (λ (c : Bool). cond c (after packet time s shelf .shelf) shelf) (sym r) }
 
   pub first-passed : a ≡ 0 → Passes packet s
   first-passed z =

@@ -7,11 +7,12 @@ use native.Mathlib.Omega.{arith}
 use lib.Dec.{eqb, ltb}
 use lib.ListN.{length, getD, set, length-set}
 use lib.Seq.{sets, getD-set-other}
-use Rattle.rows.specs.Widths.{eventWidth, packetWidth}
+use Rattle.rows.specs.Widths.{eventWidth, packetWidth, requestWidth}
 use Rattle.rows.specs.WidthsLaws.{each-log}
 use Rattle.rows.specs.One.{one}
 use Rattle.transaction.specs.Payload.{startPid, extractPayload}
 use Rattle.transaction.specs.Status.{transactionStatus}
+use Rattle.transaction.specs.Table.{pick}
 use Rattle.usb.specs.Fields.{setupDataOf}
 use Rattle.transaction.specs.declared.Transaction.{Transaction}
 use Rattle.transaction.proofs.Laws.{extract-keeps}
@@ -20,9 +21,9 @@ use Rattle.endpoints.specs.Table.{wordAt, entryAt}
 use Rattle.endpoints.specs.TableLaws.{Fits, fits-entry}
 use Rattle.details.specs.declared.Device.{Device}
 use Rattle.endpoints.specs.declared.Endpoint.{Endpoint}
-use Rattle.rules.specs.Rows.{Row, log}
-use Rattle.rules.specs.World.{World, stamped, _▷_, withId, withLink, waitingOf}
-use Rattle.rules.specs.Transactions.{isDropped, stateAt}
+use Rattle.rules.specs.Rows.{Row, Asked, asking, requestWords, log}
+use Rattle.rules.specs.World.{World, withShelf, stamped, _▷_, withId, withLink, waitingOf}
+use Rattle.rules.specs.Transactions.{isDropped, stateAt, shelfWith}
 use Rattle.rules.specs.Decoder.{handleRawPacket}
 use Rattle.rules.specs.declared.Slot.{Slot}
 use Rattle.rules.specs.declared.Slot.the-variants.{Empty, Current, Suspended}
@@ -36,14 +37,19 @@ use Rattle.record.specs.Room.{fitting, numbered}
 use Rattle.record.specs.RoomLaws.{Within, within, Short, Numbered, numbered-is}
 use Rattle.record.specs.declared.Counts.{Counts}
 use Rattle.record.specs.declared.Decoder.{Decoder}
-use Rattle.plan.specs.Packet.{resumes, slotThen, going, oldEndpoint, transactionThen, planBy, planOf, played}
+use Rattle.plan.specs.Packet.{resumes, slotThen, going, oldEndpoint, transactionThen, keeps, planBy, planOf, played}
 use Rattle.plan.specs.Step.{opened, begun}
 use Rattle.plan.specs.Sound.{world1, world2, PlanFits}
 use Rattle.plan.specs.declared.Plan.{Plan}
-use Rattle.plan.proofs.Packet.{packet-is}
+use Rattle.plan.proofs.Packet.{plan-shelf, packet-laden}
 use Rattle.plan.proofs.Played.{played-log, played-event, played-keepalive, played-slot, tiedTo, Tied, played-tied}
-use Rattle.plan.specs.Devices.{changes, addsDevice}
-use Rattle.plan.proofs.Devices.{played-devices, played-device-count, plan-behind}
+use Rattle.plan.specs.Devices.{changes, addsDevice, lengthOf, rowAsked}
+use Rattle.plan.proofs.Devices.{deviceBegun, askedClose, played-devices, played-device-count, plan-behind}
+use Rattle.plan.proofs.Requests.{played-requests}
+use Rattle.descriptors.specs.Complete.{noteBy, shelfBy}
+use Rattle.shelving.specs.Shelve.{isAsked, readingOf, askedWith, laidShelf, LongIf, RoomIf, shelfAfter, noteAfter, rowAfter as rowShelved, requestAfter, Shelves}
+use Rattle.shelving.specs.declared.Shelved.{Shelved}
+use Rattle.shelving.proofs.Rules.{rowOf, shelf-is, row-is, request-is}
 use Rattle.plan.proofs.Sound.{Sane, fits-packet, played-count, words-packet}
 use Rattle.plan.specs.Words.{planWords}
 use Rattle.call.specs.Outcome.{countsAfter, decoderOf, DevicesOf, TableOf, Appends, Left, isIll, worldAt}
@@ -54,7 +60,7 @@ use Rattle.call.specs.Share.{Known, tied}
 use Rattle.tally.specs.Passes.{planPasses}
 use Rattle.tally.specs.Tallies.{tallyPlan, addCounts, roomFor}
 use Rattle.tally.proofs.Least.{plan-links, plan-rows}
-use Rattle.tally.proofs.Counted.{played-adds}
+use Rattle.tally.proofs.Counted.{adds-shelf, played-adds}
 use Rattle.tally.proofs.Counts.{counts-after, world-has}
 use Rattle.tally.proofs.Formed.{three, old-stands, waiting-is}
 use Rattle.tally.proofs.Planned.{plan-suits}
@@ -64,16 +70,17 @@ use Rattle.write_packet.specs.Desk.{Desk, desk, performed}
 use Rattle.write_packet.specs.Held.{HoldsAll, Matches, SpaceAll, Brought}
 use Rattle.write_packet.specs.PlanLaws.{all-start, room-all, played-holds, ready}
 use Rattle.write_packet.specs.declared.Hand.{Hand}
-use Rattle.packet.specs.After.{sumBy, sumOf, sumPlan, tallyOf, accepted, handOf, decoderBy, changeBy, changed, Placed}
+use Rattle.packet.specs.After.{sumBy, sumOf, sumPlan, tallyOf, accepted, handOf, decoderBy, changeBy, ownRow, changed, shelved, requested, Placed}
 use Rattle.packet.specs.declared.change.Change.{Change}
 use Rattle.packet.specs.declared.sum.Sum.{Sum}
-use Rattle.packet.proofs.Changes.{changed-length, changed-beyond, change-told, change-in}
+use Rattle.packet.proofs.Changes.{changed-length, changed-beyond, put-at, begun-told, change-told, change-in}
+use Rattle.packet.proofs.Owners.{plan-kept, plan-asked, plan-long}
 use Rattle.packet.proofs.Places.{plan-place}
 
 -- the desk at the call's entry
 abbrev pub entryDesk : ℕ → State → Desk
 entryDesk time s =
-    desk (handOf time (s .decoder) (heldAt s) (s .table)) (s .table) (s .logs .devices) (s .logs .endpoints) (s .logs .transactions) (s .logs .groups) (s .logs .statebytes) (s .logs .states) (s .logs .items) (s .logs .links) (s .logs .requests)
+    desk (handOf time (s .decoder) (heldAt s) (s .table)) (s .table) (s .logs .devices) (s .logs .endpoints) (s .logs .transactions) (s .logs .groups) (s .logs .statebytes) (s .logs .states) (s .logs .items) (s .logs .links)
 
 -- what the code knows when it is to write: the tests that were passed, and what is known of the arguments
 pub record Begins (packet : List ℕ) (s : State) : Type 0 where
@@ -100,15 +107,29 @@ other-false : (a c : Bool) → (a && c) ≡ false → a ≡ true → c ≡ false
 other-false true c h q = h
 other-false false c h q = absurd (false≢true q)
 
-module _ (packet : List ℕ) (time : ℕ) (s : State) (b : Begins packet s) where
+module _ (packet : List ℕ) (time : ℕ) (s : State) (h : List ℕ) (b : Begins packet s) where
   abbrev d : Decoder
   d = s .decoder
 
-  abbrev w : World
-  w = worldAt s
+  -- the world with the lent shelf h, and with the packet's payload on it
+  abbrev lent : World
+  lent = withShelf h (worldAt s)
 
-  abbrev p : Plan
+  abbrev l : List ℕ
+  l = shelfWith (keeps (planOf packet lent)) (planOf packet lent .end .entry) packet h
+
+  abbrev pub w : World
+  w = withShelf l (worldAt s)
+
+  -- the plan, which does not go by the shelf
+  abbrev pub p : Plan
   p = planOf packet w
+
+  pub same : p ≡ planOf packet (worldAt s)
+  same = plan-shelf packet l (worldAt s)
+
+  same-lent : planOf packet lent ≡ p
+  same-lent = plan-shelf packet h (worldAt s) ∙ sym same
 
   abbrev room : Counts
   room = roomOf (s .logs)
@@ -134,7 +155,7 @@ module _ (packet : List ℕ) (time : ℕ) (s : State) (b : Begins packet s) wher
 
   summed : (roomFor n (d .counts) t room ≡ true) × ((planPasses p ≡ false) × (sumOf (planPasses p) d n t room ≡ accepted d t))
   unfolding sumPlan
-  summed = sum-room (planPasses p) d n t room (b .sum)
+  summed = sum-room (planPasses p) d n t room (ap (λ (q : Plan). sumPlan d n q (length packet) room .answer) same ∙ b .sum)
 
   fitted : (fitting (addCounts n t) room ≡ true) × (numbered (addCounts (d .counts) t) ≡ true)
   fitted = both (fitting (addCounts n t) room) (numbered (addCounts (d .counts) t)) (summed .0)
@@ -168,7 +189,6 @@ module _ (packet : List ℕ) (time : ℕ) (s : State) (b : Begins packet s) wher
         devices = omega (arith, words 1, roomy .devices);
         endpoints = omega (arith, words 2, roomy .endpoints);
         transactions = omega (arith, words 5, roomy .transactions);
-        requests = omega (arith, words 11, roomy .requests);
       }
 
   -- ---- the packet's own rows
@@ -296,7 +316,7 @@ module _ (packet : List ℕ) (time : ℕ) (s : State) (b : Begins packet s) wher
     decoder-is : decoderBy d p sum (k .hand) ≡ decoderOf (d .counts) (d .finished) after
     unfolding decoderOf
     decoder-is =
-        let n : sum .counts ≡ countsAfter (d .counts) after = ap (λ (z : Sum). z .counts) sum-is ∙ sym (counts-after (world-has d (s .devices) (s .table)) adds) in
+        let n : sum .counts ≡ countsAfter (d .counts) after = ap (λ (z : Sum). z .counts) sum-is ∙ sym (counts-after (world-has d (s .devices) (s .table)) (adds-shelf l adds)) in
         let m : sum .waiting ≡ waitingOf after = ap (λ (z : Sum). z .waiting) sum-is ∙ sym (adds .waiting) in
         let g = played-slot p packet time w in
         let v = played-event p packet time w in
@@ -329,63 +349,146 @@ module _ (packet : List ℕ) (time : ℕ) (s : State) (b : Begins packet s) wher
   unfolding addCounts
   many-are = let e = adds .devices in let f = roomy .fewDevices in omega (arith, e, f)
 
-  placed-in : (changeBy p (d .counts .devices) .place < after .deviceCount) × (changeBy p (d .counts .devices) .at < after .deviceCount)
-  placed-in = change-in p (d .counts .devices) (after .deviceCount) some begun added
-    where
-      count : after .deviceCount ≡ w .deviceCount + one (p .begin .device) + one (p .closes && addsDevice (p .close .effect))
-      count = played-device-count packet time w
+  -- the change that the code makes of it
+  abbrev change : Change
+  change = changeBy p (d .counts .devices) (n .requests)
 
+  count-is : after .deviceCount ≡ w .deviceCount + one (p .begin .device) + one (p .closes && addsDevice (p .close .effect))
+  count-is = played-device-count packet time w
+
+  placed-in : (change .place < after .deviceCount) × ((change .at < after .deviceCount) × ((readingOf p .device < after .deviceCount) × (readingOf p .place < after .deviceCount)))
+  placed-in = change-in p (d .counts .devices) (n .requests) (after .deviceCount) some begun added kept asked
+    where
       some : 0 < after .deviceCount
-      some = let f = well .specials .some in let c = count in omega (arith, f, c)
+      some = let f = well .specials .some in let c = count-is in omega (arith, f, c)
 
       begun-by : (v : Bool) → p .begin .device ≡ v → changes (p .begin) ≡ true → p .begin .place < after .deviceCount
-      begun-by true e h = let q = plan-behind w packet e in let c = count ∙ ap (λ (z : Bool). w .deviceCount + one z + one (p .closes && addsDevice (p .close .effect))) e in omega (arith, q, c)
-      begun-by false e h = let q = plan-place w (let f = three well in omega (arith, f)) owned packet h e in let c = count in omega (arith, q, c)
+      begun-by true e h = let q = plan-behind w packet e in let c = count-is ∙ ap (λ (z : Bool). w .deviceCount + one z + one (p .closes && addsDevice (p .close .effect))) e in omega (arith, q, c)
+      begun-by false e h = let q = plan-place w (let f = three well in omega (arith, f)) owned packet h e in let c = count-is in omega (arith, q, c)
 
       begun : changes (p .begin) ≡ true → p .begin .place < after .deviceCount
       begun h = begun-by (p .begin .device) refl h
 
       added : (p .closes && addsDevice (p .close .effect)) ≡ true → d .counts .devices + one (p .begin .device) < after .deviceCount
-      added h = let c = count ∙ ap (λ (z : Bool). w .deviceCount + one (p .begin .device) + one z) h in omega (arith, c)
+      added h = let c = count-is ∙ ap (λ (z : Bool). w .deviceCount + one (p .begin .device) + one z) h in omega (arith, c)
 
-  pub change-placed : Placed (changeBy p (d .counts .devices))
-  change-placed = record { place = let a = placed-in .0 in let m = many-are in omega (arith, a, m); at = let a = placed-in .1 in let m = many-are in omega (arith, a, m) }
+      kept : p .end .entry .device < after .deviceCount
+      kept = let q = plan-kept w (let f = three well in omega (arith, f)) owned packet (old-stands well) in let c = count-is in omega (arith, q, c)
 
-  devices-are : DevicesOf after (s .devices) (changed (changeBy p (d .counts .devices)) (s .devices))
-  devices-are =
-      let c = changeBy p (d .counts .devices) in
-      let v = s .devices in
-      let inside : (m : ℕ) → m < 64 → m < length v = λ m h. let q = b .many in omega (arith, q, h) in
+      asked : p .close .entry .device < after .deviceCount
+      asked = let q = plan-asked w (let f = three well in omega (arith, f)) owned packet (old-stands well) in let c = count-is in omega (arith, q, c)
+
+  -- the row of a request that completes has room
+  row-room : RoomIf (readingOf p) (n .requests) (s .logs .requests)
+  unfolding inLog addCounts roomBy
+  row-room q =
+      let e = ap length (played-requests packet time w ∙ ap (λ (c : Bool). pick c (requestWords asked) []) q) in
+      omega (arith, words 11, roomy .requests, e)
+    where
+      asked : Asked
+      asked = asking (p .begin .transaction .endpoint) (p .close .entry .setup) (lengthOf (p .close .effect)) (noteBy (askedClose packet time w) (w .shelf))
+
+  pub change-placed : Placed change packet (s .logs .requests)
+  change-placed =
+      let m = many-are in
+      let i = placed-in in
       record {
-        size = changed-length c v;
-        there = λ i h. change-told p v (d .counts .devices) i (inside (c .place) (change-placed .place)) (inside (c .at) (change-placed .at)) ∙ sym (played-devices packet time w i);
-        beyond = λ i h. changed-beyond c v i (let a = placed-in .0 in λ e. omega (arith, a, h, e)) (let a = placed-in .1 in λ e. omega (arith, a, h, e));
+        place = let a = i .0 in omega (arith, a, m);
+        at = let a = i .1 .0 in omega (arith, a, m);
+        device = let a = i .1 .1 .0 in omega (arith, a, m);
+        owner = let a = i .1 .1 .1 in omega (arith, a, m);
+        long = λ q. plan-long packet w q;
+        room = row-room;
+      }
+
+  inside : (m : ℕ) → m < 64 → m < length (s .devices)
+  inside m h = let q = b .many in omega (arith, q, h)
+
+  -- ---- what is read: as the rules have it, of the row that the device has when the packet's own transaction ends
+
+  abbrev own : Device
+  own = rowOf packet time lent
+
+  own-is : isAsked p ≡ true → ownRow change (s .devices) ≡ own
+  own-is q =
+      put-at change (s .devices) (readingOf p .place) (inside (change .place) (change-placed .place))
+      ∙ begun-told p (s .devices) (d .counts .devices) (n .requests) (readingOf p .place)
+      ∙ ap (λ (c : Bool). deviceBegun packet time w (pick c (p .close .entry .device) 0)) q
+
+  -- a part of it, which goes by the row only where a request completes
+  read-as : {A : Type 0} (f : Device → A) (x : A) → pick (isAsked p) (f (ownRow change (s .devices))) x ≡ pick (isAsked p) (f own) x
+  read-as f x = by (isAsked p) (λ q. own-is q)
+    where
+      by : (c : Bool) → (c ≡ true → ownRow change (s .devices) ≡ own) → pick c (f (ownRow change (s .devices))) x ≡ pick c (f own) x
+      by true h = ap f (h refl)
+      by false h = refl
+
+  -- with that row, by the plan on the lent shelf
+  abbrev read : Shelved
+  read = record { note = noteAfter (readingOf (planOf packet lent)) own packet h; row = rowShelved (readingOf (planOf packet lent)) own packet h }
+
+  shelves : Shelves (readingOf (planOf packet lent)) own packet h (shelfAfter (readingOf (planOf packet lent)) own packet h) read
+  shelves = record { stored = refl; note = refl; row = refl }
+
+  pub shelf-left : shelved change packet h (s .devices) ≡ handleRawPacket packet time lent .shelf
+  unfolding shelved
+  shelf-left =
+      read-as (λ e. shelfBy (askedWith (readingOf p) (e .kept) (e .chosen)) (laidShelf (readingOf p) packet h)) (laidShelf (readingOf p) packet h)
+      ∙ ap (λ (q : Plan). shelfAfter (readingOf q) own packet h) (sym same-lent)
+      ∙ shelf-is packet time lent (shelfAfter (readingOf (planOf packet lent)) own packet h) read shelves (b .live)
+
+  requests-are : requested change packet h (s .devices) (s .logs .requests) ≡ sets (s .logs .requests) (n .requests * requestWidth) (log 11 (after .journal))
+  unfolding requested
+  requests-are =
+      ap (λ (m : ℕ). requestAfter (readingOf p) (n .requests) m (s .logs .requests)) (read-as (λ e. noteBy (askedWith (readingOf p) (e .kept) (e .chosen)) (laidShelf (readingOf p) packet h)) 0)
+      ∙ ap (λ (q : Plan). requestAfter (readingOf q) (n .requests) (noteAfter (readingOf q) own packet h) (s .logs .requests)) (sym same-lent)
+      ∙ request-is packet time lent (shelfAfter (readingOf (planOf packet lent)) own packet h) read shelves (b .live) refl (s .logs .requests) (n .requests * requestWidth)
+      ∙ ap (λ (v : World). sets (s .logs .requests) (n .requests * requestWidth) (log 11 (v .journal))) (packet-laden packet time lent (b .live))
+
+  row-left : isAsked p ≡ true → rowShelved (readingOf p) (ownRow change (s .devices)) packet h ≡ rowAsked (p .close) (deviceBegun packet time w) (w .shelf)
+  row-left q =
+      ap (λ (e : Device). rowShelved (readingOf p) e packet h) (own-is q)
+      ∙ ap (λ (z : Plan). rowShelved (readingOf z) own packet h) (sym same-lent)
+      ∙ row-is packet time lent (shelfAfter (readingOf (planOf packet lent)) own packet h) read shelves
+      ∙ ap (λ (c : Bool). pick c (rowAsked (p .close) (deviceBegun packet time w) (w .shelf)) own) q
+
+  devices-are : DevicesOf after (s .devices) (changed change packet h (s .devices))
+  devices-are =
+      let v = s .devices in
+      let i = placed-in in
+      record {
+        size = changed-length change packet h v;
+        there = λ j u. change-told p v (d .counts .devices) (n .requests) packet h (rowAsked (p .close) (deviceBegun packet time w) (w .shelf)) row-left j (inside (change .place) (change-placed .place)) (inside (readingOf p .place) (change-placed .owner)) (inside (change .at) (change-placed .at)) ∙ sym (played-devices packet time w j);
+        beyond = λ j u. changed-beyond change packet h v j (let a = i .0 in λ e. omega (arith, a, u, e)) (let a = i .1 .1 .1 in λ e. omega (arith, a, u, e)) (let a = i .1 .0 in λ e. omega (arith, a, u, e));
       }
 
   -- ---- all of it
 
   module _ (k : Desk) (e : k ≡ performed p (entryDesk time s)) (y z : List ℕ) (f : y ≡ sets (s .logs .bytes) (n .bytes) packet) (g : z ≡ sets (s .logs .packets) (n .packets * packetWidth) (d .counts .bytes ∷ time ∷ [])) where
-    logs-are : Appends after n (s .logs) (logs y (k .devices) (k .endpoints) z (s .logs .events) (k .transactions) (k .groups) (k .statebytes) (k .states) (k .items) (k .links) (k .requests))
+    logs-are : Appends after n (s .logs) (logs y (k .devices) (k .endpoints) z (s .logs .events) (k .transactions) (k .groups) (k .statebytes) (k .states) (k .items) (k .links) (requested change packet h (s .devices) (s .logs .requests)))
     logs-are =
-        let h = now-held k e in
-        let m = h .memory in
+        let a = now-held k e in
+        let m = a .memory in
         each-log _
         (f ∙ ap (sets (s .logs .bytes) (n .bytes)) (sym bytes-are) ∙ word-each (s .logs .bytes) (log 0 (after .journal)) (n .bytes))
-        (h .devices .written ∙ word-each (s .logs .devices) (log 1 (after .journal)) (n .devices))
-        (h .endpoints .written)
+        (a .devices .written ∙ word-each (s .logs .devices) (log 1 (after .journal)) (n .devices))
+        (a .endpoints .written)
         (g ∙ ap (sets (s .logs .packets) (n .packets * packetWidth)) (sym packets-are))
         (ap (sets (s .logs .events) (n .events * eventWidth)) (sym events-are))
-        (h .transactions .written)
+        (a .transactions .written)
         (m .groups .written)
         (m .statebytes .written ∙ word-each (s .logs .statebytes) (log 7 (after .journal)) (n .statebytes))
         (m .states .written ∙ word-each (s .logs .states) (log 8 (after .journal)) (n .states))
         (m .items .written ∙ word-each (s .logs .items) (log 9 (after .journal)) (n .items))
         (m .links .written)
-        (h .requests .written)
+        requests-are
 
-    pub left : Left (handleRawPacket packet time w) (d .finished) s
-        (state (decoderBy d p sum (k .hand)) (changed (changeBy p (d .counts .devices)) (s .devices)) (k .table) (logs y (k .devices) (k .endpoints) z (s .logs .events) (k .transactions) (k .groups) (k .statebytes) (k .states) (k .items) (k .links) (k .requests)))
+    abbrev pub left-state : State
+    left-state =
+        state (decoderBy d p sum (k .hand)) (changed change packet h (s .devices)) (k .table)
+        (logs y (k .devices) (k .endpoints) z (s .logs .events) (k .transactions) (k .groups) (k .statebytes) (k .states) (k .items) (k .links) (requested change packet h (s .devices) (s .logs .requests)))
+
+    pub left : Left (handleRawPacket packet time lent) (d .finished) s left-state
     left =
-        subst (λ (v : World). Left v (d .finished) s (state (decoderBy d p sum (k .hand)) (changed (changeBy p (d .counts .devices)) (s .devices)) (k .table) (logs y (k .devices) (k .endpoints) z (s .logs .events) (k .transactions) (k .groups) (k .statebytes) (k .states) (k .items) (k .links) (k .requests))))
-        (sym (packet-is packet time w (b .live)))
+        subst (λ (v : World). Left v (d .finished) s left-state) (sym (packet-laden packet time lent (b .live)))
         (record { decoder = decoder-is k e; devices = devices-are; table = table-is k e; logs = logs-are })

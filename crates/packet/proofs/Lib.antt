@@ -1,4 +1,5 @@
 pub mod Places
+pub mod Owners
 pub mod Changes
 pub mod Left
 pub mod Answers

@@ -1,9 +1,12 @@
--- Inner (cited by private contracts alone): what a packet leaves, as the code puts it together: the sum, the record, and the change of the devices.
+-- Inner (cited by private contracts alone): what a packet leaves, as the code puts it together: the sum, the record, and the change of the devices, the shelf and
+-- the log of requests.
 -- proofs/Left.antt and proofs/Answers.antt tie it to the rules.
 use Prim.Native.Nat.{ℕ, _+_, _<_}
 use mathlib.Core.Bool.{Bool, true, false, _&&_, _||_, not}
 use mathlib.Core.List.{List, []}
+use mathlib.Core.Path.{_≡_}
 use lib.ListN.{getD, set}
+use lib.Seq.{sets}
 use Rattle.rows.specs.One.{one}
 use Rattle.transaction.specs.Table.{pick}
 use Rattle.details.specs.Details.{withType, fresh}
@@ -22,6 +25,8 @@ use Rattle.tally.specs.Tallies.{tallyPlan, addCounts, roomFor}
 use Rattle.tally.specs.Passes.{planPasses}
 use Rattle.plan.specs.Devices.{changes, rowThen, addsDevice, addressOf}
 use Rattle.plan.specs.declared.Plan.{Plan}
+use Rattle.shelving.specs.Shelve.{readingOf, resting, LongIf, RoomIf, shelfAfter, noteAfter, rowAfter, requestAfter}
+use Rattle.shelving.specs.declared.Reading.{Reading}
 use Rattle.call.specs.Share.{writtenOf, tied}
 use Rattle.packet.specs.declared.change.Change.{Change}
 use Rattle.packet.specs.declared.sum.Sum.{Sum}
@@ -69,7 +74,6 @@ handOf time d held t =
       transactions = held .transactions;
       devices = held .devices;
       endpoints = held .endpoints;
-      requests = held .requests;
     }
 
 abbrev pub droppedDecoder : Decoder → Sum → Decoder
@@ -80,15 +84,15 @@ abbrev pub decoderBy : Decoder → Plan → Sum → Hand → Decoder
 decoderBy d p s h =
     record { counts = s .counts; slot = p .slot; transaction = tied (p .begin .transaction) (h .written); last = h .written .last; event = Idle; keepalive = d .keepalive; waiting = s .waiting; finished = d .finished }
 
--- ---- the devices
+-- ---- what is the caller's: the devices, the shelf and the log of requests
 
 -- what a packet changes of them (src/change.rt); nothing
 abbrev pub keeping : Change
-keeping = record { device = false; types = false; place = 0; owner = 0; number = 0; kind = 0; adds = false; at = 0; address = 0 }
+keeping = record { device = false; types = false; place = 0; owner = 0; number = 0; kind = 0; adds = false; at = 0; address = 0; reading = resting; row = 0 }
 
--- by its steps, where there are n devices
-abbrev pub changeBy : Plan → ℕ → Change
-changeBy p n =
+-- by its steps, where there are n devices and the log holds `row` requests
+abbrev pub changeBy : Plan → ℕ → ℕ → Change
+changeBy p n row =
     let s = p .begin in
     let adds = p .closes && addsDevice (p .close .effect) in
     record {
@@ -101,6 +105,8 @@ changeBy p n =
       adds = adds;
       at = pick adds (n + one (s .device)) 0;
       address = addressOf (p .close .effect);
+      reading = readingOf p;
+      row = row;
     }
 
 -- the two rows then, by what they were
@@ -111,15 +117,33 @@ abbrev pub addedBy : Change → Device → Device
 addedBy c d = pick (c .adds) (fresh (c .address)) d
 
 abbrev pub isChange : Change → Bool
-isChange c = c .device || (c .types || c .adds)
+isChange c = (c .device || (c .types || c .adds)) || (c .reading .keeps || c .reading .asks)
 
--- what the caller does with it
+-- what the caller does with it: the first row, then the one that is read for, then the second
 abbrev pub rowPut : Change → List Device → List Device
 rowPut c v = set v (c .place) (rowBy c (getD v (c .place) blank))
 
-unfoldable pub changed : Change → List Device → List Device
-changed c v = set (rowPut c v) (c .at) (addedBy c (getD (rowPut c v) (c .at) blank))
+-- the row of the device that a request completes on, before it
+abbrev pub ownRow : Change → List Device → Device
+ownRow c v = getD (rowPut c v) (c .reading .place) blank
 
-pub record Placed (c : Change) : Type 0 where
+abbrev pub rowRead : Change → List ℕ → List ℕ → List Device → List Device
+rowRead c packet shelf v = set (rowPut c v) (c .reading .place) (rowAfter (c .reading) (ownRow c v) packet shelf)
+
+unfoldable pub changed : Change → List ℕ → List ℕ → List Device → List Device
+changed c packet shelf v = set (rowRead c packet shelf v) (c .at) (addedBy c (getD (rowRead c packet shelf v) (c .at) blank))
+
+unfoldable pub shelved : Change → List ℕ → List ℕ → List Device → List ℕ
+shelved c packet shelf v = shelfAfter (c .reading) (ownRow c v) packet shelf
+
+unfoldable pub requested : Change → List ℕ → List ℕ → List Device → List ℕ → List ℕ
+requested c packet shelf v requests = requestAfter (c .reading) (c .row) (noteAfter (c .reading) (ownRow c v) packet shelf) requests
+
+-- what is asked of it: the rows are there, a payload is one, and the log of requests has room
+pub record Placed (c : Change) (packet requests : List ℕ) : Type 0 where
   pub place : c .place < 64
   pub at : c .at < 64
+  pub device : c .reading .device < 64
+  pub owner : c .reading .place < 64
+  pub long : LongIf (c .reading) packet
+  pub room : RoomIf (c .reading) (c .row) requests

@@ -1,10 +1,15 @@
 -- Laws (proved): any two outcomes that the packet call's contract permits coincide (01, "What the contracts owe us").
 use Prim.Native.Nat.{ℕ}
+use mathlib.Core.Bool.{cond}
 use mathlib.Core.List.{List}
-use mathlib.Core.Path.{_≡_}
+use mathlib.Core.Path.{_≡_, sym, ap, _∙_}
+use Rattle.call.specs.Outcome.{accepts}
 use Rattle.call.specs.OutcomeLaws.{unique}
 use Rattle.call.specs.State.{State}
-use Rattle.packet.specs.Call.{PacketCall}
+use Rattle.packet.specs.Call.{after, PacketCall}
 
-pub packet-unique : (packet : List ℕ) (time : ℕ) (s : State) {a b : ℕ} {s′ s″ : State} → PacketCall packet time s a s′ → PacketCall packet time s b s″ → (a ≡ b) × (s′ ≡ s″)
-packet-unique packet time s x y = unique x y
+pub packet-unique : (packet : List ℕ) (time : ℕ) (s : State) (h : List ℕ) {a b : ℕ} {s′ s″ : State} {h′ h″ : List ℕ}
+    → PacketCall packet time s h a s′ h′ → PacketCall packet time s h b s″ h″ → (a ≡ b) × ((s′ ≡ s″) × (h′ ≡ h″))
+packet-unique packet time s h x y =
+    let u = unique (x .answers) (y .answers) in
+    (u .0, (u .1, x .shelf ∙ ap (λ (n : ℕ). cond (accepts n) (after packet time s h .shelf) h) (u .0) ∙ sym (y .shelf)))

@@ -24,6 +24,6 @@ pub record SomeLent (near : Near) (packet : List ℕ) (d : Decoder) (table : Lis
   pub devices : List Device
   pub lent : Lent near packet d devices table l
 
--- so it is with any such devices
-abbrev pub ForLent : Near → List ℕ → Decoder → List ℕ → Logs → (List Device → Type 0) → Type 0
-ForLent near packet d table l p = (devices : List Device) → Lent near packet d devices table l → p devices
+-- so it is with any such devices and any shelf
+abbrev pub ForLent : Near → List ℕ → Decoder → List ℕ → Logs → (List Device → List ℕ → Type 0) → Type 0
+ForLent near packet d table l p = (devices : List Device) → Lent near packet d devices table l → (shelf : List ℕ) → p devices shelf

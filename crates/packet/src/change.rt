@@ -1,18 +1,25 @@
-// What a packet changes of the devices, as flags and numbers: the rows are the caller's, who makes the change.
+// What a packet changes of the devices, of the shelf and in the log of requests, as flags and numbers: these are the caller's, who makes the change.
 use details::Device;
 use details::fresh_device;
 use details::set_endpoint_type;
 use endpoints::entry::flag_word;
 use group::Effect;
 use plan::Plan;
+use shelving::Reading;
+use shelving::Shelf;
+use shelving::no_reading;
+use shelving::put_request;
+use shelving::reading_of;
+use shelving::shelve;
+use shelving::sized;
 ghost use mathlib.Core.Path.{_≡_};
 ghost use Prim.Native.Nat.{_≤_};
 ghost use Rattle.transaction.specs.Table.{pick};
 ghost use Rattle.details.specs.Details.{fresh};
 ghost use Rattle.plan.specs.Devices.{addsDevice, addressOf};
-ghost use Rattle.packet.specs.After.{keeping, changeBy, rowBy, addedBy, isChange};
+ghost use Rattle.packet.specs.After.{keeping, changeBy, rowBy, addedBy, isChange, Placed, changed, shelved, requested};
 
-// First row `place`, then row `at`; where neither changes, both are 0.
+// First row `place`, then what is read, then row `at`; where neither row changes, both are 0.
 pub struct Change {
     pub place: usize,
     pub at: usize,
@@ -26,6 +33,9 @@ pub struct Change {
     // Row `at` becomes that of a new device at this address.
     pub adds: bool,
     pub address: u8,
+    // What is laid by, and which request completes; that one's row goes to the place `row`.
+    pub reading: Reading,
+    pub row: usize,
 }
 
 pub fn no_change() -> Change
@@ -41,6 +51,8 @@ pub fn no_change() -> Change
         adds: false,
         at: 0,
         address: 0,
+        reading: no_reading(),
+        row: 0,
     }
 }
 
@@ -68,10 +80,10 @@ fn address_of(effect: Effect) -> u8
     }
 }
 
-// Of a packet with these steps, where there are n devices.
-pub fn change_of(plan: Plan, n: usize) -> Change
+// Of a packet with these steps, where there are n devices and the log holds `row` requests.
+pub fn change_of(plan: Plan, n: usize, row: usize) -> Change
     requires { ⌜ n ≤ 64 ⌝ }
-    ensures { λ r. ⌜ r ≡ changeBy plan n ⌝ }
+    ensures { λ r. ⌜ r ≡ changeBy plan n row ⌝ }
 {
     let begin = plan.begin;
     let close = plan.close;
@@ -88,6 +100,8 @@ pub fn change_of(plan: Plan, n: usize) -> Change
         adds,
         at: row_if(adds, behind),
         address: address_of(effect),
+        reading: reading_of(plan),
+        row,
     }
 }
 
@@ -102,7 +116,8 @@ fn row_if(on: bool, i: usize) -> usize
 pub fn is_change(c: Change) -> bool
     ensures { λ r. ⌜ r ≡ isChange c ⌝ }
 {
-    c.device | (c.types | c.adds)
+    let t = c.reading;
+    (c.device | (c.types | c.adds)) | (t.keeps | t.asks)
 }
 
 // Row `place` then, by what it was.
@@ -129,4 +144,35 @@ fn device_if(new: bool, address: u8, row: Device) -> Device
     ensures { λ r. ⌜ r ≡ pick new (fresh address) row ⌝ }
 {
     if new { fresh_device(address) } else { row }
+}
+
+// The change, made.
+pub fn make_change(
+    c: Change,
+    devices: [Device; 64],
+    packet: &[u8],
+    shelf: &mut Shelf,
+    requests: &mut [u64],
+) -> [Device; 64]
+    requires { ⌜ Placed c (now packet) (now requests) ⌝ }
+    ensures { λ r. ⌜ r ≡ changed c (now (packet .entry)) (now (shelf .entry)) devices ⌝ }
+    ensures { λ r. ⌜ now (shelf .exit) ≡ shelved c (now (packet .entry)) (now (shelf .entry)) devices ⌝ }
+    ensures { λ r. ⌜ now (requests .exit) ≡ requested c (now (packet .entry)) (now (shelf .entry)) devices (now (requests .entry)) ⌝ }
+{
+    let mut devices = devices;
+    let t = c.reading;
+    let place = c.place;
+    let owner = t.place;
+    let at = c.at;
+    sized(shelf);
+    let row = devices[place];
+    devices[place] = row_by(c, row);
+    let row = devices[owner];
+    let s = shelve(shelf, t, row, packet);
+    let kept = s.row;
+    devices[owner] = kept;
+    put_request(requests, c.row, t, s.note);
+    let row = devices[at];
+    devices[at] = added_by(c, row);
+    devices
 }

@@ -36,11 +36,11 @@ ghost use Rattle.rules.specs.Transactions.{isDropped};
 ghost use Rattle.call.specs.State.{state, logs};
 ghost use Rattle.packet.specs.Call.{PacketCall};
 ghost use Rattle.tally.specs.Tallies.{Countable};
-ghost use Rattle.packet.specs.After.{handOf, droppedDecoder, decoderBy, changed, Placed};
+ghost use Rattle.packet.specs.After.{handOf, droppedDecoder, decoderBy, changed, shelved, requested, Placed};
 ghost use Rattle.packet.specs.Dropped.{Drops};
 ghost use Rattle.packet.specs.Lent.{SomeLent, ForLent};
 
-// What the call leaves; the devices are the caller's, who makes the change.
+// What the call leaves; the devices, the shelf and the log of requests are the caller's, who makes the change.
 pub struct Inner {
     pub answer: u8,
     pub decoder: Decoder,
@@ -67,7 +67,6 @@ pub fn hand_of(d: Decoder, held: Counts, time: u64, table: &Table) -> Hand
         transactions: held.transactions,
         devices: held.devices,
         endpoints: held.endpoints,
-        requests: held.requests,
     }
 }
 
@@ -165,7 +164,8 @@ fn drop_packet(
     }
 }
 
-// The packet of these bytes at this time; of the devices it is given what it goes by.
+// The packet of these bytes at this time; of the devices it is given what it goes by. The log of requests is not written here: its row has a note of what the
+// caller, who has the shelf, takes from it.
 pub fn packet_in(
     d: Decoder,
     near: Near,
@@ -183,13 +183,13 @@ pub fn packet_in(
     states: &mut [u64],
     items: &mut [u64],
     links: &mut [u64],
-    requests: &mut [u64],
+    requests: &[u64],
 ) -> Inner
     requires { ⌜ SomeLent near (now packet) d (now table) (logs (now bytes) (now «device_rows») (now «endpoint_rows») (now packets) (now events) (now transactions) (now groups) (now statebytes) (now states) (now items) (now links) (now requests)) ⌝ }
     requires { ⌜ d .finished ≡ false ⌝ }
     requires { ⌜ length (now packet) ≤ 4096 ⌝ }
-    ensures { λ r. ⌜ Placed (r .change) ⌝ }
-    ensures { λ r. ⌜ ForLent near (now (packet .entry)) d (now (table .entry)) (logs (now (bytes .entry)) (now («device_rows» .entry)) (now («endpoint_rows» .entry)) (now (packets .entry)) (now (events .entry)) (now (transactions .entry)) (now (groups .entry)) (now (statebytes .entry)) (now (states .entry)) (now (items .entry)) (now (links .entry)) (now (requests .entry))) (λ v. PacketCall (now (packet .entry)) time (state d v (now (table .entry)) (logs (now (bytes .entry)) (now («device_rows» .entry)) (now («endpoint_rows» .entry)) (now (packets .entry)) (now (events .entry)) (now (transactions .entry)) (now (groups .entry)) (now (statebytes .entry)) (now (states .entry)) (now (items .entry)) (now (links .entry)) (now (requests .entry)))) (r .answer) (state (r .decoder) (changed (r .change) v) (now (table .exit)) (logs (now (bytes .exit)) (now («device_rows» .exit)) (now («endpoint_rows» .exit)) (now (packets .exit)) (now (events .entry)) (now (transactions .exit)) (now (groups .exit)) (now (statebytes .exit)) (now (states .exit)) (now (items .exit)) (now (links .exit)) (now (requests .exit))))) ⌝ }
+    ensures { λ r. ⌜ Placed (r .change) (now (packet .entry)) (now (requests .entry)) ⌝ }
+    ensures { λ r. ⌜ ForLent near (now (packet .entry)) d (now (table .entry)) (logs (now (bytes .entry)) (now («device_rows» .entry)) (now («endpoint_rows» .entry)) (now (packets .entry)) (now (events .entry)) (now (transactions .entry)) (now (groups .entry)) (now (statebytes .entry)) (now (states .entry)) (now (items .entry)) (now (links .entry)) (now (requests .entry))) (λ v h. PacketCall (now (packet .entry)) time (state d v (now (table .entry)) (logs (now (bytes .entry)) (now («device_rows» .entry)) (now («endpoint_rows» .entry)) (now (packets .entry)) (now (events .entry)) (now (transactions .entry)) (now (groups .entry)) (now (statebytes .entry)) (now (states .entry)) (now (items .entry)) (now (links .entry)) (now (requests .entry)))) h (r .answer) (state (r .decoder) (changed (r .change) (now (packet .entry)) h v) (now (table .exit)) (logs (now (bytes .exit)) (now («device_rows» .exit)) (now («endpoint_rows» .exit)) (now (packets .exit)) (now (events .entry)) (now (transactions .exit)) (now (groups .exit)) (now (statebytes .exit)) (now (states .exit)) (now (items .exit)) (now (links .exit)) (requested (r .change) (now (packet .entry)) h v (now (requests .entry))))) (shelved (r .change) (now (packet .entry)) h v)) ⌝ }
 {
     let room = room_of(
         bytes.len(),
@@ -227,7 +227,7 @@ pub fn packet_in(
             change: none,
         };
     }
-    let change = change_of(plan, n.devices);
+    let change = change_of(plan, n.devices, rows.requests);
     put_packet(n.bytes, rows, packet, time, bytes, packets);
     let hand = perform(
         plan,
@@ -241,7 +241,6 @@ pub fn packet_in(
         states,
         items,
         links,
-        requests,
     );
     Inner {
         answer: 0,

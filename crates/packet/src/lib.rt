@@ -3,9 +3,8 @@ pub mod change;
 pub mod inner;
 mod sum;
 
-use crate::change::added_by;
 use crate::change::is_change;
-use crate::change::row_by;
+use crate::change::make_change;
 use crate::inner::packet_in;
 use call::Called;
 use call::first_tests;
@@ -14,6 +13,7 @@ use decide::near::look;
 use details::Device;
 use endpoints::Table;
 use record::Decoder;
+use shelving::Shelf;
 ghost use mathlib.Core.Path.{_≡_};
 ghost use Rattle.call.specs.State.{state, logs};
 ghost use Rattle.packet.specs.Call.{PacketCall};
@@ -23,7 +23,8 @@ const MOST: usize = 4096;
 
 const TOO_LONG: u8 = 3;
 
-// The packet of these bytes at this time. The devices are the caller's, in and out; the logs come in the order of their numbers (rules, Rows).
+// The packet of these bytes at this time. The devices are the caller's, in and out; the logs come in the order of their numbers (rules, Rows). The shelf may hold
+// anything: what it holds is read only where `devices` says that it was kept.
 pub fn packet(
     d: Decoder,
     devices: [Device; 64],
@@ -42,8 +43,9 @@ pub fn packet(
     items: &mut [u64],
     links: &mut [u64],
     requests: &mut [u64],
+    shelf: &mut Shelf,
 ) -> Called
-    ensures { λ r. ⌜ PacketCall (now (packet .entry)) time (state d devices (now (table .entry)) (logs (now (bytes .entry)) (now («device_rows» .entry)) (now («endpoint_rows» .entry)) (now (packets .entry)) (now (events .entry)) (now (transactions .entry)) (now (groups .entry)) (now (statebytes .entry)) (now (states .entry)) (now (items .entry)) (now (links .entry)) (now (requests .entry)))) (r .answer) (state (r .decoder) (r .devices) (now (table .exit)) (logs (now (bytes .exit)) (now («device_rows» .exit)) (now («endpoint_rows» .exit)) (now (packets .exit)) (now (events .entry)) (now (transactions .exit)) (now (groups .exit)) (now (statebytes .exit)) (now (states .exit)) (now (items .exit)) (now (links .exit)) (now (requests .exit)))) ⌝ }
+    ensures { λ r. ⌜ PacketCall (now (packet .entry)) time (state d devices (now (table .entry)) (logs (now (bytes .entry)) (now («device_rows» .entry)) (now («endpoint_rows» .entry)) (now (packets .entry)) (now (events .entry)) (now (transactions .entry)) (now (groups .entry)) (now (statebytes .entry)) (now (states .entry)) (now (items .entry)) (now (links .entry)) (now (requests .entry)))) (now (shelf .entry)) (r .answer) (state (r .decoder) (r .devices) (now (table .exit)) (logs (now (bytes .exit)) (now («device_rows» .exit)) (now («endpoint_rows» .exit)) (now (packets .exit)) (now (events .entry)) (now (transactions .exit)) (now (groups .exit)) (now (statebytes .exit)) (now (states .exit)) (now (items .exit)) (now (links .exit)) (now (requests .exit)))) (now (shelf .exit)) ⌝ }
 {
     let room = room_of(
         bytes.len(),
@@ -89,8 +91,6 @@ pub fn packet(
     );
     let decoder = r.decoder;
     let c = r.change;
-    let place = c.place;
-    let at = c.at;
     if !is_change(c) {
         return Called {
             answer: r.answer,
@@ -98,11 +98,7 @@ pub fn packet(
             devices,
         };
     }
-    let mut devices = devices;
-    let row = devices[place];
-    devices[place] = row_by(c, row);
-    let row = devices[at];
-    devices[at] = added_by(c, row);
+    let devices = make_change(c, devices, packet, shelf, requests);
     Called {
         answer: r.answer,
         decoder,

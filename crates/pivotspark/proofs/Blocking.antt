@@ -17,7 +17,7 @@ use Rattle.call.specs.State.{Logs, State}
 use Rattle.call.specs.StateLaws.{SameSizes}
 use Rattle.start.specs.Fresh.{Makes, noDevices}
 use Rattle.start.specs.FreshLaws.{made-on}
-use Rattle.step.specs.Block.{Takes}
+use Rattle.step.specs.Block.{Stand, stand, Takes}
 use Rattle.step.specs.Block.Takes.{done, stops, goes}
 use Rattle.step.specs.CutLaws.{whole-in, inside-of}
 use Rattle.pivotspark.specs.Told.{told, counted}
@@ -43,7 +43,7 @@ cut-between cuts i at end h = by (ltb i (length cuts)) (leb end x) (ltb x at) re
     by true false false e f = let k = leb-false end x e in let l = ltb-false x at f in (l, omega arith)
 
 -- a block stops within its bytes
-within : {t : List ℕ} {at n e a p : ℕ} {c c′ : Clock} {s s′ : State} → at ≤ length t → Takes t at c s n e a p c′ s′ → p ≤ length t
+within : {t : List ℕ} {at n e a p : ℕ} {c c′ : Clock} {s s′ : Stand} → at ≤ length t → Takes t at c s n e a p c′ s′ → p ≤ length t
 within h (done x) = h
 within h (stops x k) = h
 within {t} {at} {c = c} {s = s} h (goes {s′ = s′} o x k r) = within (inside-of t at (whole-in t (nextAt t at) c s o s′ x k)) r
@@ -57,15 +57,15 @@ put-by out out₁ out₂ at a n e p c {roomy} r x y =
 -- ---- the loop's invariant
 
 -- i blocks have been called, with these words, and led to the place `at`, the clock c and the state s; `out` has their words
-pub record Doing (t cuts : List ℕ) (c₀ : Clock) (s₀ : State) (out₀ : List ℕ) (i at : ℕ) (c : Clock) (s : State) (o : List ℕ) : Type 0 where
+pub record Doing (t cuts : List ℕ) (c₀ : Clock) (s₀ : Stand) (out₀ : List ℕ) (i at : ℕ) (c : Clock) (s : Stand) (o : List ℕ) : Type 0 where
   pub words : List ℕ
   pub size : length words ≡ 6 * i
   pub few : i ≤ length cuts
   pub inside : at ≤ length t
   pub out : o ≡ stored out₀ cuts words
   pub long : length o ≡ length out₀
-  pub sizes : SameSizes (s₀ .logs) (s .logs)
-  pub rest : {j : ℕ} {ws : List ℕ} {s′ : State} → Blocks t cuts i at c s j ws s′ → Blocks t cuts 0 0 c₀ s₀ j (words ++ ws) s′
+  pub sizes : SameSizes (s₀ .state .logs) (s .state .logs)
+  pub rest : {j : ℕ} {ws : List ℕ} {s′ : Stand} → Blocks t cuts i at c s j ws s′ → Blocks t cuts 0 0 c₀ s₀ j (words ++ ws) s′
 
 stored-none : (out cuts : List ℕ) → out ≡ stored out cuts []
 stored-none out cuts = by (ltb (length cuts) (length out / 6))
@@ -74,11 +74,11 @@ stored-none out cuts = by (ltb (length cuts) (length out / 6))
     by true = refl
     by false = refl
 
-pub doing-start : (t cuts : List ℕ) (c : Clock) (s : State) (out : List ℕ) → Doing t cuts c s out 0 0 c s out
+pub doing-start : (t cuts : List ℕ) (c : Clock) (s : Stand) (out : List ℕ) → Doing t cuts c s out 0 0 c s out
 doing-start t cuts c s out =
     record { words = []; size = refl; few = omega arith; inside = omega arith; out = stored-none out cuts; long = refl; sizes = λ k u. refl; rest = λ x. x }
 
-module _ {t cuts out₀ out : List ℕ} {c₀ c : Clock} {s₀ s : State} {i at : ℕ} (g : Doing t cuts c₀ s₀ out₀ i at c s out) where
+module _ {t cuts out₀ out : List ℕ} {c₀ c : Clock} {s₀ s : Stand} {i at : ℕ} (g : Doing t cuts c₀ s₀ out₀ i at c s out) where
   pub doing-between : {end : ℕ} → end ≡ cutAt cuts i at (length t) → (at ≤ end) × (end ≤ length t)
   doing-between {end} q = subst (λ (x : ℕ). (at ≤ x) × (x ≤ length t)) (sym q) (cut-between cuts i at (length t) (g .inside))
 
@@ -87,7 +87,7 @@ module _ {t cuts out₀ out : List ℕ} {c₀ c : Clock} {s₀ s : State} {i at 
       let h = ltb-true (length cuts) (length out₀ / 6) (sym q ∙ e) in
       omega (arith, h, g .few, g .long)
 
-  module _ {end n e a p : ℕ} {c′ : Clock} {s′ : State} (q : end ≡ cutAt cuts i at (length t)) (x : Takes (take (end - at) (drop at t)) 0 c s n e a p c′ s′) where
+  module _ {end n e a p : ℕ} {c′ : Clock} {s′ : Stand} (q : end ≡ cutAt cuts i at (length t)) (x : Takes (take (end - at) (drop at t)) 0 c s n e a p c′ s′) where
     here : Takes (bytesOf t cuts i at) 0 c s n e a p c′ s′
     here = subst (λ (k : ℕ). Takes (take (k - at) (drop at t)) 0 c s n e a p c′ s′) q x
 
@@ -127,7 +127,7 @@ module _ {t cuts out₀ out : List ℕ} {c₀ c : Clock} {s₀ s : State} {i at 
         pub doing-further : (m && ltb i (length cuts)) ≡ true → i + 1 ≤ length cuts
         doing-further h = let k = ltb-true i (length cuts) (second m h) in omega arith
 
-        pub doing-more : (m && ltb i (length cuts)) ≡ true → SameSizes (s .logs) (s′ .logs) → Doing t cuts c₀ s₀ out₀ (i + 1) (at + p) c′ s′ out′
+        pub doing-more : (m && ltb i (length cuts)) ≡ true → SameSizes (s .state .logs) (s′ .state .logs) → Doing t cuts c₀ s₀ out₀ (i + 1) (at + p) c′ s′ out′
         doing-more h z =
             record {
               words = g .words ++ wordsOf a n e p c′;
@@ -142,12 +142,12 @@ module _ {t cuts out₀ out : List ℕ} {c₀ c : Clock} {s₀ s : State} {i at 
 
 -- ---- the entry
 
-module _ {t cuts out table counts counts′ : List ℕ} {c : Clock} {l : Logs} {d : Device} {a r : ℕ} {s : State} (e : d ≡ fresh 0) (m : Makes (replicate 64 d) table l a s) where
-  pub blocks-refused : (a ≡ 0 → ⊥) → counts′ ≡ counted counts (s .decoder .counts) → r ≡ told a 0 → ToldBlocks t c cuts out table l counts r out (s .table) (s .logs) counts′
-  blocks-refused h n q =
-      record { answer = a; blocks = 0; words = []; final = s; by = Took.refused (made-on e m) h; result = q; out = stored-none out cuts; table = refl; logs = refl; counted = n }
+module _ {t cuts out table h counts counts′ : List ℕ} {c : Clock} {l : Logs} {d : Device} {a r : ℕ} {s : State} (e : d ≡ fresh 0) (m : Makes (replicate 64 d) table l a s) where
+  pub blocks-refused : (a ≡ 0 → ⊥) → counts′ ≡ counted counts (s .decoder .counts) → r ≡ told a 0 → ToldBlocks t c cuts out table l h counts r out (s .table) (s .logs) h counts′
+  blocks-refused z n q =
+      record { answer = a; blocks = 0; words = []; final = stand s h; by = Took.refused (made-on e m) z; result = q; out = stored-none out cuts; table = refl; logs = refl; shelf = refl; counted = n }
 
-  pub blocks-told : {j : ℕ} {out′ : List ℕ} {s′ : State} → a ≡ 0 → Parts t cuts c s j out out′ s′ → counts′ ≡ counted counts (s′ .decoder .counts) → r ≡ told 0 j
-      → ToldBlocks t c cuts out table l counts r out′ (s′ .table) (s′ .logs) counts′
+  pub blocks-told : {j : ℕ} {out′ : List ℕ} {s′ : Stand} → a ≡ 0 → Parts t cuts c (stand s h) j out out′ s′ → counts′ ≡ counted counts (s′ .state .decoder .counts) → r ≡ told 0 j
+      → ToldBlocks t c cuts out table l h counts r out′ (s′ .state .table) (s′ .state .logs) (s′ .shelf) counts′
   blocks-told {j} {out′} {s′} z p n q =
-      record { answer = 0; blocks = j; words = p .words; final = s′; by = Took.took (subst (λ (x : ℕ). Makes noDevices table l x s) z (made-on e m)) (p .blocks); result = q; out = p .out; table = refl; logs = refl; counted = n }
+      record { answer = 0; blocks = j; words = p .words; final = s′; by = Took.took (subst (λ (x : ℕ). Makes noDevices table l x s) z (made-on e m)) (p .blocks); result = q; out = p .out; table = refl; logs = refl; shelf = refl; counted = n }

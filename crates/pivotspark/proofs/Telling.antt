@@ -7,7 +7,8 @@ use lib.ListN.{length}
 use lib.Seq.{sets}
 use Rattle.rows.specs.Sets.{sets-then}
 use Rattle.record.specs.declared.Counts.{Counts}
-use Rattle.call.specs.State.{Logs, State}
+use Rattle.call.specs.State.{Logs}
+use Rattle.step.specs.Block.{Stand}
 use Rattle.run.specs.Run.{Ran}
 use Rattle.pivotspark.specs.Told.{told, counted, Told}
 
@@ -28,9 +29,9 @@ module _ (l : List ℕ) (n : Counts) where
       rw (le-leb 12 (length l) h)
       (sets-then l l₂ l₃ 0 8 (n .bytes ∷ n .devices ∷ n .endpoints ∷ n .packets ∷ n .events ∷ n .transactions ∷ n .groups ∷ n .statebytes ∷ []) (n .states ∷ n .items ∷ n .links ∷ n .requests ∷ []) two refl r)
 
-pub told-by : {trace t counts counts′ : List ℕ} {l : Logs} {a p r : ℕ} {s : State}
-    → Ran trace t l a p s
-    → counts′ ≡ counted counts (s .decoder .counts)
+pub told-by : {trace t h counts counts′ : List ℕ} {l : Logs} {a p r : ℕ} {s : Stand}
+    → Ran trace t l h a p s
+    → counts′ ≡ counted counts (s .state .decoder .counts)
     → r ≡ told a p
-    → Told trace t l counts r (s .table) (s .logs) counts′
-told-by {a = a} {p} {s = s} x n h = record { answer = a; place = p; final = s; ran = x; result = h; table = refl; logs = refl; counted = n }
+    → Told trace t l h counts r (s .state .table) (s .state .logs) (s .shelf) counts′
+told-by {a = a} {p} {s = s} x n h = record { answer = a; place = p; final = s; ran = x; result = h; table = refl; logs = refl; shelf = refl; counted = n }

@@ -10,7 +10,7 @@ use lib.Seq.{sets}
 use Rattle.trace.specs.declared.clock.Clock.{Clock}
 use Rattle.call.specs.State.{Logs, State}
 use Rattle.start.specs.Fresh.{Makes, noDevices}
-use Rattle.step.specs.Block.{Takes}
+use Rattle.step.specs.Block.{Stand, stand, Takes}
 use Rattle.pivotspark.specs.Told.{told, counted}
 
 -- where block i ends, which begins at `at`: at cut i, where that lies between `at` and the end of the records; behind the last cut, at the end
@@ -29,13 +29,13 @@ goesOn a = eqb a 0 || eqb a 13
 abbrev pub wordsOf : ℕ → ℕ → ℕ → ℕ → Clock → List ℕ
 wordsOf a n e p c = a ∷ n ∷ e ∷ p ∷ c .last ∷ c .time ∷ []
 
--- from block i on, which begins at `at` with this clock on the state s: j blocks have been called at the end, these are their words, and s′ is left
-pub data Blocks (t cuts : List ℕ) : (i at : ℕ) → Clock → State → (j : ℕ) → List ℕ → State → Type 0 where
-  ends : {i at n e a p : ℕ} {c c′ : Clock} {s s′ : State}
+-- from block i on, which begins at `at` with this clock on s: j blocks have been called at the end, these are their words, and s′ is left
+pub data Blocks (t cuts : List ℕ) : (i at : ℕ) → Clock → Stand → (j : ℕ) → List ℕ → Stand → Type 0 where
+  ends : {i at n e a p : ℕ} {c c′ : Clock} {s s′ : Stand}
       → Takes (bytesOf t cuts i at) 0 c s n e a p c′ s′
       → (goesOn a && ltb i (length cuts)) ≡ false
       → Blocks t cuts i at c s (i + 1) (wordsOf a n e p c′) s′
-  goes : {i at n e a p j : ℕ} {c c′ : Clock} {s s′ s″ : State} {ws : List ℕ}
+  goes : {i at n e a p j : ℕ} {c c′ : Clock} {s s′ s″ : Stand} {ws : List ℕ}
       → Takes (bytesOf t cuts i at) 0 c s n e a p c′ s′
       → (goesOn a && ltb i (length cuts)) ≡ true
       → Blocks t cuts (i + 1) (at + p) c′ s′ j ws s″
@@ -50,20 +50,24 @@ abbrev pub clockOf : ℕ → ℕ → Clock
 clockOf last time = record { started = true; last = last; time = time }
 
 -- the answer of fresh, the blocks called, their words, and what is left
-pub data Took (t : List ℕ) (c : Clock) (cuts table : List ℕ) (l : Logs) : ℕ → ℕ → List ℕ → State → Type 0 where
-  refused : {a : ℕ} {s : State} → Makes noDevices table l a s → (a ≡ 0 → ⊥) → Took t c cuts table l a 0 [] s
-  took : {j : ℕ} {s s′ : State} {ws : List ℕ} → Makes noDevices table l 0 s → Blocks t cuts 0 0 c s j ws s′ → Took t c cuts table l 0 j ws s′
+pub data Took (t : List ℕ) (c : Clock) (cuts table : List ℕ) (l : Logs) (h : List ℕ) : ℕ → ℕ → List ℕ → Stand → Type 0 where
+  refused : {a : ℕ} {s : State} → Makes noDevices table l a s → (a ≡ 0 → ⊥) → Took t c cuts table l h a 0 [] (stand s h)
+  took : {j : ℕ} {s : State} {s′ : Stand} {ws : List ℕ}
+      → Makes noDevices table l 0 s
+      → Blocks t cuts 0 0 c (stand s h) j ws s′
+      → Took t c cuts table l h 0 j ws s′
 
--- the call, on the table u with the words o lent for the blocks, gives back r and leaves o′, u′, l′ and counts′
-pub record ToldBlocks (t : List ℕ) (c : Clock) (cuts o u : List ℕ) (l : Logs) (counts : List ℕ)
-    (r : ℕ) (o′ u′ : List ℕ) (l′ : Logs) (counts′ : List ℕ) : Type 0 where
+-- the call, on the table u and the shelf h, with the words o lent for the blocks, gives back r and leaves o′, u′, l′, h′ and counts′
+pub record ToldBlocks (t : List ℕ) (c : Clock) (cuts o u : List ℕ) (l : Logs) (h counts : List ℕ)
+    (r : ℕ) (o′ u′ : List ℕ) (l′ : Logs) (h′ counts′ : List ℕ) : Type 0 where
   pub answer : ℕ
   pub blocks : ℕ
   pub words : List ℕ
-  pub final : State
-  pub by : Took t c cuts u l answer blocks words final
+  pub final : Stand
+  pub by : Took t c cuts u l h answer blocks words final
   pub result : r ≡ told answer blocks
   pub out : o′ ≡ stored o cuts words
-  pub table : u′ ≡ final .table
-  pub logs : l′ ≡ final .logs
-  pub counted : counts′ ≡ counted counts (final .decoder .counts)
+  pub table : u′ ≡ final .state .table
+  pub logs : l′ ≡ final .state .logs
+  pub shelf : h′ ≡ final .shelf
+  pub counted : counts′ ≡ counted counts (final .state .decoder .counts)

@@ -5,7 +5,7 @@ use mathlib.Core.List.{List}
 use mathlib.Core.Path.{_≡_}
 use lib.ListN.{length}
 use Rattle.trace.specs.declared.clock.Clock.{Clock}
-use Rattle.call.specs.State.{State}
+use Rattle.step.specs.Block.{Stand}
 use Rattle.pivotspark.specs.Blocks.{Blocks, stored}
 
 -- there are six words for block i, where there is room for all
@@ -13,7 +13,7 @@ abbrev pub Stores : Bool → ℕ → List ℕ → Type 0
 Stores roomy i out = roomy ≡ true → 6 * i + 6 ≤ length out
 
 -- all blocks from the first on
-pub record Parts (t cuts : List ℕ) (c : Clock) (s : State) (j : ℕ) (o o′ : List ℕ) (s′ : State) : Type 0 where
+pub record Parts (t cuts : List ℕ) (c : Clock) (s : Stand) (j : ℕ) (o o′ : List ℕ) (s′ : Stand) : Type 0 where
   pub words : List ℕ
   pub blocks : Blocks t cuts 0 0 c s j words s′
   pub out : o′ ≡ stored o cuts words

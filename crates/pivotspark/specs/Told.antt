@@ -8,7 +8,8 @@ use lib.Dec.{leb}
 use lib.ListN.{length}
 use lib.Seq.{sets}
 use Rattle.record.specs.declared.Counts.{Counts}
-use Rattle.call.specs.State.{Logs, State, countWords}
+use Rattle.call.specs.State.{Logs, countWords}
+use Rattle.step.specs.Block.{Stand}
 use Rattle.run.specs.Run.{Ran}
 
 -- the answer in the top byte, the place below it
@@ -19,13 +20,14 @@ told answer place = 72057594037927936 * answer + place % 72057594037927936
 unfoldable pub counted : List ℕ → Counts → List ℕ
 counted l n = cond (leb 12 (length l)) (sets l 0 (countWords n)) l
 
--- the trace is run on this table and these logs, with the words `counts` lent for the counts; the call gives back r and leaves t′, l′ and counts′
-pub record Told (trace t : List ℕ) (l : Logs) (counts : List ℕ) (r : ℕ) (t′ : List ℕ) (l′ : Logs) (counts′ : List ℕ) : Type 0 where
+-- the trace is run on this table, these logs and the shelf h, with the words `counts` lent for the counts; the call gives back r and leaves t′, l′, h′ and counts′
+pub record Told (trace t : List ℕ) (l : Logs) (h counts : List ℕ) (r : ℕ) (t′ : List ℕ) (l′ : Logs) (h′ counts′ : List ℕ) : Type 0 where
   pub answer : ℕ
   pub place : ℕ
-  pub final : State
-  pub ran : Ran trace t l answer place final
+  pub final : Stand
+  pub ran : Ran trace t l h answer place final
   pub result : r ≡ told answer place
-  pub table : t′ ≡ final .table
-  pub logs : l′ ≡ final .logs
-  pub counted : counts′ ≡ counted counts (final .decoder .counts)
+  pub table : t′ ≡ final .state .table
+  pub logs : l′ ≡ final .state .logs
+  pub shelf : h′ ≡ final .shelf
+  pub counted : counts′ ≡ counted counts (final .state .decoder .counts)

@@ -80,7 +80,7 @@ transactionOf s = record {
 
 -- words 19 and 20
 unfoldable pub detailOf : List ℕ → Detail
-detailOf s = record { kind = byteOf (word s 19); max = sizeOf (word s 20) }
+detailOf s = record { kind = byteOf (word s 19); given = false; max = sizeOf (word s 20) }
 
 -- words 21 and 22 are success and complete
 unfoldable pub answered : List ℕ → Grouped

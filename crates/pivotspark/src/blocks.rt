@@ -6,6 +6,7 @@ use details::Device;
 use details::fresh_device;
 use endpoints::Table;
 use record::Decoder;
+use shelving::Shelf;
 use start::fresh::fresh;
 use trace::clock::Clock;
 ghost use mathlib.Core.Bool.{cond, true};
@@ -14,6 +15,7 @@ ghost use Prim.Native.Nat.{_*_, _+_, _≤_};
 ghost use lib.ListN.{length};
 ghost use lib.Seq.{sets};
 ghost use Rattle.call.specs.State.{state, logs};
+ghost use Rattle.step.specs.Block.{stand};
 ghost use Rattle.pivotspark.specs.Blocks.{cutAt, goesOn, wordsOf, clockOf, ToldBlocks};
 ghost use Rattle.pivotspark.specs.Parts.{Stores, Parts};
 
@@ -99,8 +101,9 @@ fn run_blocks(
     items: &mut [u64],
     links: &mut [u64],
     requests: &mut [u64],
+    shelf: &mut Shelf,
 ) -> Left
-    ensures { λ r. ⌜ Parts (now (records .entry)) (now (cuts .entry)) clock (state d devices (now (table .entry)) (logs (now (bytes .entry)) (now («device_rows» .entry)) (now («endpoint_rows» .entry)) (now (packets .entry)) (now (events .entry)) (now (transactions .entry)) (now (groups .entry)) (now (statebytes .entry)) (now (states .entry)) (now (items .entry)) (now (links .entry)) (now (requests .entry)))) (r .blocks) (now (out .entry)) (now (out .exit)) (state (r .decoder) (r .devices) (now (table .exit)) (logs (now (bytes .exit)) (now («device_rows» .exit)) (now («endpoint_rows» .exit)) (now (packets .exit)) (now (events .exit)) (now (transactions .exit)) (now (groups .exit)) (now (statebytes .exit)) (now (states .exit)) (now (items .exit)) (now (links .exit)) (now (requests .exit)))) ⌝ }
+    ensures { λ r. ⌜ Parts (now (records .entry)) (now (cuts .entry)) clock (stand (state d devices (now (table .entry)) (logs (now (bytes .entry)) (now («device_rows» .entry)) (now («endpoint_rows» .entry)) (now (packets .entry)) (now (events .entry)) (now (transactions .entry)) (now (groups .entry)) (now (statebytes .entry)) (now (states .entry)) (now (items .entry)) (now (links .entry)) (now (requests .entry)))) (now (shelf .entry))) (r .blocks) (now (out .entry)) (now (out .exit)) (stand (state (r .decoder) (r .devices) (now (table .exit)) (logs (now (bytes .exit)) (now («device_rows» .exit)) (now («endpoint_rows» .exit)) (now (packets .exit)) (now (events .exit)) (now (transactions .exit)) (now (groups .exit)) (now (statebytes .exit)) (now (states .exit)) (now (items .exit)) (now (links .exit)) (now (requests .exit)))) (now (shelf .exit))) ⌝ }
 {
     let roomy = cuts.len() < out.len() / 6;
     let mut decoder = d;
@@ -128,6 +131,7 @@ fn run_blocks(
             items,
             links,
             requests,
+            shelf,
         );
         let answer = r.answer;
         let place = r.place;
@@ -151,7 +155,7 @@ fn run_blocks(
     }
 }
 
-// Records without header on the lent table and logs; `last` and `time` are the tick state before them, and the words of each block are stored in `out`.
+// Records without header on the lent table, logs and shelf; `last` and `time` are the tick state before them, and the words of each block are stored in `out`.
 #[no_mangle]
 pub extern "C" fn pivotspark_blocks(
     records: &[u8],
@@ -172,9 +176,10 @@ pub extern "C" fn pivotspark_blocks(
     items: &mut [u64],
     links: &mut [u64],
     requests: &mut [u64],
+    shelf: &mut Shelf,
     counts: &mut [u64],
 ) -> u64
-    ensures { λ r. ⌜ ToldBlocks (now (records .entry)) (clockOf last time) (now (cuts .entry)) (now (out .entry)) (now (table .entry)) (logs (now (bytes .entry)) (now («device_rows» .entry)) (now («endpoint_rows» .entry)) (now (packets .entry)) (now (events .entry)) (now (transactions .entry)) (now (groups .entry)) (now (statebytes .entry)) (now (states .entry)) (now (items .entry)) (now (links .entry)) (now (requests .entry))) (now (counts .entry)) r (now (out .exit)) (now (table .exit)) (logs (now (bytes .exit)) (now («device_rows» .exit)) (now («endpoint_rows» .exit)) (now (packets .exit)) (now (events .exit)) (now (transactions .exit)) (now (groups .exit)) (now (statebytes .exit)) (now (states .exit)) (now (items .exit)) (now (links .exit)) (now (requests .exit))) (now (counts .exit)) ⌝ }
+    ensures { λ r. ⌜ ToldBlocks (now (records .entry)) (clockOf last time) (now (cuts .entry)) (now (out .entry)) (now (table .entry)) (logs (now (bytes .entry)) (now («device_rows» .entry)) (now («endpoint_rows» .entry)) (now (packets .entry)) (now (events .entry)) (now (transactions .entry)) (now (groups .entry)) (now (statebytes .entry)) (now (states .entry)) (now (items .entry)) (now (links .entry)) (now (requests .entry))) (now (shelf .entry)) (now (counts .entry)) r (now (out .exit)) (now (table .exit)) (logs (now (bytes .exit)) (now («device_rows» .exit)) (now («endpoint_rows» .exit)) (now (packets .exit)) (now (events .exit)) (now (transactions .exit)) (now (groups .exit)) (now (statebytes .exit)) (now (states .exit)) (now (items .exit)) (now (links .exit)) (now (requests .exit))) (now (shelf .exit)) (now (counts .exit)) ⌝ }
 {
     let blank = fresh_device(0);
     let devices = [blank; 64];
@@ -226,6 +231,7 @@ pub extern "C" fn pivotspark_blocks(
         items,
         links,
         requests,
+        shelf,
     );
     let decoder = r.decoder;
     put_counts(counts, decoder.counts);

@@ -107,6 +107,7 @@ fn detail(s: &[u64; 23]) -> Detail
 {
     Detail {
         kind: byte(s[19]),
+        given: false,
         max: size(s[20]),
     }
 }

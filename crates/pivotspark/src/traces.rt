@@ -2,6 +2,7 @@
 use endpoints::Table;
 use record::Counts;
 use run::run;
+use shelving::Shelf;
 ghost use mathlib.Core.Path.{_≡_};
 ghost use Rattle.call.specs.State.{logs};
 ghost use Rattle.pivotspark.specs.Told.{told, counted, Told};
@@ -46,7 +47,7 @@ pub fn put_counts(counts: &mut [u64], n: Counts)
     );
 }
 
-// The trace on the lent table and logs. The record's counts are stored in `counts`; if it has fewer than twelve words it is left as it is.
+// The trace on the lent table, logs and shelf, which may hold anything. The record's counts are stored in `counts`; if it has fewer than twelve words it is left as it is.
 #[no_mangle]
 pub extern "C" fn pivotspark_trace(
     trace: &[u8],
@@ -63,9 +64,10 @@ pub extern "C" fn pivotspark_trace(
     items: &mut [u64],
     links: &mut [u64],
     requests: &mut [u64],
+    shelf: &mut Shelf,
     counts: &mut [u64],
 ) -> u64
-    ensures { λ r. ⌜ Told (now (trace .entry)) (now (table .entry)) (logs (now (bytes .entry)) (now («device_rows» .entry)) (now («endpoint_rows» .entry)) (now (packets .entry)) (now (events .entry)) (now (transactions .entry)) (now (groups .entry)) (now (statebytes .entry)) (now (states .entry)) (now (items .entry)) (now (links .entry)) (now (requests .entry))) (now (counts .entry)) r (now (table .exit)) (logs (now (bytes .exit)) (now («device_rows» .exit)) (now («endpoint_rows» .exit)) (now (packets .exit)) (now (events .exit)) (now (transactions .exit)) (now (groups .exit)) (now (statebytes .exit)) (now (states .exit)) (now (items .exit)) (now (links .exit)) (now (requests .exit))) (now (counts .exit)) ⌝ }
+    ensures { λ r. ⌜ Told (now (trace .entry)) (now (table .entry)) (logs (now (bytes .entry)) (now («device_rows» .entry)) (now («endpoint_rows» .entry)) (now (packets .entry)) (now (events .entry)) (now (transactions .entry)) (now (groups .entry)) (now (statebytes .entry)) (now (states .entry)) (now (items .entry)) (now (links .entry)) (now (requests .entry))) (now (shelf .entry)) (now (counts .entry)) r (now (table .exit)) (logs (now (bytes .exit)) (now («device_rows» .exit)) (now («endpoint_rows» .exit)) (now (packets .exit)) (now (events .exit)) (now (transactions .exit)) (now (groups .exit)) (now (statebytes .exit)) (now (states .exit)) (now (items .exit)) (now (links .exit)) (now (requests .exit))) (now (shelf .exit)) (now (counts .exit)) ⌝ }
 {
     let r = run(
         trace,
@@ -82,6 +84,7 @@ pub extern "C" fn pivotspark_trace(
         items,
         links,
         requests,
+        shelf,
     );
     let decoder = r.decoder;
     let n = decoder.counts;

@@ -1,10 +1,11 @@
--- The devices that the steps of a packet leave: one row perhaps changed by the step that begins, one perhaps added by the end.
+-- The devices that the steps of a packet leave: one row perhaps changed by the step that begins, one perhaps added by the end, or changed by a request that completes
+-- there; and the shelf.
 use mathlib.Core.Path.{_≡_, refl, sym, ap, _∙_}
 use mathlib.Core.Bool.{Bool, true, false, _&&_, _||_, not, false≢true}
 use mathlib.Core.List.{List}
 use Prim.Native.Nat.{ℕ, _+_}
 use native.Mathlib.Omega.{arith}
-use borrow.Author.Tests.{eqb-true}
+use borrow.Author.Tests.{eqb-true, eq-eqb}
 use lib.Dec.{eqb}
 use lib.ListN.{length}
 use Rattle.rows.specs.One.{one}
@@ -29,11 +30,13 @@ use Rattle.group.specs.declared.Effect.{Effect}
 use Rattle.group.specs.declared.Effect.the-variants.{NoEffect, NewDevice, Request, PendingData, IndexData}
 use Rattle.rules.specs.World.{World, _▷_, invalidEp, withTransaction, change, changeDevice}
 use Rattle.rules.specs.Endpoints.{addDevice, pushEndpoint, typed, deviceFor, addressFor, found, detailOf}
-use Rattle.rules.specs.Groups.{becomes, effectStep}
+use Rattle.descriptors.specs.Complete.{rowBy, shelfBy}
+use Rattle.descriptors.specs.declared.complete.Asked.{Asked}
+use Rattle.rules.specs.Groups.{becomes, askedAt, askedOf, effectStep}
 use Rattle.rules.specs.Transactions.{stateAt, pushTransaction}
 use Rattle.update.specs.Update.{when, act}
 use Rattle.update.specs.declared.Update.{Update}
-use Rattle.plan.specs.Devices.{changes, rowAfter, addsDevice, addressOf}
+use Rattle.plan.specs.Devices.{changes, rowAfter, addsDevice, addressOf, asks, lengthOf, askedBy, rowAsked}
 use Rattle.plan.specs.Step.{opened, begun, ended, endOf}
 use Rattle.plan.specs.Packet.{resumes, slotThen, oldEndpoint, transactionThen, entryThen, going, standing, newOn, placeAt, placeOf, updateFor, startOn, startSplit, startPlain, starting, withTokenOn, goingOn, appendingAt, appending, middleOf, isNew, entryEnded, endIf, planBy, planOf, played}
 use Rattle.plan.specs.Sound.{world1, world2, world3, world4}
@@ -42,7 +45,7 @@ use Rattle.plan.specs.declared.End.{End}
 use Rattle.plan.specs.declared.Middle.{Middle}
 use Rattle.plan.specs.declared.Place.{Place}
 use Rattle.plan.specs.declared.Plan.{Plan}
-use Rattle.plan.proofs.Frame.{act-rest, Rest}
+use Rattle.plan.proofs.Frame.{act-rest, Rest, restOf, Still, opened-still, Adding, no, act-fixed, device-fixed, setup-fixed}
 use Rattle.plan.proofs.Quiet.{no-effect}
 
 -- ---- a step that begins
@@ -115,23 +118,77 @@ module _ (id : ℕ) (s : Begin) (w : World) where
       ap (λ (r : Rest). r .devices j) (act-rest (s .update) (s .transaction .endpoint) (withTransaction (s .transaction) (opened id s w)))
       ∙ opened-at j h
 
+  pub begun-shelf : begun id s w .shelf ≡ w .shelf
+  unfolding begun
+  begun-shelf =
+      ap (λ (r : Rest). r .shelf) (act-rest (s .update) (s .transaction .endpoint) (withTransaction (s .transaction) (opened id s w)))
+      ∙ ap (λ (r : Still). r .shelf) (opened-still id s w)
+
 -- ---- an effect
 
-effect-devices : (f : Effect) (x : ℕ) (w : World) (j : ℕ) → effectStep f x w .devices j ≡ placed (addsDevice f) (w .deviceCount) (fresh (addressOf f)) j (w .devices j)
+-- a request on the endpoint x changes the row of its device
+turned : (n x : ℕ) (w : World) (j : ℕ) → effectStep (Request n) x w .devices j
+    ≡ placed true (w .endpoints x .device) (rowBy (askedOf n x w) (w .shelf) (w .devices (w .endpoints x .device))) j (w .devices j)
+turned n x w j = by (eqb j (w .endpoints x .device)) refl
+  where
+    row : Device → Device
+    row = rowBy (askedOf n x w) (w .shelf)
+
+    by : (b : Bool) → eqb j (w .endpoints x .device) ≡ b → pick b (row (w .devices j)) (w .devices j) ≡ pick b (row (w .devices (w .endpoints x .device))) (w .devices j)
+    by true q = ap (λ (k : ℕ). row (w .devices k)) (eqb-true j (w .endpoints x .device) q)
+    by false q = refl
+
+effect-devices : (f : Effect) (x : ℕ) (w : World) (j : ℕ) → effectStep f x w .devices j
+    ≡ placed (addsDevice f) (w .deviceCount) (fresh (addressOf f)) j (placed (asks f) (w .endpoints x .device) (rowBy (askedOf (lengthOf f) x w) (w .shelf) (w .devices (w .endpoints x .device))) j (w .devices j))
 effect-devices NoEffect x w j = refl
 effect-devices (NewDevice a) x w j = refl
-effect-devices (Request n) x w j = refl
+effect-devices (Request n) x w j = turned n x w j
 effect-devices (PendingData n) x w j = refl
 effect-devices (IndexData n waited i) x w j = refl
 
-pub ended-devices : (x : ℕ) (s : End) (w : World) (j : ℕ) → ended x s w .devices j ≡ placed (addsDevice (s .effect)) (w .deviceCount) (fresh (addressOf (s .effect))) j (w .devices j)
-unfolding ended
-ended-devices x s w j =
-    let v = act (s .update) x (change x (becomes (s .entry)) w) in
-    let r = act-rest (s .update) x (change x (becomes (s .entry)) w) in
-    effect-devices (s .effect) x v j
-    ∙ (ap (λ (n : ℕ). placed (addsDevice (s .effect)) n (fresh (addressOf (s .effect))) j (v .devices j)) (ap (λ (a : Rest). a .deviceCount) r)
-    ∙ ap (λ (d : Device). placed (addsDevice (s .effect)) (w .deviceCount) (fresh (addressOf (s .effect))) j d) (ap (λ (a : Rest). a .devices j) r))
+effect-shelf : (f : Effect) (x : ℕ) (w : World) → effectStep f x w .shelf ≡ pick (asks f) (shelfBy (askedOf (lengthOf f) x w) (w .shelf)) (w .shelf)
+effect-shelf NoEffect x w = refl
+effect-shelf (NewDevice a) x w = refl
+effect-shelf (Request n) x w = refl
+effect-shelf (PendingData n) x w = refl
+effect-shelf (IndexData n waited i) x w = refl
+
+-- what an end is asked is told by the entry that it has: its update changes neither setup data nor device
+module _ (x : ℕ) (s : End) (w : World) where
+  -- the world that its effect begins with
+  abbrev pub updated : World
+  updated = act (s .update) x (change x (becomes (s .entry)) w)
+
+  rest : restOf updated ≡ restOf w
+  rest = act-rest (s .update) x (change x (becomes (s .entry)) w)
+
+  pub own-entry : (g : Endpoint → ℕ) → Adding g no no → g (updated .endpoints x) ≡ g (s .entry)
+  own-entry g k = act-fixed g k (s .update) x x (change x (becomes (s .entry)) w) ∙ ap (λ (b : Bool). g (pick b (s .entry) (w .endpoints x))) (eq-eqb x x refl)
+
+  pub asked-ended : (n : ℕ) → askedOf n x updated ≡ askedAt (s .entry .setup) n (s .entry .device) (w .devices (s .entry .device))
+  asked-ended n =
+      let d = own-entry (λ e. e .device) device-fixed in
+      let u = own-entry (λ e. e .setup) setup-fixed in
+      let v = ap (λ (r : Rest). r .devices) rest in
+      λ i. askedAt (u i) n (d i) (v i (d i))
+
+  pub shelf-ended : updated .shelf ≡ w .shelf
+  shelf-ended = ap (λ (r : Rest). r .shelf) rest
+
+  pub ended-devices : (j : ℕ) → ended x s w .devices j
+      ≡ placed (addsDevice (s .effect)) (w .deviceCount) (fresh (addressOf (s .effect))) j (placed (asks (s .effect)) (s .entry .device) (rowAsked s (w .devices) (w .shelf)) j (w .devices j))
+  unfolding ended
+  ended-devices j =
+      let d = own-entry (λ e. e .device) device-fixed in
+      let q = asked-ended (lengthOf (s .effect)) in
+      effect-devices (s .effect) x updated j
+      ∙ λ i. placed (addsDevice (s .effect)) (rest i .deviceCount) (fresh (addressOf (s .effect))) j (placed (asks (s .effect)) (d i) (rowBy (q i) (rest i .shelf) (rest i .devices (d i))) j (rest i .devices j))
+
+  pub ended-shelf : ended x s w .shelf ≡ pick (asks (s .effect)) (shelfBy (askedBy s (w .devices)) (w .shelf)) (w .shelf)
+  unfolding ended
+  ended-shelf =
+      let q = asked-ended (lengthOf (s .effect)) in
+      effect-shelf (s .effect) x updated ∙ λ i. pick (asks (s .effect)) (shelfBy (q i) (rest i .shelf)) (rest i .shelf)
 
 -- ---- how many devices there are
 
@@ -281,7 +338,27 @@ module _ (packet : List ℕ) (time : ℕ) (w : World) where
       resume false = refl
 
       ends : (b : Bool) → when b (λ v. ended (plan .old) (plan .end) (withTransaction (plan .brought) v)) (world2 plan packet time w) .devices j ≡ world2 plan packet time w .devices j
-      ends true = ended-devices (plan .old) (plan .end) (withTransaction (plan .brought) (world2 plan packet time w)) j ∙ ap (λ (f : Effect). placed (addsDevice f) (world2 plan packet time w .deviceCount) (fresh (addressOf f)) j (world2 plan packet time w .devices j)) (plan-quiet w packet)
+      ends true =
+          let v = world2 plan packet time w in
+          let d = plan .end .entry .device in
+          ended-devices (plan .old) (plan .end) (withTransaction (plan .brought) v) j
+          ∙ ap (λ (f : Effect). placed (addsDevice f) (v .deviceCount) (fresh (addressOf f)) j (placed (asks f) d (rowBy (askedAt (plan .end .entry .setup) (lengthOf f) d (v .devices d)) (v .shelf) (v .devices d)) j (v .devices j))) (plan-quiet w packet)
+      ends false = refl
+
+  -- and the shelf
+  before-shelf : world3 plan packet time w .shelf ≡ w .shelf
+  before-shelf = ends (plan .ends) ∙ resume (plan .resumes)
+    where
+      resume : (b : Bool) → when b (begun (w .packets) (plan .resume)) (world1 packet time w) .shelf ≡ w .shelf
+      resume true = begun-shelf (w .packets) (plan .resume) (world1 packet time w)
+      resume false = refl
+
+      ends : (b : Bool) → when b (λ v. ended (plan .old) (plan .end) (withTransaction (plan .brought) v)) (world2 plan packet time w) .shelf ≡ world2 plan packet time w .shelf
+      ends true =
+          let v = world2 plan packet time w in
+          let d = plan .end .entry .device in
+          ended-shelf (plan .old) (plan .end) (withTransaction (plan .brought) v)
+          ∙ ap (λ (f : Effect). pick (asks f) (shelfBy (askedAt (plan .end .entry .setup) (lengthOf f) d (v .devices d)) (v .shelf)) (v .shelf)) (plan-quiet w packet)
       ends false = refl
 
   -- how many there are
@@ -302,7 +379,7 @@ module _ (packet : List ℕ) (time : ℕ) (w : World) where
   abbrev pub deviceBegun : ℕ → Device
   deviceBegun j = placed (changes (plan .begin)) (plan .begin .place) (rowAfter (plan .begin) (w .devices)) j (w .devices j)
 
-  begun-at : (j : ℕ) → world4 plan packet time w .devices j ≡ deviceBegun j
+  pub begun-at : (j : ℕ) → world4 plan packet time w .devices j ≡ deviceBegun j
   begun-at j =
       begun-devices (w .packets) (plan .begin) (world3 plan packet time w) (λ h. plan-behind w packet h ∙ sym before-count) j
       ∙ (λ i. placed (changes (plan .begin)) (plan .begin .place) (rowAfter (plan .begin) (λ k. before-devices k i)) j (before-devices j i))
@@ -310,16 +387,49 @@ module _ (packet : List ℕ) (time : ℕ) (w : World) where
   begun-many : world4 plan packet time w .deviceCount ≡ w .deviceCount + one (plan .begin .device)
   begun-many = begun-count (w .packets) (plan .begin) (world3 plan packet time w) ∙ ap (λ (n : ℕ). n + one (plan .begin .device)) before-count
 
-  pub played-devices : (j : ℕ) → played plan packet time w .devices j ≡ placed (plan .closes && addsDevice (plan .close .effect)) (w .deviceCount + one (plan .begin .device)) (fresh (addressOf (plan .close .effect))) j (deviceBegun j)
+  -- the shelf when the packet's own transaction ends
+  pub shelf-begun : world4 plan packet time w .shelf ≡ w .shelf
+  shelf-begun = begun-shelf (w .packets) (plan .begin) (world3 plan packet time w) ∙ before-shelf
+
+  -- what a request that completes is asked, and device j after it
+  abbrev pub askedClose : Asked
+  askedClose = askedBy (plan .close) deviceBegun
+
+  abbrev pub deviceAsked : ℕ → Device
+  deviceAsked j = placed (plan .closes && asks (plan .close .effect)) (plan .close .entry .device) (rowAsked (plan .close) deviceBegun (w .shelf)) j (deviceBegun j)
+
+  pub played-devices : (j : ℕ) → played plan packet time w .devices j
+      ≡ placed (plan .closes && addsDevice (plan .close .effect)) (w .deviceCount + one (plan .begin .device)) (fresh (addressOf (plan .close .effect))) j (deviceAsked j)
   unfolding played
   played-devices j = by (plan .closes)
     where
-      by : (b : Bool) → when b (ended (plan .begin .transaction .endpoint) (plan .close)) (world4 plan packet time w) .devices j ≡ placed (b && addsDevice (plan .close .effect)) (w .deviceCount + one (plan .begin .device)) (fresh (addressOf (plan .close .effect))) j (deviceBegun j)
+      by : (b : Bool) → when b (ended (plan .begin .transaction .endpoint) (plan .close)) (world4 plan packet time w) .devices j
+          ≡ placed (b && addsDevice (plan .close .effect)) (w .deviceCount + one (plan .begin .device)) (fresh (addressOf (plan .close .effect))) j (placed (b && asks (plan .close .effect)) (plan .close .entry .device) (rowAsked (plan .close) deviceBegun (w .shelf)) j (deviceBegun j))
       by true =
           ended-devices (plan .begin .transaction .endpoint) (plan .close) (world4 plan packet time w) j
-          ∙ (ap (λ (n : ℕ). placed (addsDevice (plan .close .effect)) n (fresh (addressOf (plan .close .effect))) j (world4 plan packet time w .devices j)) begun-many
-          ∙ ap (λ (d : Device). placed (addsDevice (plan .close .effect)) (w .deviceCount + one (plan .begin .device)) (fresh (addressOf (plan .close .effect))) j d) (begun-at j))
+          ∙ λ i. placed (addsDevice (plan .close .effect)) (begun-many i) (fresh (addressOf (plan .close .effect))) j (placed (asks (plan .close .effect)) (plan .close .entry .device) (rowAsked (plan .close) (λ k. begun-at k i) (shelf-begun i)) j (begun-at j i))
       by false = begun-at j
+
+  -- the shelf after the packet
+  pub played-shelf : played plan packet time w .shelf ≡ pick (plan .closes && asks (plan .close .effect)) (shelfBy askedClose (w .shelf)) (w .shelf)
+  unfolding played
+  played-shelf = by (plan .closes)
+    where
+      by : (b : Bool) → when b (ended (plan .begin .transaction .endpoint) (plan .close)) (world4 plan packet time w) .shelf ≡ pick (b && asks (plan .close .effect)) (shelfBy askedClose (w .shelf)) (w .shelf)
+      by true =
+          ended-shelf (plan .begin .transaction .endpoint) (plan .close) (world4 plan packet time w)
+          ∙ λ i. pick (asks (plan .close .effect)) (shelfBy (askedBy (plan .close) (λ k. begun-at k i)) (shelf-begun i)) (shelf-begun i)
+      by false = shelf-begun
+
+  -- and what the request row's note is told by
+  pub closing-asked : (n : ℕ) → (let v = updated (plan .begin .transaction .endpoint) (plan .close) (world4 plan packet time w) in askedOf n (plan .begin .transaction .endpoint) v)
+      ≡ askedAt (plan .close .entry .setup) n (plan .close .entry .device) (deviceBegun (plan .close .entry .device))
+  closing-asked n =
+      asked-ended (plan .begin .transaction .endpoint) (plan .close) (world4 plan packet time w) n
+      ∙ ap (λ (d : Device). askedAt (plan .close .entry .setup) n (plan .close .entry .device) d) (begun-at (plan .close .entry .device))
+
+  pub closing-shelf : updated (plan .begin .transaction .endpoint) (plan .close) (world4 plan packet time w) .shelf ≡ w .shelf
+  closing-shelf = shelf-ended (plan .begin .transaction .endpoint) (plan .close) (world4 plan packet time w) ∙ shelf-begun
 
   pub played-device-count : played plan packet time w .deviceCount ≡ w .deviceCount + one (plan .begin .device) + one (plan .closes && addsDevice (plan .close .effect))
   unfolding played

@@ -22,6 +22,7 @@ use Rattle.group.specs.declared.Effect.{Effect}
 use Rattle.group.specs.declared.Effect.the-variants.{NoEffect, NewDevice, Request, PendingData, IndexData}
 use Rattle.rules.specs.Rows.{Row, log, written, DeviceRow, EndpointRow, TransactionRow, naming, GroupRow, grouping, StateRow, StateBytes, ItemRow, T, G, D, E, RequestRow, asking, Over}
 use Rattle.rules.specs.World.{World, _▷_, eventEp, lastGroup, withEndpoints, withSlot, withTransaction, change, changeDevice, moreTransactions, moreGroups, withLast, cleared, withPending, withTotal}
+use Rattle.descriptors.specs.Complete.{noteBy}
 use Rattle.rules.specs.Groups as rules
 use Rattle.rules.specs.Groups.{effectStep, activated, becomes}
 use Rattle.rules.specs.Endpoints.{addDevice, pushEndpoint, typed}
@@ -100,6 +101,7 @@ pub record Rest : Type 0 where
   pub slot : Slot
   pub eventState : EventState
   pub keepalive : Bool
+  pub shelf : List ℕ
   pub bytes : ℕ
   pub packets : ℕ
   pub transactions : ℕ
@@ -112,7 +114,7 @@ pub record Rest : Type 0 where
 
 abbrev pub restOf : World → Rest
 restOf w =
-    record { count = w .count; devices = w .devices; deviceCount = w .deviceCount; slot = w .slot; eventState = w .eventState; keepalive = w .keepalive; bytes = w .bytes; packets = w .packets; transactions = w .transactions; style = w .transaction .style; id = w .transaction .id; last = w .transaction .last; endpoint = w .transaction .endpoint; kind = w .transaction .kind }
+    record { count = w .count; devices = w .devices; deviceCount = w .deviceCount; slot = w .slot; eventState = w .eventState; keepalive = w .keepalive; shelf = w .shelf; bytes = w .bytes; packets = w .packets; transactions = w .transactions; style = w .transaction .style; id = w .transaction .id; last = w .transaction .last; endpoint = w .transaction .endpoint; kind = w .transaction .kind }
 
 pub act-rest : (u : Update) (x : ℕ) (w : World) → restOf (act u x w) ≡ restOf w
 act-rest u x w =
@@ -220,6 +222,10 @@ device-fixed =
 pub address-fixed : Adding (λ e. e .address) no no
 address-fixed =
     record { phase = λ p e. refl; state = λ s e. refl; link = kept (λ e. e .address) moreTransactions (λ e. refl); start = kept (λ e. e .address) moreGroups (λ e. refl); group = become-keeps (λ e. e .address) (λ d pid e. refl) (λ pid e. refl) (λ p e. refl); clear = λ e. refl }
+
+pub setup-fixed : Adding (λ e. e .setup) no no
+setup-fixed =
+    record { phase = λ p e. refl; state = λ s e. refl; link = kept (λ e. e .setup) moreTransactions (λ e. refl); start = kept (λ e. e .setup) moreGroups (λ e. refl); group = become-keeps (λ e. e .setup) (λ d pid e. refl) (λ pid e. refl) (λ p e. refl); clear = λ e. refl }
 
 pub total-fixed : Adding (λ e. e .total) no no
 total-fixed =
@@ -353,7 +359,7 @@ module _ (k : ℕ) where
   pub effect-log : eqb 1 k ≡ false → eqb 10 k ≡ false → eqb 11 k ≡ false → (f : Effect) (x : ℕ) (w : World) → log k (effectStep f x w .journal) ≡ log k (w .journal)
   effect-log d l r NoEffect x w = refl
   effect-log d l r (NewDevice address) x w = row-log (DeviceRow address) (w .journal) d
-  effect-log d l r (Request n) x w = row-log (RequestRow (asking x (w .endpoints x .setup) n)) (w .journal) r
+  effect-log d l r (Request n) x w = row-log (RequestRow (asking x (w .endpoints x .setup) n (noteBy (rules.askedOf n x w) (w .shelf)))) (w .journal) r
   effect-log d l r (PendingData n) x w = refl
   effect-log d l r (IndexData n waited i) x w = row-log (D x (pick waited i (w .transaction .link)) (w .endpoints x .total)) (w .journal) l
 
@@ -376,6 +382,7 @@ pub record Still : Type 0 where
   pub lastItem : ℕ
   pub eventState : EventState
   pub keepalive : Bool
+  pub shelf : List ℕ
   pub bytes : ℕ
   pub packets : ℕ
   pub groups : ℕ
@@ -384,7 +391,7 @@ pub record Still : Type 0 where
 
 abbrev pub stillOf : World → Still
 stillOf w =
-    record { slot = w .slot; transaction = w .transaction; lastItem = w .lastItem; eventState = w .eventState; keepalive = w .keepalive; bytes = w .bytes; packets = w .packets; groups = w .groups; stateBytes = w .stateBytes; items = w .items }
+    record { slot = w .slot; transaction = w .transaction; lastItem = w .lastItem; eventState = w .eventState; keepalive = w .keepalive; shelf = w .shelf; bytes = w .bytes; packets = w .packets; groups = w .groups; stateBytes = w .stateBytes; items = w .items }
 
 pub opened-still : (id : ℕ) (s : Beginning) (w : World) → stillOf (opened id s w) ≡ stillOf w
 opened-still id s = opened-keeps stillOf id s (λ v. refl) (λ v. refl) (λ v. refl) (λ v. refl)

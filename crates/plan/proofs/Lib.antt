@@ -2,6 +2,7 @@ pub mod Frame
 pub mod Quiet
 pub mod Played
 pub mod Devices
+pub mod Requests
 pub mod Ends
 pub mod Alike
 pub mod Starts
@@ -9,6 +10,7 @@ pub mod Typed
 pub mod Settles
 pub mod Appends
 pub mod Olds
+pub mod Kept
 pub mod Packet
 pub mod Small
 pub mod Bounded

@@ -1,7 +1,7 @@
 -- The steps of a packet, decided from the world before it and done, are what the rules do (handle_raw_packet).
 use mathlib.Core.Path.{_≡_, refl, sym, ap, subst, _∙_}
 use mathlib.Core.Bool.{Bool, true, false, _&&_, not}
-use mathlib.Core.List.{List}
+use mathlib.Core.List.{List, []}
 use Prim.Native.Nat.{ℕ, _+_}
 use native.Mathlib.Omega.{arith}
 use borrow.Author.Tests.{eq-eqb, ne-eqb}
@@ -16,17 +16,20 @@ use Rattle.transaction.specs.declared.Status.{Status}
 use Rattle.transaction.specs.declared.Status.the-variants.{New, Continue, Retry, Done, Fail, Ambiguous, Invalid}
 use Rattle.transaction.specs.declared.Transaction.{Transaction}
 use Rattle.transaction.proofs.Laws.{extract-keeps}
+use Rattle.descriptors.specs.Kind.{kindOf}
+use Rattle.descriptors.specs.Laid.{isLaid}
 use Rattle.endpoints.specs.declared.Endpoint.{Endpoint}
-use Rattle.rules.specs.World.{World, _▷_, withSlot, withTransaction, withId, moreTransactions}
+use Rattle.rules.specs.World.{World, makeWorld, stamp, _▷_, withSlot, withTransaction, withShelf, withId, moreTransactions}
 use Rattle.rules.specs.Endpoints.{detailOf}
-use Rattle.rules.specs.Transactions.{transactionEnd, transactionStart, transactionAppend, completes, resumeAt, stateAt, updateAt, updateFrom, isDropped, transactionUpdate}
+use Rattle.rules.specs.Transactions.{transactionEnd, transactionStart, transactionAppend, completes, isPayload, isKept, shelfWith, keepPayload, resumeAt, stateAt, updateAt, updateFrom, isDropped, transactionUpdate}
 use Rattle.rules.specs.Decoder.{handleRawPacket}
+use Rattle.rules.specs.declared.EventState.the-variants.{Idle}
 use Rattle.rules.specs.declared.Slot.{Slot}
 use Rattle.rules.specs.declared.Slot.the-variants.{Empty, Current, Suspended}
 use Rattle.update.specs.Update.{when, decideResume}
 use Rattle.update.specs.Entry.{entryAfter}
 use Rattle.plan.specs.Step.{opened, begun, ended, endOf}
-use Rattle.plan.specs.Packet.{resumes, slotThen, oldEndpoint, transactionThen, entryThen, going, starting, appending, closeOf, middleOf, isNew, isLast, succeeds, completesBy, slotAfter, entryEnded, lastEnded, endIf, planBy, planOf, withPacket, played}
+use Rattle.plan.specs.Packet.{resumes, slotThen, oldEndpoint, transactionThen, entryThen, going, starting, appending, closeOf, middleOf, isNew, isLast, succeeds, completesBy, slotAfter, entryEnded, lastEnded, endIf, planBy, planOf, kept, withPacket, played}
 use Rattle.plan.specs.declared.Middle.{Middle}
 use Rattle.plan.specs.declared.Begin.{Begin}
 use Rattle.plan.specs.declared.End.{End}
@@ -38,6 +41,7 @@ use Rattle.plan.proofs.Alike.{Alike, same-detail, same-starting, same-a
 use Rattle.plan.proofs.Starts.{Begins, new, invalid, following, start-is}
 use Rattle.plan.proofs.Settles.{Settled, start-settled, append-settled, close-is}
 use Rattle.plan.proofs.Appends.{GoesOn, continue, retry, done, fail, ambiguous, after, going-is}
+use Rattle.plan.proofs.Kept.{starting-row, appending-row, appending-last, unkept}
 use Rattle.plan.proofs.Olds.{Before, Resumed, before-update, resumed-entry, before-resumed, before-ended}
 
 -- the steps of a plan after a suspended transaction was resumed, if one was
@@ -174,11 +178,20 @@ module _ (id pid x0 : ℕ) (packet : List ℕ) (e : Endpoint) (w v : World) (r :
   abbrev n : ℕ
   n = w .transactions + one (resumes (w .slot))
 
-  -- there was no transaction
-  empty-is : x0 ≡ 0 → (s : Status) → Begins s → updateAt s id pid packet (completes (v .transaction .style) s) (withSlot Empty v) ≡ onward (planned s) id v
+  -- a step that starts keeps no payload
+  starts-on : (s : Status) → Begins s → onward (planned s) id v ≡ onward (planned s) id (kept (planned s) packet v)
   unfolding planBy
-  empty-is z New new = new-is id pid x0 n packet e w v r Empty (ap (λ (c : Bool). withSlot Empty (when (not c) (ended x0 (end id pid x0 n packet e w v r)) (brought id pid x0 n packet e w v r))) (sym (eq-eqb x0 0 z)))
-  empty-is z Invalid invalid = invalid-is id pid x0 n packet e w v r Empty
+  starts-on New new =
+      ap (onward (planned New) id) (unkept (planned New) packet v (starting-row New x0 (entry id pid x0 n packet e w v r) pid packet n w))
+  starts-on Invalid invalid = ap (onward (planned Invalid) id) (unkept (planned Invalid) packet v (starting-row Invalid x0 e pid packet n w))
+
+  -- there was no transaction
+  empty-is : x0 ≡ 0 → (s : Status) → Begins s → updateAt s id pid packet (completes (v .transaction .style) s) (withSlot Empty v) ≡ onward (planned s) id (kept (planned s) packet v)
+  unfolding planBy
+  empty-is z New new =
+      new-is id pid x0 n packet e w v r Empty (ap (λ (c : Bool). withSlot Empty (when (not c) (ended x0 (end id pid x0 n packet e w v r)) (brought id pid x0 n packet e w v r))) (sym (eq-eqb x0 0 z)))
+      ∙ starts-on New new
+  empty-is z Invalid invalid = invalid-is id pid x0 n packet e w v r Empty ∙ starts-on Invalid invalid
 
   -- there was one
   module _ (on : v .transaction .endpoint ≡ x0) (then : slotThen (w .slot) ≡ Current) where
@@ -188,17 +201,47 @@ module _ (id pid x0 : ℕ) (packet : List ℕ) (e : Endpoint) (w v : World) (r :
     held : (u : World) → withSlot Current u ≡ withSlot (slotThen (w .slot)) u
     held u = ap (λ (z : Slot). withSlot z u) (sym then)
 
-    current-is : (s : Status) → updateAt s id pid packet (completes (v .transaction .style) s) (withSlot Current v) ≡ onward (planned s) id v
+    -- the world with the packet's payload on the shelf, as the rules have it
+    abbrev laden : World
+    laden = keepPayload pid packet v
+
+    laden-resumed : Resumed x0 e n w laden
+    laden-resumed = record { alike = record { count = r .alike .count; devices = r .alike .devices; deviceCount = r .alike .deviceCount; device = r .alike .device; address = r .alike .address }; own = r .own; other = r .other; transactions = r .transactions; lastItem = r .lastItem }
+
+    goes-kept : (s : Status) (p : Plan) → p .begin ≡ appending s x0 e pid packet (b id pid x0 n packet e w v r) w .begin → p .brought ≡ b id pid x0 n packet e w v r → p .end .entry ≡ e → laden ≡ kept p packet v
+    goes-kept s p eb et ee =
+        let t = b id pid x0 n packet e w v r in
+        let k = extract-keeps (v .transaction) pid (length packet) (setupDataOf packet) in
+        let row = appending-row s x0 e pid packet t w in
+        let last = appending-last s x0 e pid packet t w in
+        let own : v .endpoints (v .transaction .endpoint) ≡ e = ap (v .endpoints) on ∙ r .own in
+        (λ i. withShelf (shelfWith (not (sym row i) && (isPayload (sym (k .style) i) (sym last i) && (not (eqb (sym (k .endpoint) i) 0) && isLaid (kindOf (own i .setup))))) (own i) packet (v .shelf)) v)
+        ∙ (λ i. withShelf (shelfWith (not (sym eb i .row) && isKept (sym et i) (sym ee i) (sym eb i .transaction .last)) (sym ee i) packet (v .shelf)) v)
+
+    current-is : (s : Status) → updateAt s id pid packet (completes (v .transaction .style) s) (withSlot Current v) ≡ onward (planned s) id (kept (planned s) packet v)
     unfolding planBy
     current-is New =
         new-is id pid x0 n packet e w v r Current
         (end-on x0 false false (brought id pid x0 n packet e w v r) at ∙ ap (λ (s : End). withSlot Empty (when (not (eqb x0 0)) (ended x0 s) (brought id pid x0 n packet e w v r))) (end-same id pid x0 n packet e w v r))
-    current-is Continue = on-is id pid x0 n packet e w v r Continue continue at ∙ held (begun id (planned Continue .begin) v)
-    current-is Retry = last-is id pid x0 n packet e w v r Retry retry at true (completes (v .transaction .style) Retry)
-    current-is Done = last-is id pid x0 n packet e w v r Done done at true (completes (v .transaction .style) Done)
-    current-is Fail = last-is id pid x0 n packet e w v r Fail fail at false (completes (v .transaction .style) Fail)
-    current-is Ambiguous = on-is id pid x0 n packet e w v r Ambiguous ambiguous at ∙ held (begun id (planned Ambiguous .begin) v)
-    current-is Invalid = invalid-is id pid x0 n packet e w v r Current
+        ∙ starts-on New new
+    current-is Continue =
+        on-is id pid x0 n packet e w laden laden-resumed Continue continue at
+        ∙ held (begun id (planned Continue .begin) laden)
+        ∙ ap (onward (planned Continue) id) (goes-kept Continue (planned Continue) refl refl refl)
+    current-is Retry =
+        last-is id pid x0 n packet e w laden laden-resumed Retry retry at true (completes (v .transaction .style) Retry)
+        ∙ ap (onward (planned Retry) id) (goes-kept Retry (planned Retry) refl refl refl)
+    current-is Done =
+        last-is id pid x0 n packet e w laden laden-resumed Done done at true (completes (v .transaction .style) Done)
+        ∙ ap (onward (planned Done) id) (goes-kept Done (planned Done) refl refl refl)
+    current-is Fail =
+        last-is id pid x0 n packet e w laden laden-resumed Fail fail at false (completes (v .transaction .style) Fail)
+        ∙ ap (onward (planned Fail) id) (goes-kept Fail (planned Fail) refl refl refl)
+    current-is Ambiguous =
+        on-is id pid x0 n packet e w laden laden-resumed Ambiguous ambiguous at
+        ∙ held (begun id (planned Ambiguous .begin) laden)
+        ∙ ap (onward (planned Ambiguous) id) (goes-kept Ambiguous (planned Ambiguous) refl refl refl)
+    current-is Invalid = invalid-is id pid x0 n packet e w v r Current ∙ starts-on Invalid invalid
 
 -- ---- transaction_update, by the slot
 
@@ -227,13 +270,14 @@ link-resumed id w =
 abbrev pub carried : Plan → ℕ → World → World
 carried p id w = w ▷ when (p .resumes) (begun id (p .resume)) ▷ onward p id
 
-by-slot : (s : Slot) (id : ℕ) (packet : List ℕ) (w : World) → isDropped s (w .transaction) ≡ false → transactionUpdate id packet (withSlot s w) ≡ carried (planOf packet (withSlot s w)) id (withSlot s w)
+by-slot : (s : Slot) (id : ℕ) (packet : List ℕ) (w : World) → isDropped s (w .transaction) ≡ false
+    → transactionUpdate id packet (withSlot s w) ≡ (let p = planOf packet (withSlot s w) in carried p id (kept p packet (withSlot s w)))
 unfolding transactionUpdate planOf planBy begun opened
 by-slot Empty id packet w h =
     let v = withSlot Empty w in
     let t = stateAt Empty (w .transaction) in
     let pid = transactionStatus t packet .pid in
-    no-transaction (λ s. updateAt s id pid packet (completes (t .style) s) v ≡ onward (planBy (record { pid = pid; status = s }) 0 (w .endpoints 0) (w .transaction) packet v) id v)
+    no-transaction (λ s. updateAt s id pid packet (completes (t .style) s) v ≡ (let p = planBy (record { pid = pid; status = s }) 0 (w .endpoints 0) (w .transaction) packet v in onward p id (kept p packet v)))
     (empty-is id pid 0 packet (w .endpoints 0) v v (same-resumed 0 v) refl New new) (empty-is id pid 0 packet (w .endpoints 0) v v (same-resumed 0 v) refl Invalid invalid) t refl packet
 by-slot Current id packet w h =
     let v = withSlot Current w in
@@ -250,10 +294,14 @@ by-slot Suspended id packet w h =
 
 -- ---- handle_raw_packet
 
--- the packet's rows are not what is decided from
-pub plan-same : (packet : List ℕ) (time : ℕ) (w : World) → planOf packet (withPacket packet time w) ≡ planOf packet w
+-- what a plan is decided from
+abbrev bareOf : World → World
+bareOf w = makeWorld (w .endpoints) (w .count) (w .devices) (w .deviceCount) (w .slot) (w .transaction) (w .lastItem) Idle false (stamp 0 0) []
+    0 0 (w .transactions) 0 0 0 []
+
+plan-bare : (packet : List ℕ) (w : World) → planOf packet (bareOf w) ≡ planOf packet w
 unfolding planOf planBy
-plan-same packet time w =
+plan-bare packet w =
     let x0 = oldEndpoint (w .slot) (w .transaction) in
     let t = transactionThen (w .slot) (w .transactions) (w .endpoints x0) (w .transaction) in
     let e = entryThen (w .slot) (w .endpoints x0) in
@@ -277,10 +325,10 @@ plan-same packet time w =
       slot = slotAfter s (w .slot);
     }
   where
-    alike : Alike w (withPacket packet time w)
+    alike : Alike w (bareOf w)
     alike = record { count = refl; devices = refl; deviceCount = refl; device = λ j. refl; address = λ j. refl }
 
-    middle-same : (s : Status) (x0 : ℕ) (e0 : Endpoint) (pid n : ℕ) (b : Transaction) → middleOf s x0 e0 pid packet n b (withPacket packet time w) ≡ middleOf s x0 e0 pid packet n b w
+    middle-same : (s : Status) (x0 : ℕ) (e0 : Endpoint) (pid n : ℕ) (b : Transaction) → middleOf s x0 e0 pid packet n b (bareOf w) ≡ middleOf s x0 e0 pid packet n b w
     middle-same New x0 e0 pid n b = same-starting alike x0 e0 (λ j. refl) New pid packet n
     middle-same Continue x0 e0 pid n b = same-appending alike x0 e0 (λ j. refl) Continue pid packet b
     middle-same Retry x0 e0 pid n b = same-appending alike x0 e0 (λ j. refl) Retry pid packet b
@@ -289,11 +337,26 @@ plan-same packet time w =
     middle-same Ambiguous x0 e0 pid n b = same-appending alike x0 e0 (λ j. refl) Ambiguous pid packet b
     middle-same Invalid x0 e0 pid n b = same-starting alike x0 e0 (λ j. refl) Invalid pid packet n
 
-pub packet-is : (packet : List ℕ) (time : ℕ) (w : World) → isDropped (w .slot) (w .transaction) ≡ false → handleRawPacket packet time w ≡ played (planOf packet w) packet time w
+-- not from the packet's rows
+pub plan-same : (packet : List ℕ) (time : ℕ) (w : World) → planOf packet (withPacket packet time w) ≡ planOf packet w
+plan-same packet time w = sym (plan-bare packet (withPacket packet time w)) ∙ plan-bare packet w
+
+-- nor from the shelf
+pub plan-shelf : (packet shelf : List ℕ) (w : World) → planOf packet (withShelf shelf w) ≡ planOf packet w
+plan-shelf packet shelf w = sym (plan-bare packet (withShelf shelf w)) ∙ plan-bare packet w
+
+pub packet-is : (packet : List ℕ) (time : ℕ) (w : World) → isDropped (w .slot) (w .transaction) ≡ false → handleRawPacket packet time w ≡ played (planOf packet w) packet time (kept (planOf packet w) packet w)
 unfolding handleRawPacket played
 packet-is packet time w h =
     let v = withPacket packet time w in
-    by-slot (w .slot) (w .packets) packet v h ∙ ap (λ (p : Plan). carried p (w .packets) v) (plan-same packet time w)
+    by-slot (w .slot) (w .packets) packet v h ∙ ap (λ (p : Plan). carried p (w .packets) (kept p packet v)) (plan-same packet time w)
+
+-- the same, said of one world: that with the packet's payload on the shelf
+pub packet-laden : (packet : List ℕ) (time : ℕ) (w : World) → isDropped (w .slot) (w .transaction) ≡ false
+    → handleRawPacket packet time w ≡ (let v = kept (planOf packet w) packet w in played (planOf packet v) packet time v)
+packet-laden packet time w h =
+    let v = kept (planOf packet w) packet w in
+    packet-is packet time w h ∙ ap (λ (p : Plan). played p packet time v) (sym (plan-shelf packet (v .shelf) w))
 
 -- a suspended transaction without its endpoint is dropped (answer 8)
 pub dropped-is : (packet : List ℕ) (time : ℕ) (w : World) → isDropped (w .slot) (w .transaction) ≡ true

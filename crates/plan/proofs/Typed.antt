@@ -30,19 +30,19 @@ module _ (d : Device) (address k : ℕ) where
 
   -- an ordinary number
   abbrev put : Bool → Device
-  put b = cond b (change d (entryFor address) (record { kind = k; max = known .max })) d
+  put b = cond b (change d (entryFor address) (record { kind = k; given = known .given; max = known .max })) d
 
-  ordinary-typed : (b : Bool) → eqb (known .kind) Unknown ≡ b → stored (put b) (entryFor address) ≡ pick b (record { kind = k; max = known .max }) known
-  ordinary-typed true h = there (d .details) (entryFor address) (record { kind = k; max = known .max }) (eqb-true (known .kind) Unknown h)
+  ordinary-typed : (b : Bool) → eqb (known .kind) Unknown ≡ b → stored (put b) (entryFor address) ≡ pick b (record { kind = k; given = known .given; max = known .max }) known
+  ordinary-typed true h = there (d .details) (entryFor address) (record { kind = k; given = known .given; max = known .max }) (eqb-true (known .kind) Unknown h)
   ordinary-typed false h = refl
 
   -- by whether the number is one of the special three, 0, or below 16
   abbrev details : Bool → Bool → Bool → Bool → Bool → Device → Detail
   details e i f nil few v =
-      cond e (bare Event) (cond i (bare Invalid) (cond f (bare Framing) (cond nil (record { kind = Control; max = stored v 0 .max }) (cond few (stored v (entryFor address)) (bare Unknown)))))
+      cond e (bare Event) (cond i (bare Invalid) (cond f (bare Framing) (cond nil (record { kind = Control; given = stored v 0 .given; max = stored v 0 .max }) (cond few (stored v (entryFor address)) (bare Unknown)))))
 
   abbrev typed : Bool → Bool → Detail → Detail
-  typed nil few x = pick (not nil && (few && eqb (x .kind) Unknown)) (record { kind = k; max = x .max }) x
+  typed nil few x = pick (not nil && (few && eqb (x .kind) Unknown)) (record { kind = k; given = x .given; max = x .max }) x
 
   abbrev with : Bool → Bool → Device
   with nil few = put (not nil && (few && eqb (known .kind) Unknown))
@@ -51,17 +51,17 @@ module _ (d : Device) (address k : ℕ) where
       → details e i f nil few (with nil few) ≡ typed nil few (details e i f nil few d)
   by true i f nil few p q r = let h = p refl in rw h (none nil)
     where
-      none : (z : Bool) → bare Event ≡ pick (not z && false) (record { kind = k; max = 0 }) (bare Event)
+      none : (z : Bool) → bare Event ≡ pick (not z && false) (record { kind = k; given = false; max = 0 }) (bare Event)
       none true = refl
       none false = refl
   by false true f nil few p q r = let h = q refl in rw h (none nil)
     where
-      none : (z : Bool) → bare Invalid ≡ pick (not z && false) (record { kind = k; max = 0 }) (bare Invalid)
+      none : (z : Bool) → bare Invalid ≡ pick (not z && false) (record { kind = k; given = false; max = 0 }) (bare Invalid)
       none true = refl
       none false = refl
   by false false true nil few p q r = let h = r refl in rw h (none nil)
     where
-      none : (z : Bool) → bare Framing ≡ pick (not z && false) (record { kind = k; max = 0 }) (bare Framing)
+      none : (z : Bool) → bare Framing ≡ pick (not z && false) (record { kind = k; given = false; max = 0 }) (bare Framing)
       none true = refl
       none false = refl
   by false false false true few p q r = refl

@@ -23,10 +23,10 @@ use Rattle.transaction.specs.declared.Status.the-variants.{New, Continue, Retry
 use Rattle.transaction.specs.declared.Style.{Style}
 use Rattle.transaction.specs.declared.Style.the-variants.{Nothing, Simple, Split, Token}
 use Rattle.transaction.specs.declared.Transaction.{Transaction}
-use Rattle.rules.specs.World.{stamped, World, _▷_, invalidEp, withSlot, withTransaction, withEventState, withId, withLink, withPid, withToken, newTransaction, moreTransactions}
+use Rattle.rules.specs.World.{stamped, World, withShelf, _▷_, invalidEp, withSlot, withTransaction, withEventState, withId, withLink, withPid, withToken, newTransaction, moreTransactions}
 use Rattle.endpoints.specs.Table.{newEndpoint}
 use Rattle.rules.specs.Endpoints.{deviceFor, addressFor, found, detailOf}
-use Rattle.rules.specs.Transactions.{stateAt, completes}
+use Rattle.rules.specs.Transactions.{stateAt, completes, isKept, shelfWith}
 use Rattle.rules.specs.Decoder.{appendBytes, pushPacket}
 use Rattle.rules.specs.declared.EventState.the-variants.{Idle}
 use Rattle.rules.specs.declared.Slot.{Slot}
@@ -153,7 +153,7 @@ starting s x0 e0 pid packet n w =
 -- an endpoint's details once a split's type is stored for it (details, withType): an ordinary number whose type is not known takes it
 abbrev pub typedDetail : ℕ → ℕ → Detail → Detail
 typedDetail address k x =
-    pick (not (eqb (numberOf address) 0) && (ltb (numberOf address) 16 && eqb (x .kind) Unknown)) (record { kind = k; max = x .max }) x
+    pick (not (eqb (numberOf address) 0) && (ltb (numberOf address) 16 && eqb (x .kind) Unknown)) (record { kind = k; given = x .given; max = x .max }) x
 
 -- transaction_append: a split's token, or any other packet
 abbrev pub withTokenOn : Status → Place → ℕ → ℕ → ℕ → ℕ → Transaction → Middle
@@ -289,6 +289,15 @@ planOf packet w =
     let e = w .endpoints x0 in
     let t = transactionThen (w .slot) (w .transactions) e (w .transaction) in
     planBy (transactionStatus (stateAt (slotThen (w .slot)) t) packet) x0 (entryThen (w .slot) e) t packet w
+
+-- ---- the payload that the packet brings to a read (rules, keepPayload): a transaction that goes on has no row of its own, and its last packet is this one
+
+abbrev pub keeps : Plan → Bool
+keeps p = not (p .begin .row) && isKept (p .brought) (p .end .entry) (p .begin .transaction .last)
+
+-- the world before the packet, with its payload on the shelf
+abbrev pub kept : Plan → List ℕ → World → World
+kept p packet w = withShelf (shelfWith (keeps p) (p .end .entry) packet (w .shelf)) w
 
 -- ---- done: the packet's rows, then each step
 

@@ -1,6 +1,6 @@
 -- A begin-only packet leaves what specs/Begin.antt says: `begin-only-call`.
 use mathlib.Core.Path.{_≡_, refl, sym, ap, subst, _∙_}
-use mathlib.Core.Bool.{Bool, true, false}
+use mathlib.Core.Bool.{Bool, true, false, _||_}
 use mathlib.Core.List.{List, [], _∷_}
 use Prim.Native.Nat.{ℕ, _+_, _*_, _/_, _^_, _<_, _≤_}
 use native.Mathlib.Omega.{arith}
@@ -19,7 +19,7 @@ use Rattle.write_update.specs.Carried.{opened, closed}
 use Rattle.record.specs.RoomLaws.{Within, Numbered}
 use Rattle.record.specs.declared.Counts.{Counts}
 use Rattle.record.specs.declared.Decoder.{Decoder}
-use Rattle.plan.specs.Packet.{planOf}
+use Rattle.plan.specs.Packet.{keeps, planOf}
 use Rattle.plan.specs.declared.Plan.{Plan}
 use Rattle.call.specs.Outcome.{worldAt}
 use Rattle.call.specs.State.{State, state, logs, heldAt, roomBy, roomOf}
@@ -112,27 +112,27 @@ pub record BeginPlan (packet : List ℕ) (time : ℕ) (s : State) (row : Bool) (
   pub is : planOf packet (worldAt s) ≡ plan
   pub summed : sumPlan (s .decoder) (heldAt s) plan (length packet) (roomOf (s .logs)) ≡ beginSum row l (length packet) (s .decoder)
   pub left : leftWith plan (beginSum row l (length packet) (s .decoder)) packet time s ≡ beginState row t l packet time s
-  pub kept : isChange (changeBy plan (s .decoder .counts .devices)) ≡ false
+  pub kept : isChange (changeBy plan (s .decoder .counts .devices) (heldAt s .requests)) ≡ false
   -- what the code asks before it writes: the endpoint is there, and its count has room for one more
   pub wants : PlanAsks plan (deskBy (handOf time (s .decoder) (heldAt s) (s .table)) s) → BeginWants s t l
 
 module _ (packet : List ℕ) (time : ℕ) (s : State) (h : Enters packet s) where
-  pub only-plan : {row : Bool} {t : Transaction} {l : Bool} → BeginOnly (planOf packet (worldAt s)) row t l Current → RowsRoom (one row) (one l) (length packet) (heldAt s) (s .decoder .counts) (roomOf (s .logs)) → BeginPlan packet time s row t l
-  only-plan {row} {t} {l} q f =
+  pub only-plan : {row : Bool} {t : Transaction} {l : Bool} → BeginOnly (planOf packet (worldAt s)) row t l Current → keeps (planOf packet (worldAt s)) ≡ false → RowsRoom (one row) (one l) (length packet) (heldAt s) (s .decoder .counts) (roomOf (s .logs)) → BeginPlan packet time s row t l
+  only-plan {row} {t} {l} q u f =
       record {
         plan = onlyBegin (planOf packet (worldAt s)) row t l Current;
         is = shape q;
         summed = sum-by (planOf packet (worldAt s)) t Current (s .decoder) (length packet) row l (heldAt s) (roomOf (s .logs)) (well packet time s h .counts) (well packet time s h .numbered) f;
         left = left-by (planOf packet (worldAt s)) t packet time s row l;
-        kept = refl;
+        kept = ap (λ (b : Bool). b || false) (ap keeps (sym (shape q)) ∙ u);
         wants = λ a. (a .begin .there, (a .begin .few, a .begin .transactions));
       }
 
   -- ---- the call
 
   module _ {row : Bool} {t : Transaction} {l : Bool} (q : BeginPlan packet time s row t l) where
-    pub begin-call : {s′ : State} → s′ ≡ beginState row t l packet time s → PacketCall packet time s 0 s′
-    begin-call e = subst (PacketCall packet time s 0) (q .left ∙ sym e) (shape-call packet time s h (q .is) (q .summed) refl (q .kept))
+    pub begin-call : {s′ : State} → s′ ≡ beginState row t l packet time s → (shelf : List ℕ) → PacketCall packet time s shelf 0 s′ shelf
+    begin-call e shelf = subst (λ (x : State). PacketCall packet time s shelf 0 x shelf) (q .left ∙ sym e) (shape-call packet time s h (q .is) (q .summed) refl (q .kept) shelf)
 
     pub begin-asks : BeginWants s t l
     begin-asks = q .wants (shape-asks packet time s h (q .is) (q .summed) refl)
@@ -149,13 +149,13 @@ module _ (packet : List ℕ) (time : ℕ) (s : State) (h : Enters packet s) wher
         → packets ≡ sets (s .logs .packets) (held .packets * packetWidth) (s .decoder .counts .bytes ∷ time ∷ [])
         → transactions ≡ sets (s .logs .transactions) (held .transactions * transactionWidth) (opt row (transactionWords (naming (s .decoder .counts .packets))))
         → rows ≡ sets (s .logs .links) (held .links * linkWidth) (opt l (T ∷ t .endpoint ∷ t .id ∷ 0 ∷ []))
-        → PacketCall packet time s 0 (state r (s .devices) table (logs bytes (s .logs .devices) (s .logs .endpoints) packets (s .logs .events) transactions (s .logs .groups) (s .logs .statebytes) (s .logs .states) (s .logs .items) rows (s .logs .requests)))
-    begin-by {held} e p1 p2 q3 q4 q5 q6 =
+        → (shelf : List ℕ) → PacketCall packet time s shelf 0 (state r (s .devices) table (logs bytes (s .logs .devices) (s .logs .endpoints) packets (s .logs .events) transactions (s .logs .groups) (s .logs .statebytes) (s .logs .states) (s .logs .items) rows (s .logs .requests))) shelf
+    begin-by {held} e p1 p2 q3 q4 q5 q6 shelf =
         let p3 = q3 ∙ ap (λ (h : Counts). sets (s .logs .bytes) (h .bytes) packet) e in
         let p4 = q4 ∙ ap (λ (h : Counts). sets (s .logs .packets) (h .packets * packetWidth) (s .decoder .counts .bytes ∷ time ∷ [])) e in
         let p5 = q5 ∙ ap (λ (h : Counts). sets (s .logs .transactions) (h .transactions * transactionWidth) (opt row (transactionWords (naming (s .decoder .counts .packets))))) e in
         let p6 = q6 ∙ ap (λ (h : Counts). sets (s .logs .links) (h .links * linkWidth) (opt l (T ∷ t .endpoint ∷ t .id ∷ 0 ∷ []))) e in
-        begin-call (λ i. state (p1 i) (s .devices) (p2 i) (logs (p3 i) (s .logs .devices) (s .logs .endpoints) (p4 i) (s .logs .events) (p5 i) (s .logs .groups) (s .logs .statebytes) (s .logs .states) (s .logs .items) (p6 i) (s .logs .requests)))
+        begin-call (λ i. state (p1 i) (s .devices) (p2 i) (logs (p3 i) (s .logs .devices) (s .logs .endpoints) (p4 i) (s .logs .events) (p5 i) (s .logs .groups) (s .logs .statebytes) (s .logs .states) (s .logs .items) (p6 i) (s .logs .requests))) shelf
 
 pub begin-more : (s : State) (row l : Bool) (len : ℕ) → RowsFit (one row) (one l) len (heldAt s) (roomOf (s .logs))
     → ((heldAt s .transactions + one row) * transactionWidth ≤ length (s .logs .transactions)) × ((heldAt s .links + one l) * linkWidth ≤ length (s .logs .links))

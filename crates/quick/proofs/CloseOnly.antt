@@ -1,6 +1,6 @@
 -- A close-only packet leaves what specs/Close.antt says: `close-only-call`.
 use mathlib.Core.Path.{_≡_, refl, sym, ap, subst, _∙_}
-use mathlib.Core.Bool.{Bool, true, false, not}
+use mathlib.Core.Bool.{Bool, true, false, _&&_, _||_, not}
 use mathlib.Core.List.{List, [], _∷_}
 use Prim.Native.Nat.{ℕ, _+_, _*_, _≤_}
 use native.Mathlib.Omega.{arith}
@@ -22,8 +22,8 @@ use Rattle.write_update.specs.Carried.{opened, closed}
 use Rattle.record.specs.Bools.{both}
 use Rattle.record.specs.declared.Counts.{Counts}
 use Rattle.record.specs.declared.Decoder.{Decoder}
-use Rattle.plan.specs.Devices.{addsDevice}
-use Rattle.plan.specs.Packet.{oldEndpoint, resting, endIf, planOf}
+use Rattle.plan.specs.Devices.{addsDevice, asks}
+use Rattle.plan.specs.Packet.{oldEndpoint, resting, endIf, keeps, planOf}
 use Rattle.plan.specs.Step.{endOf}
 use Rattle.plan.specs.declared.End.{End}
 use Rattle.plan.specs.declared.Plan.{Plan}
@@ -92,13 +92,14 @@ module _ (packet : List ℕ) (time : ℕ) (s : State) (h : Enters packet s) wher
     summed : sumPlan (s .decoder) (heldAt s) (onlyClose (planOf packet (worldAt s)) t e Empty) (length packet) (roomOf (s .logs)) ≡ accepted (s .decoder) (closeTally e (length packet) (s .decoder))
     summed = sum-by (planOf packet (worldAt s)) t e Empty (s .decoder) (length packet) (heldAt s) (roomOf (s .logs)) f
 
-    pub close-only-call : {s′ : State} → s′ ≡ closeState t e (closeTally e (length packet) (s .decoder)) packet time s → PacketCall packet time s 0 s′
-    close-only-call c =
-        subst (PacketCall packet time s 0) (left-by (planOf packet (worldAt s)) t e packet time s ∙ sym c)
-        (shape-call packet time s h (shape q) summed refl (f .device))
+    pub close-only-call : keeps (planOf packet (worldAt s)) ≡ false → {s′ : State} → s′ ≡ closeState t e (closeTally e (length packet) (s .decoder)) packet time s → (shelf : List ℕ) → PacketCall packet time s shelf 0 s′ shelf
+    close-only-call u c shelf =
+        let k : keeps (onlyClose (planOf packet (worldAt s)) t e Empty) ≡ false = ap keeps (sym (shape q)) ∙ u in
+        subst (λ (x : State). PacketCall packet time s shelf 0 x shelf) (left-by (planOf packet (worldAt s)) t e packet time s ∙ sym c)
+        (shape-call packet time s h (shape q) summed refl (λ i. f .device i || (k i || f .request i)) shelf)
 
     -- what carrying the end out asks, of the logs that are lent for it
-    pub close-only-asks : EndReady (t .endpoint) (t .id) (startPid (t .style)) e (desk (closeHand t time (s .decoder) (heldAt s) (s .table)) (s .table) (s .logs .devices) [] [] (s .logs .groups) (s .logs .statebytes) (s .logs .states) (s .logs .items) (s .logs .links) (s .logs .requests))
+    pub close-only-asks : EndReady (t .endpoint) (t .id) (startPid (t .style)) e (desk (closeHand t time (s .decoder) (heldAt s) (s .table)) (s .table) (s .logs .devices) [] [] (s .logs .groups) (s .logs .statebytes) (s .logs .states) (s .logs .items) (s .logs .links))
     unfolding begunDesk endedDesk opened closed
     close-only-asks =
         let a = shape-asks packet time s h (shape q) summed refl in
@@ -106,7 +107,7 @@ module _ (packet : List ℕ) (time : ℕ) (s : State) (h : Enters packet s) wher
         record {
           asks = record { few = b .few; there = b .there; transactions = b .transactions; groups = b .groups; total = b .total };
           memory = a .room .memory;
-          effect = record { devices = a .room .devices; links = a .room .memory .links; requests = a .room .requests };
+          effect = record { devices = a .room .devices; links = a .room .memory .links };
         }
 
     pub close-only-rows : (heldAt s .bytes + length packet ≤ length (s .logs .bytes)) × ((heldAt s .packets + 1) * packetWidth ≤ length (s .logs .packets))
@@ -119,8 +120,9 @@ pub taken-fits : (closes : Bool) (e : End) (d : Decoder) (held : Counts) (len : 
 taken-fits closes e d held len room h =
     let a = both closes _ h in
     let b = both (roomFor held (d .counts) (closeTally e len d) room) _ (a .1) in
-    let c = both (not (passes (e .effect) (e .entry .total))) (not (addsDevice (e .effect))) (b .1) in
-    (a .0, record { fits = b .0; total = off _ (c .0); device = off _ (c .1) })
+    let c = both (not (passes (e .effect) (e .entry .total))) (not (addsDevice (e .effect)) && not (asks (e .effect))) (b .1) in
+    let d = both (not (addsDevice (e .effect))) (not (asks (e .effect))) (c .1) in
+    (a .0, record { fits = b .0; total = off _ (c .0); device = off _ (d .0); request = off _ (d .1) })
 
 -- the end that end_by gives
 module _ (q : Shape) (d : Decoder) (old : Detail) (table : List ℕ) {x : ℕ} {e : Endpoint} (p : x ≡ oldEndpoint (d .slot) (d .transaction)) (f : e ≡ entryAt table x) where
@@ -141,27 +143,27 @@ module _ (q : Shape) (d : Decoder) (old : Detail) (table : List ℕ) {x : ℕ} {
 
 -- ---- what close_only asks of end_if, and what it leaves
 
-pub close-ready : (t : Transaction) (e : End) (time : ℕ) (d : Decoder) (held : Counts) (table v g m s i l q : List ℕ) {x : Decoder} {h : Hand} {pid : ℕ} → x ≡ holding t d → h ≡ handOf time x held table → pid ≡ startPid (t .style)
-    → EndsIf true (t .endpoint) (t .id) (startPid (t .style)) e (desk (closeHand t time d held table) table v [] [] g m s i l q)
-    → EndsIf true (t .endpoint) (t .id) pid e (desk h table v [] [] g m s i l q)
-close-ready t e time d held table v g m s i l q {h = h} e1 e2 e3 r =
-    subst (λ (p : ℕ). EndsIf true (t .endpoint) (t .id) p e (desk h table v [] [] g m s i l q)) (sym e3)
-    (subst (λ (y : Hand). EndsIf true (t .endpoint) (t .id) (startPid (t .style)) e (desk y table v [] [] g m s i l q)) (sym (e2 ∙ ap (λ (y : Decoder). handOf time y held table) e1)) r)
+pub close-ready : (t : Transaction) (e : End) (time : ℕ) (d : Decoder) (held : Counts) (table v g m s i l : List ℕ) {x : Decoder} {h : Hand} {pid : ℕ} → x ≡ holding t d → h ≡ handOf time x held table → pid ≡ startPid (t .style)
+    → EndsIf true (t .endpoint) (t .id) (startPid (t .style)) e (desk (closeHand t time d held table) table v [] [] g m s i l)
+    → EndsIf true (t .endpoint) (t .id) pid e (desk h table v [] [] g m s i l)
+close-ready t e time d held table v g m s i l {h = h} e1 e2 e3 r =
+    subst (λ (p : ℕ). EndsIf true (t .endpoint) (t .id) p e (desk h table v [] [] g m s i l)) (sym e3)
+    (subst (λ (y : Hand). EndsIf true (t .endpoint) (t .id) (startPid (t .style)) e (desk y table v [] [] g m s i l)) (sym (e2 ∙ ap (λ (y : Decoder). handOf time y held table) e1)) r)
 
-pub close-on : (t : Transaction) (e : End) (z : Tally) {held : Counts} (packet : List ℕ) (time : ℕ) (s : State) {x r : Decoder} {h h′ : Hand} {pid : ℕ} {table b v p g m st i l q : List ℕ}
+pub close-on : (t : Transaction) (e : End) (z : Tally) {held : Counts} (packet : List ℕ) (time : ℕ) (s : State) {x r : Decoder} {h h′ : Hand} {pid : ℕ} {table b v p g m st i l : List ℕ}
     → held ≡ heldAt s → x ≡ holding t (s .decoder) → h ≡ handOf time x held (s .table) → pid ≡ startPid (t .style)
-    → desk h′ table v (s .logs .endpoints) (s .logs .transactions) g m st i l q
-    ≡ endedDesk (t .endpoint) (t .id) pid e (desk h (s .table) (s .logs .devices) (s .logs .endpoints) (s .logs .transactions) (s .logs .groups) (s .logs .statebytes) (s .logs .states) (s .logs .items) (s .logs .links) (s .logs .requests))
+    → desk h′ table v (s .logs .endpoints) (s .logs .transactions) g m st i l
+    ≡ endedDesk (t .endpoint) (t .id) pid e (desk h (s .table) (s .logs .devices) (s .logs .endpoints) (s .logs .transactions) (s .logs .groups) (s .logs .statebytes) (s .logs .states) (s .logs .items) (s .logs .links))
     → b ≡ sets (s .logs .bytes) (held .bytes) packet → p ≡ sets (s .logs .packets) (held .packets * packetWidth) (s .decoder .counts .bytes ∷ time ∷ [])
     → r ≡ closedDecoder t z (h′ .written) (s .decoder)
-    → state r (s .devices) table (logs b v (s .logs .endpoints) p (s .logs .events) (s .logs .transactions) g m st i l q) ≡ closeState t e z packet time s
-close-on t e z {held} packet time s {table = table} {v = v} {g = g} {m = m} {st = st} {i = i} {l = l} {q = q} e0 e1 e2 e3 e4 f5 f6 e7 =
+    → state r (s .devices) table (logs b v (s .logs .endpoints) p (s .logs .events) (s .logs .transactions) g m st i l (s .logs .requests)) ≡ closeState t e z packet time s
+close-on t e z {held} packet time s {table = table} {v = v} {g = g} {m = m} {st = st} {i = i} {l = l} e0 e1 e2 e3 e4 f5 f6 e7 =
     let g₀ = s .logs in
     let e5 = f5 ∙ ap (λ (y : Counts). sets (g₀ .bytes) (y .bytes) packet) e0 in
     let e6 = f6 ∙ ap (λ (y : Counts). sets (g₀ .packets) (y .packets * packetWidth) (s .decoder .counts .bytes ∷ time ∷ [])) e0 in
-    let k = e4 ∙ λ j. endedDesk (t .endpoint) (t .id) (e3 j) e (desk ((e2 ∙ λ m. handOf time (e1 m) (e0 m) (s .table)) j) (s .table) (g₀ .devices) (g₀ .endpoints) (g₀ .transactions) (g₀ .groups) (g₀ .statebytes) (g₀ .states) (g₀ .items) (g₀ .links) (g₀ .requests)) in
-    (λ j. state (e7 j) (s .devices) table (logs (e5 j) v (g₀ .endpoints) (e6 j) (g₀ .events) (g₀ .transactions) g m st i l q))
-    ∙ λ j. state (closedDecoder t z (k j .hand .written) (s .decoder)) (s .devices) (k j .table) (logs (sets (g₀ .bytes) (heldAt s .bytes) packet) (k j .devices) (g₀ .endpoints) (sets (g₀ .packets) (heldAt s .packets * packetWidth) (s .decoder .counts .bytes ∷ time ∷ [])) (g₀ .events) (g₀ .transactions) (k j .groups) (k j .statebytes) (k j .states) (k j .items) (k j .links) (k j .requests))
+    let k = e4 ∙ λ j. endedDesk (t .endpoint) (t .id) (e3 j) e (desk ((e2 ∙ λ m. handOf time (e1 m) (e0 m) (s .table)) j) (s .table) (g₀ .devices) (g₀ .endpoints) (g₀ .transactions) (g₀ .groups) (g₀ .statebytes) (g₀ .states) (g₀ .items) (g₀ .links)) in
+    (λ j. state (e7 j) (s .devices) table (logs (e5 j) v (g₀ .endpoints) (e6 j) (g₀ .events) (g₀ .transactions) g m st i l (g₀ .requests)))
+    ∙ λ j. state (closedDecoder t z (k j .hand .written) (s .decoder)) (s .devices) (k j .table) (logs (sets (g₀ .bytes) (heldAt s .bytes) packet) (k j .devices) (g₀ .endpoints) (sets (g₀ .packets) (heldAt s .packets * packetWidth) (s .decoder .counts .bytes ∷ time ∷ [])) (g₀ .events) (g₀ .transactions) (k j .groups) (k j .statebytes) (k j .states) (k j .items) (k j .links) (g₀ .requests))
 
 -- and with the rows of close_of
 pub close-counted : (t : Transaction) (e : End) (packet : List ℕ) (time : ℕ) (s : State) (closes : Bool) (held room : Counts) {c : Close} → c ≡ closeOf closes e (s .decoder) held (length packet) room

@@ -25,8 +25,8 @@ use Rattle.record.specs.Bools.{both}
 use Rattle.record.specs.RoomLaws.{Within, Numbered}
 use Rattle.record.specs.declared.Counts.{Counts}
 use Rattle.record.specs.declared.Decoder.{Decoder}
-use Rattle.plan.specs.Devices.{addsDevice}
-use Rattle.plan.specs.Packet.{oldEndpoint, endIf, planOf}
+use Rattle.plan.specs.Devices.{addsDevice, asks}
+use Rattle.plan.specs.Packet.{keeps, oldEndpoint, endIf, planOf}
 use Rattle.plan.specs.Step.{endOf}
 use Rattle.plan.specs.declared.End.{End}
 use Rattle.call.specs.Outcome.{worldAt}
@@ -119,6 +119,14 @@ no-device (Request n) h = refl
 no-device (PendingData n) h = refl
 no-device (IndexData n waited i) h = refl
 
+-- it completes no request
+no-request : (f : Effect) → isCounting f ≡ true → asks f ≡ false
+no-request NoEffect h = refl
+no-request (NewDevice address) h = refl
+no-request (Request n) h = absurd (true≢false (sym h))
+no-request (PendingData n) h = refl
+no-request (IndexData n waited i) h = refl
+
 -- so the tests of any end are passed, where rows and numbers fitted before
 pub light-closes : (e : End) (len : ℕ) (d : Decoder) (held room : Counts) → Within held room → Numbered (d .counts) → LightRoom e len held (d .counts) room → CloseFits e len d held room
 light-closes e len d held room w m l =
@@ -126,6 +134,7 @@ light-closes e len d held room w m l =
       fits = room-by 0 (linkRows (e .update) (e .effect)) len (closeTally e len d) held (d .counts) room (light-counts e len d (l .quiet) (l .counts)) w m (l .fits);
       total = l .total;
       device = no-device (e .effect) (l .counts);
+      request = no-request (e .effect) (l .counts);
     }
 
 -- ---- the call
@@ -146,6 +155,7 @@ module _ (packet : List ℕ) (time : ℕ) (s : State) (h : Enters packet s) {t :
 
   -- of what the code has: each part with its equation (light_only)
   pub light-by : {held : Counts} {r : Decoder} {table bytes packets rows : List ℕ}
+      → keeps (planOf packet (worldAt s)) ≡ false
       → startPid (t .style) < 256
       → held ≡ heldAt s
       → r ≡ lightDecoder t e (moreRows 0 (linkRows (e .update) (e .effect)) (length packet) (s .decoder .counts)) (s .decoder .waiting) (s .decoder)
@@ -153,8 +163,9 @@ module _ (packet : List ℕ) (time : ℕ) (s : State) (h : Enters packet s) {t :
       → bytes ≡ sets (s .logs .bytes) (held .bytes) packet
       → packets ≡ sets (s .logs .packets) (held .packets * packetWidth) (s .decoder .counts .bytes ∷ time ∷ [])
       → rows ≡ lightLinks t e (held .links) (s .logs .links)
-      → PacketCall packet time s 0 (state r (s .devices) table (logs bytes (s .logs .devices) (s .logs .endpoints) packets (s .logs .events) (s .logs .transactions) (s .logs .groups) (s .logs .statebytes) (s .logs .states) (s .logs .items) rows (s .logs .requests)))
-  light-by {held} byte e1 e3 e4 e5 e6 e7 =
+      → (shelf : List ℕ)
+      → PacketCall packet time s shelf 0 (state r (s .devices) table (logs bytes (s .logs .devices) (s .logs .endpoints) packets (s .logs .events) (s .logs .transactions) (s .logs .groups) (s .logs .statebytes) (s .logs .states) (s .logs .items) rows (s .logs .requests))) shelf
+  light-by {held} kept byte e1 e3 e4 e5 e6 e7 shelf =
       let g = s .logs in
       let z = closeTally e (length packet) (s .decoder) in
       let n = light-counts e (length packet) (s .decoder) (l .quiet) (l .counts) (s .decoder .counts) in
@@ -163,6 +174,6 @@ module _ (packet : List ℕ) (time : ℕ) (s : State) (h : Enters packet s) {t :
       let b = e5 ∙ ap (λ (y : Counts). sets (g .bytes) (y .bytes) packet) e1 in
       let p = e6 ∙ ap (λ (y : Counts). sets (g .packets) (y .packets * packetWidth) (s .decoder .counts .bytes ∷ time ∷ [])) e1 in
       let k = e7 ∙ ap (λ (y : Counts). lightLinks t e (y .links) (g .links)) e1 in
-      close-only-call packet time s h q f
+      close-only-call packet time s h q f kept
       ((λ i. state (d i) (s .devices) (e4 i) (logs (b i) (g .devices) (g .endpoints) (p i) (g .events) (g .transactions) (g .groups) (g .statebytes) (g .states) (g .items) (k i) (g .requests)))
-      ∙ light-is t e z packet time s (h .known .size) there byte fits (l .quiet) (l .counts))
+      ∙ light-is t e z packet time s (h .known .size) there byte fits (l .quiet) (l .counts)) shelf

@@ -24,21 +24,21 @@ use Rattle.transaction.specs.declared.Transaction.{Transaction}
 use Rattle.transaction.proofs.Laws.{extract-keeps}
 use Rattle.rules.specs.Endpoints.{detailOf}
 use Rattle.rules.specs.Groups.{startsEarly, undecided}
-use Rattle.rules.specs.Transactions.{completes}
+use Rattle.rules.specs.Transactions.{completes, isDropped, isKept}
 use Rattle.rules.specs.World.{World, withSlot, withPid, newTransaction, invalidEp, framingEp}
 use Rattle.rules.specs.declared.Slot.{Slot}
 use Rattle.rules.specs.declared.Slot.the-variants.{Empty, Current, Suspended}
 use Rattle.update.specs.Entry.{entryAfter}
 use Rattle.update.specs.Update.{links, early, decideEarlyAppend}
 use Rattle.update.specs.declared.Then.the-variants.{Keep}
-use Rattle.plan.specs.Packet.{going, none, standing, placeOf, startBy, typeBy, startOn, startSplit, startPlain, starting, appendingAt, appending, updateFor, succeeds, completesBy, closeOf, entryEnded, endIf, planBy, planOf}
+use Rattle.plan.specs.Packet.{going, none, standing, placeOf, startBy, typeBy, startOn, startSplit, startPlain, starting, appendingAt, appending, updateFor, succeeds, completesBy, closeOf, entryEnded, endIf, keeps, planBy, planOf}
 use Rattle.plan.specs.Step.{endOf}
 use Rattle.plan.specs.declared.Begin.{Begin}
 use Rattle.plan.specs.declared.End.{End}
 use Rattle.plan.specs.declared.Middle.{Middle}
 use Rattle.plan.specs.declared.Place.{Place}
 use Rattle.plan.specs.declared.Plan.{Plan}
-use Rattle.quick.specs.Begin.{BeginOnly, restEnd}
+use Rattle.quick.specs.Begin.{BeginOnly, BeginRest, restEnd}
 use Rattle.quick.proofs.Rest.{sof-end, sof-entry}
 use Rattle.quick.specs.Close.{CloseOnly}
 use Rattle.quick.specs.Shaped.{noShape, beginShape, closeShape, nextShape, broughtTo, isSimple, isPlain, Begun, heldEnd, Closed, Shaped}
@@ -55,6 +55,16 @@ not-shaped t p w = record { begins = λ h. absurd (false≢true h); closes = λ 
 -- one that begins does not close
 pub begun-shaped : (row l : Bool) (t : Transaction) {p : Plan} {w : World} → Begun (beginShape row l t) p w → Shaped (beginShape row l t) p w
 begun-shaped row l t b = record { begins = λ h. b; closes = λ h. absurd (false≢true h) }
+
+-- a step with a row of its own lays nothing by
+rowed-kept : (p : Plan) → p .begin .row ≡ true → keeps p ≡ false
+rowed-kept p h = ap (λ (r : Bool). not r && isKept (p .brought) (p .end .entry) (p .begin .transaction .last)) h
+
+begun-only : (p : Plan) (w : World) (t : Transaction) (l : Bool) → isDropped (w .slot) (w .transaction) ≡ false → BeginOnly p true t l Current → Begun (beginShape true l t) p w
+begun-only p w t l live o = record { live = live; plan = inl o; kept = rowed-kept p (o .begins) }
+
+begun-rest : (p : Plan) (w : World) (t : Transaction) (l : Bool) → isDropped (w .slot) (w .transaction) ≡ false → BeginRest p w true t l → Begun (beginShape true l t) p w
+begun-rest p w t l live r = record { live = live; plan = inr r; kept = rowed-kept p (r .begins .begins) }
 
 -- ---- a token on an endpoint that is there and where no group starts early
 
@@ -108,7 +118,7 @@ unfolding planOf planBy
 token-on packet pid p w new h =
     let v = withSlot Empty w in
     subst (λ (j : Judged). Begun (tokenShape pid (v .transactions) p) (planBy j 0 (v .endpoints 0) (v .transaction) packet v) v) (sym new)
-    (record { live = refl; plan = inl (token-by _ _ packet pid (v .transactions) 0 (v .endpoints 0) p v h refl refl refl refl refl refl) })
+    (begun-only _ _ _ _ refl (token-by _ _ packet pid (v .transactions) 0 (v .endpoints 0) p v h refl refl refl refl refl refl))
 
 pub token-begins : (packet : List ℕ) (pid : ℕ) (p : Place) (w : World) → w .slot ≡ Empty → transactionStatus (newTransaction Nothing 0 0 0 Unknown) packet ≡ judged pid New → Token packet pid 0 (w .endpoints 0) p w
     → Begun (tokenShape pid (w .transactions) p) (planOf packet w) w
@@ -147,17 +157,15 @@ rest-on packet pid p w new r h =
     (λ i. entryEnded (ends i) (end i) (startPid (b .style)) e) ∙ sof-entry (startPid (b .style)) e (r .done) (r .last ∙ sym token) in
     let h0 : Token packet pid x (entryEnded (not (eqb x 0)) (endOf x e b (detailOf x v) (v .lastItem) false false) (startPid (b .style)) e) p v = subst (λ (y : Endpoint). Token packet pid x y p v) (sym entry) h in
     subst (λ (j : Judged). Begun (tokenShape pid (v .transactions) p) (planBy j x e (v .transaction) packet v) v) (sym new)
+    (begun-rest _ _ _ _ refl
     (record {
-      live = refl;
-      plan = inr (record {
-        begins = token-by _ _ packet pid (v .transactions) x _ p v h0 refl refl refl refl refl refl;
-        ends = ends;
-        there = r .there;
-        end = λ i. endIf (ends i) (end i) e;
-        done = r .done;
-        last = r .last ∙ sym token;
-      });
-    })
+      begins = token-by _ _ packet pid (v .transactions) x _ p v h0 refl refl refl refl refl refl;
+      ends = ends;
+      there = r .there;
+      end = λ i. endIf (ends i) (end i) e;
+      done = r .done;
+      last = r .last ∙ sym token;
+    }))
 
 pub rest-begins : (packet : List ℕ) (pid : ℕ) (p : Place) (w : World) → w .slot ≡ Current → RestClaim packet pid p w
 rest-begins packet pid p w e = subst (RestClaim packet pid p) (λ k. withSlot (sym e k) w) (rest-on packet pid p w)
@@ -207,6 +215,12 @@ module _ (packet : List ℕ) (pid first : ℕ) (w : World) (style : w .transacti
         slot = p5;
       }
 
+  -- it lays nothing by
+  next-kept : (p : Plan) (s : Status) (m : Middle) → m ≡ middle s → isKept t (w .endpoints x) (t .last) ≡ false → p .begin ≡ m .begin → p .brought ≡ b → p .end .entry ≡ w .endpoints x → keeps p ≡ false
+  next-kept p s m e k p1 p2 p3 =
+      let g = p1 ∙ ap (λ (y : Middle). y .begin) e in
+      (λ i. not (g i .row) && isKept (p2 i) (p3 i) (g i .transaction .last)) ∙ k
+
   abbrev closeIn : Status → Middle → End
   closeIn s m = closeOf m (w .lastItem) (succeeds s) (completesBy s (w .transaction .style))
 
@@ -247,38 +261,47 @@ module _ (packet : List ℕ) (pid first : ℕ) (v : World) where
   abbrev NextShaped : Status → Type 0
   NextShaped s = Shaped (nextShape s (w .transaction .endpoint) (w .endpoints (w .transaction .endpoint)) (broughtTo (w .transaction) pid packet)) (planAt s) w
 
-  next-by : (s : Status) → w .transaction .style ≡ Simple first → NextShaped s
-  unfolding planBy
-  next-by New h = not-shaped _ _ _
-  next-by Continue h =
-      record { begins = λ q. record { live = refl; plan = inl (begin-by packet pid first w h _ Continue _ _ (appending-at packet pid first w h Continue) refl refl refl refl refl refl) }; closes = λ q. absurd (false≢true q) }
-  next-by Retry h =
-      record { begins = λ q. absurd (false≢true q); closes = λ q. record { live = refl; plan = close-by packet pid first w h _ Retry _ (appending-at packet pid first w h Retry) refl refl q refl refl refl refl refl refl } }
-  next-by Done h =
-      record { begins = λ q. absurd (false≢true q); closes = λ q. record { live = refl; plan = close-by packet pid first w h _ Done _ (appending-at packet pid first w h Done) refl refl q refl refl refl refl refl refl } }
-  next-by Fail h =
-      record { begins = λ q. absurd (false≢true q); closes = λ q. record { live = refl; plan = close-by packet pid first w h _ Fail _ (appending-at packet pid first w h Fail) refl refl q refl refl refl refl refl refl } }
-  next-by Ambiguous h =
-      record { begins = λ q. record { live = refl; plan = inl (begin-by packet pid first w h _ Ambiguous _ _ (appending-at packet pid first w h Ambiguous) refl refl refl refl refl refl) }; closes = λ q. absurd (false≢true q) }
-  next-by Invalid h = not-shaped _ _ _
+  -- the payload that the packet brings is not laid by
+  abbrev Unkept : Type 0
+  Unkept = isKept (broughtTo (w .transaction) pid packet) (w .endpoints (w .transaction .endpoint)) pid ≡ false
 
-  next-on : (s : Status) → w .transaction .style ≡ Simple first → transactionStatus (w .transaction) packet ≡ judged pid s
+  next-by : (s : Status) → w .transaction .style ≡ Simple first → Unkept → NextShaped s
+  unfolding planBy
+  next-by New h k = not-shaped _ _ _
+  next-by Continue h k =
+      let m = appending-at packet pid first w h Continue in
+      record { begins = λ q. record { live = refl; plan = inl (begin-by packet pid first w h _ Continue _ _ m refl refl refl refl refl refl); kept = next-kept packet pid first w h (planAt Continue) Continue _ m k refl refl refl }; closes = λ q. absurd (false≢true q) }
+  next-by Retry h k =
+      let m = appending-at packet pid first w h Retry in
+      record { begins = λ q. absurd (false≢true q); closes = λ q. record { live = refl; plan = close-by packet pid first w h _ Retry _ m refl refl q refl refl refl refl refl refl; kept = next-kept packet pid first w h (planAt Retry) Retry _ m k refl refl refl } }
+  next-by Done h k =
+      let m = appending-at packet pid first w h Done in
+      record { begins = λ q. absurd (false≢true q); closes = λ q. record { live = refl; plan = close-by packet pid first w h _ Done _ m refl refl q refl refl refl refl refl refl; kept = next-kept packet pid first w h (planAt Done) Done _ m k refl refl refl } }
+  next-by Fail h k =
+      let m = appending-at packet pid first w h Fail in
+      record { begins = λ q. absurd (false≢true q); closes = λ q. record { live = refl; plan = close-by packet pid first w h _ Fail _ m refl refl q refl refl refl refl refl refl; kept = next-kept packet pid first w h (planAt Fail) Fail _ m k refl refl refl } }
+  next-by Ambiguous h k =
+      let m = appending-at packet pid first w h Ambiguous in
+      record { begins = λ q. record { live = refl; plan = inl (begin-by packet pid first w h _ Ambiguous _ _ m refl refl refl refl refl refl); kept = next-kept packet pid first w h (planAt Ambiguous) Ambiguous _ m k refl refl refl }; closes = λ q. absurd (false≢true q) }
+  next-by Invalid h k = not-shaped _ _ _
+
+  next-on : (s : Status) → w .transaction .style ≡ Simple first → Unkept → transactionStatus (w .transaction) packet ≡ judged pid s
       → Shaped (nextShape s (w .transaction .endpoint) (w .endpoints (w .transaction .endpoint)) (broughtTo (w .transaction) pid packet)) (planOf packet w) w
   unfolding planOf
-  next-on s h e =
+  next-on s h k e =
       subst (λ (j : Judged). Shaped (nextShape s (w .transaction .endpoint) (w .endpoints (w .transaction .endpoint)) (broughtTo (w .transaction) pid packet)) (planBy j (w .transaction .endpoint) (w .endpoints (w .transaction .endpoint)) (w .transaction) packet w) w) (sym e)
-      (next-by s h)
+      (next-by s h k)
 
-pub next-shaped : (packet : List ℕ) (j : Judged) (w : World) → isPlain (w .slot) (w .transaction .style) ≡ true → transactionStatus (w .transaction) packet ≡ j
+pub next-shaped : (packet : List ℕ) (j : Judged) (w : World) → isPlain (w .slot) (w .transaction .style) ≡ true → isKept (broughtTo (w .transaction) (j .pid) packet) (w .endpoints (w .transaction .endpoint)) (j .pid) ≡ false → transactionStatus (w .transaction) packet ≡ j
     → Shaped (nextShape (j .status) (w .transaction .endpoint) (w .endpoints (w .transaction .endpoint)) (broughtTo (w .transaction) (j .pid) packet)) (planOf packet w) w
-next-shaped packet j w h e = by (w .slot) refl (w .transaction .style) refl h
+next-shaped packet j w h k e = by (w .slot) refl (w .transaction .style) refl h
   where
     Claim : World → Type 0
     Claim u = transactionStatus (u .transaction) packet ≡ j → Shaped (nextShape (j .status) (u .transaction .endpoint) (u .endpoints (u .transaction .endpoint)) (broughtTo (u .transaction) (j .pid) packet)) (planOf packet u) u
 
     by : (a : Slot) → w .slot ≡ a → (y : Style) → w .transaction .style ≡ y → isPlain a y ≡ true
         → Shaped (nextShape (j .status) (w .transaction .endpoint) (w .endpoints (w .transaction .endpoint)) (broughtTo (w .transaction) (j .pid) packet)) (planOf packet w) w
-    by Current p (Simple first) q r = subst Claim (λ k. withSlot (sym p k) w) (next-on packet (j .pid) first w (j .status) q) e
+    by Current p (Simple first) q r = subst Claim (λ i. withSlot (sym p i) w) (next-on packet (j .pid) first w (j .status) q k) e
     by Current p Nothing q r = absurd (false≢true r)
     by Current p (Split sc kind) q r = absurd (false≢true r)
     by Current p (Tokened sc kind token) q r = absurd (false≢true r)

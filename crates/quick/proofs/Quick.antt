@@ -21,17 +21,18 @@ use Rattle.write_packet.specs.Desk.{desk}
 use Rattle.record.specs.Bools.{both}
 use Rattle.record.specs.declared.Counts.{Counts}
 use Rattle.record.specs.declared.Decoder.{Decoder}
-use Rattle.plan.specs.Packet.{oldEndpoint, endIf, planOf}
+use Rattle.plan.specs.Packet.{oldEndpoint, endIf, keeps, planOf}
 use Rattle.plan.specs.Step.{endOf}
 use Rattle.plan.specs.declared.End.{End}
 use Rattle.call.specs.Outcome.{worldAt}
 use Rattle.call.specs.Share.{Known}
 use Rattle.call.specs.State.{State, Logs, state, heldAt, roomOf}
-use Rattle.packet.specs.After.{keeping, changed}
+use Rattle.packet.specs.After.{keeping, isChange, changed, requested, shelved}
 use Rattle.packet.specs.Call.{PacketCall}
 use Rattle.packet.specs.declared.change.Change.{Change}
-use Rattle.packet.proofs.Answers.{Passes}
-use Rattle.packet.proofs.Changes.{changed-none}
+use Rattle.packet.proofs.Answers.{Passes, withRequests, with-parts}
+use Rattle.packet.proofs.Changes.{changed-none, requested-none, shelved-none}
+use Rattle.decide.specs.declared.near.Near.{Near}
 use Rattle.quick.specs.Begin.{Begins}
 use Rattle.quick.specs.Close.{CloseOnly, endBy, closeTally, closeOf, CloseFits, closeHand}
 use Rattle.quick.specs.Light.{lightFits}
@@ -61,6 +62,7 @@ enters m live =
 pub record BeginTaken (packet : List ℕ) (s : State) (q : Shape) : Type 0 where
   pub enters : Enters packet s
   pub plan : Begins (planOf packet (worldAt s)) (worldAt s) (q .row) (q .transaction) (q .link)
+  pub kept : keeps (planOf packet (worldAt s)) ≡ false
   pub fits : RowsRoom (one (q .row)) (one (q .link)) (length packet) (heldAt s) (s .decoder .counts) (roomOf (s .logs))
 
 pub begin-taken : (packet : List ℕ) (s : State) (q : Shape) {held room : Counts} {f : Bool} → Meets packet s → Shaped q (planOf packet (worldAt s)) (worldAt s)
@@ -71,6 +73,7 @@ begin-taken packet s q {held} {room} {f} m h e1 e2 e3 t =
     record {
       enters = enters m (b .live);
       plan = b .plan;
+      kept = b .kept;
       fits = room-fits (one (q .row)) (one (q .link)) (length packet) (heldAt s) (s .decoder .counts) (roomOf (s .logs)) (sym (e3 ∙ λ i. rowsRoom (one (q .row)) (one (q .link)) (length packet) (e1 i) (s .decoder .counts) (e2 i)) ∙ g .1);
     }
 
@@ -79,18 +82,19 @@ begin-taken packet s q {held} {room} {f} m h e1 e2 e3 t =
 pub record CloseTaken (packet : List ℕ) (s : State) (q : Shape) (e : End) : Type 0 where
   pub enters : Enters packet s
   pub plan : CloseOnly (planOf packet (worldAt s)) (q .transaction) e Empty
+  pub kept : keeps (planOf packet (worldAt s)) ≡ false
   pub fits : CloseFits e (length packet) (s .decoder) (heldAt s) (roomOf (s .logs))
 
 -- the plan, where the packet has that shape, with the end that end_by gives
 close-plan : (packet : List ℕ) (s : State) (q : Shape) (old : Detail) {e : End} → Shaped q (planOf packet (worldAt s)) (worldAt s)
     → old ≡ detailOf (oldEndpoint (s .decoder .slot) (s .decoder .transaction)) (worldAt s) → e ≡ endBy q (s .decoder) old (s .table) → q .closes ≡ true
-    → (isDropped (s .decoder .slot) (s .decoder .transaction) ≡ false) × CloseOnly (planOf packet (worldAt s)) (q .transaction) e Empty
+    → (isDropped (s .decoder .slot) (s .decoder .transaction) ≡ false) × (CloseOnly (planOf packet (worldAt s)) (q .transaction) e Empty × (keeps (planOf packet (worldAt s)) ≡ false))
 close-plan packet s q old {e} h e1 e2 c =
     let b = h .closes c in
     let x = oldEndpoint (s .decoder .slot) (s .decoder .transaction) in
     let end : e ≡ heldEnd (q .success) (q .transaction) (worldAt s) =
     e2 ∙ ((λ i. endIf (c i) (endOf x (entryAt (s .table) x) (q .transaction) (e1 i) (s .decoder .last) (q .success) true) (entryAt (s .table) x))) in
-    (b .live, subst (λ (y : End). CloseOnly (planOf packet (worldAt s)) (q .transaction) y Empty) (sym end) (b .plan))
+    (b .live, (subst (λ (y : End). CloseOnly (planOf packet (worldAt s)) (q .transaction) y Empty) (sym end) (b .plan), b .kept))
 
 pub close-taken : (packet : List ℕ) (s : State) (q : Shape) (old : Detail) {held room : Counts} {e : End} {c : Close} → Meets packet s → Shaped q (planOf packet (worldAt s)) (worldAt s)
     → held ≡ heldAt s → room ≡ roomOf (s .logs) → old ≡ detailOf (oldEndpoint (s .decoder .slot) (s .decoder .transaction)) (worldAt s)
@@ -100,7 +104,8 @@ close-taken packet s q old {held} {room} {e} {c} m h e0 e1 e2 e3 e4 t =
     let b = close-plan packet s q old h e2 e3 (g .0) in
     record {
       enters = enters m (b .0);
-      plan = b .1;
+      plan = b .1 .0;
+      kept = b .1 .1;
       fits = subst (λ (y : Counts). CloseFits e (length packet) (s .decoder) (heldAt s) y) e1 (subst (λ (y : Counts). CloseFits e (length packet) (s .decoder) y room) e0 (g .1));
     }
 
@@ -109,6 +114,7 @@ close-taken packet s q old {held} {room} {e} {c} m h e0 e1 e2 e3 e4 t =
 pub record LightTaken (packet : List ℕ) (s : State) (q : Shape) (e : End) : Type 0 where
   pub enters : Enters packet s
   pub plan : CloseOnly (planOf packet (worldAt s)) (q .transaction) e Empty
+  pub kept : keeps (planOf packet (worldAt s)) ≡ false
   pub light : LightRoom e (length packet) (heldAt s) (s .decoder .counts) (roomOf (s .logs))
   pub fits : CloseFits e (length packet) (s .decoder) (heldAt s) (roomOf (s .logs))
   pub entry : Fits (e .entry)
@@ -123,18 +129,20 @@ light-taken packet s q old {held} {room} {e} {f} m h e0 e1 e2 e3 e4 t =
     let w = well packet 0 s (enters m (b .0)) in
     record {
       enters = enters m (b .0);
-      plan = b .1;
+      plan = b .1 .0;
+      kept = b .1 .1;
       light = l;
       fits = light-closes e (length packet) (s .decoder) (heldAt s) (roomOf (s .logs)) (w .counts) (w .numbered) l;
       entry = subst (λ (x : End). Fits (x .entry)) (sym e3) (end-fits q (s .decoder) old (s .table));
     }
 
--- ---- the devices stay
+-- ---- what is the caller's stays
 
-pub kept-devices : (packet : List ℕ) (time : ℕ) (s : State) {a : ℕ} {x : Decoder} {table : List ℕ} {l : Logs} {c : Change} → c ≡ keeping
-    → PacketCall packet time s a (state x (s .devices) table l) → PacketCall packet time s a (state x (changed c (s .devices)) table l)
-kept-devices packet time s {a} {x} {table} {l} {c} e p =
-    subst (λ (v : List Device). PacketCall packet time s a (state x v table l)) (sym (ap (λ (y : Change). changed y (s .devices)) e ∙ changed-none keeping (s .devices) refl)) p
+pub kept-parts : (packet : List ℕ) (time : ℕ) (s : State) (shelf : List ℕ) {a : ℕ} {s′ : State} {c : Change} → c ≡ keeping → PacketCall packet time s shelf a s′ shelf → s .devices ≡ s′ .devices → s .logs .requests ≡ s′ .logs .requests
+    → PacketCall packet time s shelf a (state (s′ .decoder) (changed c packet shelf (s .devices)) (s′ .table) (withRequests (requested c packet shelf (s .devices) (s .logs .requests)) (s′ .logs))) (shelved c packet shelf (s .devices))
+kept-parts packet time s shelf {c = c} e r p q =
+    let h = ap isChange e in
+    with-parts packet time s shelf (changed-none c packet shelf (s .devices) h ∙ p) (requested-none c packet shelf (s .devices) h (s .logs .requests) ∙ q) (shelved-none c packet shelf (s .devices) h) r
 
 -- ---- what is asked of the rows held, of those that held_of gives
 
@@ -149,12 +157,12 @@ begin-lent packet s row l e a b c d =
 pub close-lent : (packet : List ℕ) (time : ℕ) (s : State) (closes : Bool) (room : Counts) (t : Transaction) {held : Counts} {end : End} {c : Close} → held ≡ heldAt s → c ≡ closeOf closes end (s .decoder) held (length packet) room
     → Sums (s .decoder .counts) (closeTally end (length packet) (s .decoder))
     → heldAt s .bytes + length packet ≤ length (s .logs .bytes) → (heldAt s .packets + 1) * packetWidth ≤ length (s .logs .packets)
-    → EndsIf true (t .endpoint) (t .id) (startPid (t .style)) end (desk (closeHand t time (s .decoder) (heldAt s) (s .table)) (s .table) (s .logs .devices) [] [] (s .logs .groups) (s .logs .statebytes) (s .logs .states) (s .logs .items) (s .logs .links) (s .logs .requests))
+    → EndsIf true (t .endpoint) (t .id) (startPid (t .style)) end (desk (closeHand t time (s .decoder) (heldAt s) (s .table)) (s .table) (s .logs .devices) [] [] (s .logs .groups) (s .logs .statebytes) (s .logs .states) (s .logs .items) (s .logs .links))
     → Sums (s .decoder .counts) (c .tally) × ((held .bytes + length packet ≤ length (s .logs .bytes)) × (((held .packets + 1) * packetWidth ≤ length (s .logs .packets))
-    × EndsIf true (t .endpoint) (t .id) (startPid (t .style)) end (desk (closeHand t time (s .decoder) held (s .table)) (s .table) (s .logs .devices) [] [] (s .logs .groups) (s .logs .statebytes) (s .logs .states) (s .logs .items) (s .logs .links) (s .logs .requests))))
+    × EndsIf true (t .endpoint) (t .id) (startPid (t .style)) end (desk (closeHand t time (s .decoder) held (s .table)) (s .table) (s .logs .devices) [] [] (s .logs .groups) (s .logs .statebytes) (s .logs .states) (s .logs .items) (s .logs .links))))
 close-lent packet time s closes room t {held} {end} {c} e f w a b k = (
   subst (λ (x : Close). Sums (s .decoder .counts) (x .tally)) (sym f) w,
-  subst (λ (h : Counts). (h .bytes + length packet ≤ length (s .logs .bytes)) × (((h .packets + 1) * packetWidth ≤ length (s .logs .packets)) × EndsIf true (t .endpoint) (t .id) (startPid (t .style)) end (desk (closeHand t time (s .decoder) h (s .table)) (s .table) (s .logs .devices) [] [] (s .logs .groups) (s .logs .statebytes) (s .logs .states) (s .logs .items) (s .logs .links) (s .logs .requests)))) (sym e)
+  subst (λ (h : Counts). (h .bytes + length packet ≤ length (s .logs .bytes)) × (((h .packets + 1) * packetWidth ≤ length (s .logs .packets)) × EndsIf true (t .endpoint) (t .id) (startPid (t .style)) end (desk (closeHand t time (s .decoder) h (s .table)) (s .table) (s .logs .devices) [] [] (s .logs .groups) (s .logs .statebytes) (s .logs .states) (s .logs .items) (s .logs .links)))) (sym e)
       (a, (b, k)),
 )
 

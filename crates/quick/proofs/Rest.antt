@@ -1,6 +1,6 @@
 -- An old SOF at rest: its end changes no word, so the packet is begin-only though its plan ends it.
 use mathlib.Core.Path.{_≡_, refl, sym, ap, subst, _∙_}
-use mathlib.Core.Bool.{Bool, true, false, not}
+use mathlib.Core.Bool.{Bool, true, false, not, _||_}
 use mathlib.Core.List.{List, [], _∷_}
 use mathlib.Core.Logic.{inl, inr}
 use Prim.Native.Nat.{ℕ, suc, _+_, _*_, _<_}
@@ -35,7 +35,7 @@ use Rattle.record.specs.Formed.{Stored}
 use Rattle.record.specs.StoredLaws.{word-entry}
 use Rattle.record.specs.declared.Counts.{Counts}
 use Rattle.record.specs.declared.Decoder.{Decoder}
-use Rattle.plan.specs.Packet.{planOf}
+use Rattle.plan.specs.Packet.{keeps, planOf}
 use Rattle.plan.specs.Step.{endBy, endOf}
 use Rattle.plan.specs.declared.End.{End}
 use Rattle.plan.specs.declared.Plan.{Plan}
@@ -83,7 +83,7 @@ module _ (x id pid : ℕ) (k : Desk) (s : Stored (k .table) x) (h : entryAt (k .
 
   pub rests : endedDesk x id pid (restEnd (entryAt (k .table) x)) k ≡ k
   unfolding endedDesk opened closed
-  rests = λ i. desk (k .hand) (table-same i) (k .devices) (k .endpoints) (k .transactions) (k .groups) (k .statebytes) (k .states) (k .items) (k .links) (k .requests)
+  rests = λ i. desk (k .hand) (table-same i) (k .devices) (k .endpoints) (k .transactions) (k .groups) (k .statebytes) (k .states) (k .items) (k .links)
 
 -- ---- the plan
 
@@ -122,10 +122,10 @@ module _ (packet : List ℕ) (time : ℕ) (s : State) (h : Enters packet s) wher
     abbrev after : Sum → Desk → State
     after z y =
         state (decoderBy (s .decoder) (onlyBegin p row t l Current) z (y .hand)) (s .devices) (y .table)
-        (logs (sets (s .logs .bytes) (heldAt s .bytes) packet) (y .devices) (y .endpoints) (sets (s .logs .packets) (heldAt s .packets * packetWidth) (s .decoder .counts .bytes ∷ time ∷ [])) (s .logs .events) (y .transactions) (y .groups) (y .statebytes) (y .states) (y .items) (y .links) (y .requests))
+        (logs (sets (s .logs .bytes) (heldAt s .bytes) packet) (y .devices) (y .endpoints) (sets (s .logs .packets) (heldAt s .packets * packetWidth) (s .decoder .counts .bytes ∷ time ∷ [])) (s .logs .events) (y .transactions) (y .groups) (y .statebytes) (y .states) (y .items) (y .links) (s .logs .requests))
 
-    pub rest-plan : RowsRoom (one row) (one l) (length packet) (heldAt s) (s .decoder .counts) (roomOf (s .logs)) → BeginPlan packet time s row t l
-    rest-plan f =
+    pub rest-plan : keeps (planOf packet (worldAt s)) ≡ false → RowsRoom (one row) (one l) (length packet) (heldAt s) (s .decoder .counts) (roomOf (s .logs)) → BeginPlan packet time s row t l
+    rest-plan u f =
         let z = beginSum row l (length packet) (s .decoder) in
         record {
           plan = withRest (onlyBegin p row t l Current) e;
@@ -133,13 +133,13 @@ module _ (packet : List ℕ) (time : ℕ) (s : State) (h : Enters packet s) wher
           summed = rest-sum p e row t l (s .decoder) (heldAt s) (length packet) (roomOf (s .logs))
               ∙ sum-by p t Current (s .decoder) (length packet) row l (heldAt s) (roomOf (s .logs)) (well packet time s h .counts) (well packet time s h .numbered) f;
           left = ap (λ (y : Desk). after z (begunDesk (onlyBegin p row t l Current .begin) y)) rested ∙ left-by p t packet time s row l;
-          kept = refl;
+          kept = ap (λ (b : Bool). b || false) (ap keeps (sym rest-shape) ∙ u);
           wants = λ a. let b = subst (λ (y : Desk). BeginAsks (onlyBegin p row t l Current .begin) y) rested (a .begin) in (b .there, (b .few, b .transactions));
         }
 
-  pub begins-plan : {row : Bool} {t : Transaction} {l : Bool} → Begins (planOf packet (worldAt s)) (worldAt s) row t l → RowsRoom (one row) (one l) (length packet) (heldAt s) (s .decoder .counts) (roomOf (s .logs)) → BeginPlan packet time s row t l
-  begins-plan (inl q) f = only-plan packet time s h q f
-  begins-plan (inr q) f = rest-plan q f
+  pub begins-plan : {row : Bool} {t : Transaction} {l : Bool} → Begins (planOf packet (worldAt s)) (worldAt s) row t l → keeps (planOf packet (worldAt s)) ≡ false → RowsRoom (one row) (one l) (length packet) (heldAt s) (s .decoder .counts) (roomOf (s .logs)) → BeginPlan packet time s row t l
+  begins-plan (inl q) u f = only-plan packet time s h q u f
+  begins-plan (inr q) u f = rest-plan q u f
 
 -- ---- the end of such a SOF
 

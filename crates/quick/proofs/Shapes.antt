@@ -11,7 +11,7 @@ use Rattle.transaction.specs.declared.Status.{Status}
 use Rattle.transaction.specs.declared.Status.the-variants.{New, Continue, Retry, Done, Fail, Ambiguous, Invalid}
 use Rattle.transaction.specs.declared.Style.{Style}
 use Rattle.transaction.specs.declared.Transaction.{Transaction}
-use Rattle.rules.specs.Transactions.{stateAt}
+use Rattle.rules.specs.Transactions.{stateAt, isKept}
 use Rattle.rules.specs.World.{World}
 use Rattle.rules.specs.declared.Slot.{Slot}
 use Rattle.rules.specs.declared.Slot.the-variants.{Empty, Current, Suspended}
@@ -52,9 +52,9 @@ pub plain-there : (d : Decoder) (table : List ℕ) → Ready d table → isPlain
 plain-there d table r h = r .held (ap holds (plain-holds (d .slot) (d .transaction .style) h))
 
 pub next-seen : (packet : List ℕ) (w : World) {u t : Transaction} {j : Judged} {q : Shape} → isPlain (w .slot) (w .transaction .style) ≡ true → u ≡ stateAt (w .slot) (w .transaction) → j ≡ transactionStatus u packet
-    → t ≡ broughtTo (w .transaction) (j .pid) packet → q ≡ nextShape (j .status) (w .transaction .endpoint) (w .endpoints (w .transaction .endpoint)) t → Shaped q (planOf packet w) w
-next-seen packet w {u} {t} {j} {q} h e1 e2 e3 e4 =
+    → t ≡ broughtTo (w .transaction) (j .pid) packet → isKept t (w .endpoints (w .transaction .endpoint)) (t .last) ≡ false → q ≡ nextShape (j .status) (w .transaction .endpoint) (w .endpoints (w .transaction .endpoint)) t → Shaped q (planOf packet w) w
+next-seen packet w {u} {t} {j} {q} h e1 e2 e3 k e4 =
     let held : stateAt (w .slot) (w .transaction) ≡ w .transaction = ap (λ (s : Slot). stateAt s (w .transaction)) (plain-holds (w .slot) (w .transaction .style) h) in
     let x = w .transaction .endpoint in
     subst (λ (a : Shape). Shaped a (planOf packet w) w) (sym (e4 ∙ ap (nextShape (j .status) x (w .endpoints x)) e3))
-    (next-shaped packet j w h (sym (e2 ∙ ap (λ (a : Transaction). transactionStatus a packet) (e1 ∙ held))))
+    (next-shaped packet j w h (ap (λ (a : Transaction). isKept a (w .endpoints x) (a .last)) (sym e3) ∙ k) (sym (e2 ∙ ap (λ (a : Transaction). transactionStatus a packet) (e1 ∙ held))))

@@ -21,7 +21,7 @@ use Rattle.tally.specs.declared.add.Tally.{Tally}
 use Rattle.record.specs.Room.{heldOf}
 use Rattle.record.specs.declared.Counts.{Counts}
 use Rattle.record.specs.declared.Decoder.{Decoder}
-use Rattle.plan.specs.Devices.{addsDevice}
+use Rattle.plan.specs.Devices.{addsDevice, asks}
 use Rattle.plan.specs.Packet.{going, none, oldEndpoint, endIf}
 use Rattle.plan.specs.Step.{endOf}
 use Rattle.plan.specs.declared.End.{End}
@@ -73,16 +73,17 @@ endBy q d old table =
 unfoldable pub closeTally : End → ℕ → Decoder → Tally
 closeTally e len d = nothing (d .waiting) ▷ addPacket len ▷ tallyEnd e (d .counts .endpoints)
 
--- what is tested: there is room, no byte total passes, and no device is added
+-- what is tested: there is room, no byte total passes, no device is added, and no request completes
 abbrev pub closeOf : Bool → End → Decoder → Counts → ℕ → Counts → Close
 closeOf closes e d held len room =
     let t = closeTally e len d in
-    record { taken = closes && (roomFor held (d .counts) t room && (not (passes (e .effect) (e .entry .total)) && not (addsDevice (e .effect)))); tally = t }
+    record { taken = closes && (roomFor held (d .counts) t room && (not (passes (e .effect) (e .entry .total)) && (not (addsDevice (e .effect)) && not (asks (e .effect))))); tally = t }
 
 pub record CloseFits (e : End) (len : ℕ) (d : Decoder) (held room : Counts) : Type 0 where
   pub fits : roomFor held (d .counts) (closeTally e len d) room ≡ true
   pub total : passes (e .effect) (e .entry .total) ≡ false
   pub device : addsDevice (e .effect) ≡ false
+  pub request : asks (e .effect) ≡ false
 
 -- ---- what it leaves
 
@@ -97,7 +98,7 @@ closeHand t time d held table = handOf time (holding t d) held table
 
 abbrev pub entered : Transaction → ℕ → State → Desk
 entered t time s =
-    desk (closeHand t time (s .decoder) (heldAt s) (s .table)) (s .table) (s .logs .devices) (s .logs .endpoints) (s .logs .transactions) (s .logs .groups) (s .logs .statebytes) (s .logs .states) (s .logs .items) (s .logs .links) (s .logs .requests)
+    desk (closeHand t time (s .decoder) (heldAt s) (s .table)) (s .table) (s .logs .devices) (s .logs .endpoints) (s .logs .transactions) (s .logs .groups) (s .logs .statebytes) (s .logs .states) (s .logs .items) (s .logs .links)
 
 abbrev pub closedDecoder : Transaction → Tally → Written → Decoder → Decoder
 closedDecoder t z h d =
@@ -125,14 +126,14 @@ closeState t e z packet time s =
     (k .states)
     (k .items)
     (k .links)
-    (k .requests))
+    (g .requests))
 
 -- the same over what close_only is lent, whatever the devices and the other logs hold
 abbrev pub OnClose : Transaction → End → Tally → Counts → List ℕ → ℕ → Decoder
-    → List ℕ → List ℕ → List ℕ → List ℕ → List ℕ → List ℕ → List ℕ → List ℕ → List ℕ → List ℕ
-    → Decoder → List ℕ → List ℕ → List ℕ → List ℕ → List ℕ → List ℕ → List ℕ → List ℕ → List ℕ → List ℕ → Type 0
-OnClose t e z held packet time d table b v p g m s i l q d′ table′ b′ v′ p′ g′ m′ s′ i′ l′ q′ =
-    (devices : List Device) (endpoints events transactions : List ℕ)
+    → List ℕ → List ℕ → List ℕ → List ℕ → List ℕ → List ℕ → List ℕ → List ℕ → List ℕ
+    → Decoder → List ℕ → List ℕ → List ℕ → List ℕ → List ℕ → List ℕ → List ℕ → List ℕ → List ℕ → Type 0
+OnClose t e z held packet time d table b v p g m s i l d′ table′ b′ v′ p′ g′ m′ s′ i′ l′ =
+    (devices : List Device) (endpoints events transactions q : List ℕ)
     → held ≡ heldOf table (d .counts)
-    → state d′ devices table′ (logs b′ v′ endpoints p′ events transactions g′ m′ s′ i′ l′ q′)
+    → state d′ devices table′ (logs b′ v′ endpoints p′ events transactions g′ m′ s′ i′ l′ q)
     ≡ closeState t e z packet time (state d devices table (logs b v endpoints p events transactions g m s i l q))

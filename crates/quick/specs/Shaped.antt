@@ -23,7 +23,7 @@ use Rattle.rules.specs.World.{World, framingEp, withPid}
 use Rattle.rules.specs.declared.Slot.{Slot}
 use Rattle.rules.specs.declared.Slot.the-variants.{Empty, Current, Suspended}
 use Rattle.update.specs.Update.{decideEarlyAppend}
-use Rattle.plan.specs.Packet.{oldEndpoint}
+use Rattle.plan.specs.Packet.{oldEndpoint, keeps}
 use Rattle.plan.specs.Step.{endOf}
 use Rattle.plan.specs.declared.End.{End}
 use Rattle.plan.specs.declared.Plan.{Plan}
@@ -90,11 +90,12 @@ isPlain Empty s = false
 isPlain Current s = isSimple s
 isPlain Suspended s = false
 
--- ---- right of the plan p on the world w
+-- ---- right of the plan p on the world w; its payload, if there is one, is not laid by
 
 pub record Begun (q : Shape) (p : Plan) (w : World) : Type 0 where
   pub live : isDropped (w .slot) (w .transaction) ≡ false
   pub plan : Begins p w (q .row) (q .transaction) (q .link)
+  pub kept : keeps p ≡ false
 
 -- the end of the transaction that is held
 abbrev pub heldEnd : Bool → Transaction → World → End
@@ -105,6 +106,7 @@ heldEnd success t w =
 pub record Closed (q : Shape) (p : Plan) (w : World) : Type 0 where
   pub live : isDropped (w .slot) (w .transaction) ≡ false
   pub plan : CloseOnly p (q .transaction) (heldEnd (q .success) (q .transaction) w) Empty
+  pub kept : keeps p ≡ false
 
 pub record Shaped (q : Shape) (p : Plan) (w : World) : Type 0 where
   pub begins : q .begins ≡ true → Begun q p w

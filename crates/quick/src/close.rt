@@ -15,6 +15,7 @@ use record::Counts;
 use record::Decoder;
 use rules::EventState;
 use rules::Slot;
+use shelving::is_request;
 use tally::add::Tally;
 use tally::add::tally_none;
 use tally::add::tally_packet;
@@ -41,7 +42,7 @@ ghost use Rattle.quick.specs.Close.{endBy, closeTally, closeOf, holding,
 
 // Whether the packet is taken, and the rows that it adds.
 pub struct Close {
-    // It ends the transaction, there is room, no byte total passes 2^64 - 1, and no device is added.
+    // It ends the transaction, there is room, no byte total passes 2^64 - 1, no device is added, and no request completes.
     pub taken: bool,
     pub tally: Tally,
 }
@@ -88,9 +89,10 @@ pub fn close_of(closes: bool, end: End, d: Decoder, held: Counts, len: usize, ro
     let effect = end.effect;
     let over = total_passes(effect, entry.total);
     let adds = adds_device(effect);
+    let asks = is_request(effect);
     let fits = has_room_for(held, d.counts, tally, room);
     Close {
-        taken: closes & (fits & (!over & !adds)),
+        taken: closes & (fits & (!over & (!adds & !asks))),
         tally,
     }
 }
@@ -140,13 +142,12 @@ pub fn close_only(
     states: &mut [u64],
     items: &mut [u64],
     links: &mut [u64],
-    requests: &mut [u64],
 ) -> Decoder
     requires { ⌜ Sums (d .counts) tally ⌝ }
     requires { ⌜ held .bytes + length (now packet) ≤ length (now bytes) ⌝ }
     requires { ⌜ (held .packets + 1) * packetWidth ≤ length (now packets) ⌝ }
-    requires { ⌜ EndsIf true (t .endpoint) (t .id) (startPid (t .style)) end (desk (closeHand t time d held (now table)) (now table) (now «device_rows») [] [] (now groups) (now statebytes) (now states) (now items) (now links) (now requests)) ⌝ }
-    ensures { λ r. ⌜ OnClose t end tally held (now (packet .entry)) time d (now (table .entry)) (now (bytes .entry)) (now («device_rows» .entry)) (now (packets .entry)) (now (groups .entry)) (now (statebytes .entry)) (now (states .entry)) (now (items .entry)) (now (links .entry)) (now (requests .entry)) r (now (table .exit)) (now (bytes .exit)) (now («device_rows» .exit)) (now (packets .exit)) (now (groups .exit)) (now (statebytes .exit)) (now (states .exit)) (now (items .exit)) (now (links .exit)) (now (requests .exit)) ⌝ }
+    requires { ⌜ EndsIf true (t .endpoint) (t .id) (startPid (t .style)) end (desk (closeHand t time d held (now table)) (now table) (now «device_rows») [] [] (now groups) (now statebytes) (now states) (now items) (now links)) ⌝ }
+    ensures { λ r. ⌜ OnClose t end tally held (now (packet .entry)) time d (now (table .entry)) (now (bytes .entry)) (now («device_rows» .entry)) (now (packets .entry)) (now (groups .entry)) (now (statebytes .entry)) (now (states .entry)) (now (items .entry)) (now (links .entry)) r (now (table .exit)) (now (bytes .exit)) (now («device_rows» .exit)) (now (packets .exit)) (now (groups .exit)) (now (statebytes .exit)) (now (states .exit)) (now (items .exit)) (now (links .exit)) ⌝ }
 {
     let n = d.counts;
     put_packet(n.bytes, held, packet, time, bytes, packets);
@@ -167,7 +168,6 @@ pub fn close_only(
         states,
         items,
         links,
-        requests,
     );
     closed_decoder(t, tally, d, hand)
 }

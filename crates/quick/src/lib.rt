@@ -30,10 +30,11 @@ ghost use Prim.Native.Nat.{_≤_};
 ghost use lib.ListN.{length};
 ghost use Rattle.call.specs.State.{state, logs};
 ghost use Rattle.packet.specs.Call.{PacketCall};
-ghost use Rattle.packet.specs.After.{changed, Placed};
+ghost use Rattle.packet.specs.After.{Placed, changed, requested, shelved};
 ghost use Rattle.packet.specs.Lent.{SomeLent, ForLent};
 
-// As packet_in (packet), with the same contract: a packet of neither shape, or without room, goes there.
+// As packet_in (packet), with the same contract: a packet of neither shape, or without room, goes there, and so does one whose payload is laid by and one that
+// completes a request.
 pub fn quick_in(
     d: Decoder,
     near: Near,
@@ -51,13 +52,13 @@ pub fn quick_in(
     states: &mut [u64],
     items: &mut [u64],
     links: &mut [u64],
-    requests: &mut [u64],
+    requests: &[u64],
 ) -> Inner
     requires { ⌜ SomeLent near (now packet) d (now table) (logs (now bytes) (now «device_rows») (now «endpoint_rows») (now packets) (now events) (now transactions) (now groups) (now statebytes) (now states) (now items) (now links) (now requests)) ⌝ }
     requires { ⌜ d .finished ≡ false ⌝ }
     requires { ⌜ length (now packet) ≤ 4096 ⌝ }
-    ensures { λ r. ⌜ Placed (r .change) ⌝ }
-    ensures { λ r. ⌜ ForLent near (now (packet .entry)) d (now (table .entry)) (logs (now (bytes .entry)) (now («device_rows» .entry)) (now («endpoint_rows» .entry)) (now (packets .entry)) (now (events .entry)) (now (transactions .entry)) (now (groups .entry)) (now (statebytes .entry)) (now (states .entry)) (now (items .entry)) (now (links .entry)) (now (requests .entry))) (λ v. PacketCall (now (packet .entry)) time (state d v (now (table .entry)) (logs (now (bytes .entry)) (now («device_rows» .entry)) (now («endpoint_rows» .entry)) (now (packets .entry)) (now (events .entry)) (now (transactions .entry)) (now (groups .entry)) (now (statebytes .entry)) (now (states .entry)) (now (items .entry)) (now (links .entry)) (now (requests .entry)))) (r .answer) (state (r .decoder) (changed (r .change) v) (now (table .exit)) (logs (now (bytes .exit)) (now («device_rows» .exit)) (now («endpoint_rows» .exit)) (now (packets .exit)) (now (events .entry)) (now (transactions .exit)) (now (groups .exit)) (now (statebytes .exit)) (now (states .exit)) (now (items .exit)) (now (links .exit)) (now (requests .exit))))) ⌝ }
+    ensures { λ r. ⌜ Placed (r .change) (now (packet .entry)) (now (requests .entry)) ⌝ }
+    ensures { λ r. ⌜ ForLent near (now (packet .entry)) d (now (table .entry)) (logs (now (bytes .entry)) (now («device_rows» .entry)) (now («endpoint_rows» .entry)) (now (packets .entry)) (now (events .entry)) (now (transactions .entry)) (now (groups .entry)) (now (statebytes .entry)) (now (states .entry)) (now (items .entry)) (now (links .entry)) (now (requests .entry))) (λ v h. PacketCall (now (packet .entry)) time (state d v (now (table .entry)) (logs (now (bytes .entry)) (now («device_rows» .entry)) (now («endpoint_rows» .entry)) (now (packets .entry)) (now (events .entry)) (now (transactions .entry)) (now (groups .entry)) (now (statebytes .entry)) (now (states .entry)) (now (items .entry)) (now (links .entry)) (now (requests .entry)))) h (r .answer) (state (r .decoder) (changed (r .change) (now (packet .entry)) h v) (now (table .exit)) (logs (now (bytes .exit)) (now («device_rows» .exit)) (now («endpoint_rows» .exit)) (now (packets .exit)) (now (events .entry)) (now (transactions .exit)) (now (groups .exit)) (now (statebytes .exit)) (now (states .exit)) (now (items .exit)) (now (links .exit)) (requested (r .change) (now (packet .entry)) h v (now (requests .entry))))) (shelved (r .change) (now (packet .entry)) h v)) ⌝ }
 {
     let room = room_of(
         bytes.len(),
@@ -142,7 +143,6 @@ pub fn quick_in(
             states,
             items,
             links,
-            requests,
         );
         return Inner {
             answer: 0,

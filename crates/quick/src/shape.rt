@@ -17,6 +17,7 @@ use endpoints::entry::load;
 use group::step::is_active;
 use record::Decoder;
 use rules::Slot;
+use shelving::is_kept;
 use transaction::Status;
 use transaction::Style;
 use transaction::Transaction;
@@ -35,7 +36,7 @@ ghost use Prim.Native.Nat.{_<_};
 ghost use Rattle.endpoints.specs.Table.{entryAt};
 ghost use Rattle.transaction.specs.Status.{judged, transactionStatus};
 ghost use Rattle.transaction.specs.declared.Status.the-variants.{New};
-ghost use Rattle.rules.specs.Transactions.{stateAt};
+ghost use Rattle.rules.specs.Transactions.{isKept, stateAt};
 ghost use Rattle.rules.specs.World.{framingEp};
 ghost use Rattle.plan.specs.Packet.{oldEndpoint, planOf};
 ghost use Rattle.decide.specs.Near.{ForSeen};
@@ -156,6 +157,15 @@ fn brought_to(t: Transaction, pid: u8, packet: &[u8]) -> Transaction
     with_pid(pid, extract_payload(t, pid, packet.len(), setup_of(packet)))
 }
 
+// Whether the packet's payload is to be laid by, which has to have a plan: t is the transaction with what it brought, on endpoint x.
+fn lays(x: usize, t: Transaction, table: &Table) -> bool
+    requires { ⌜ x < 128 ⌝ }
+    ensures { λ r. ⌜ r ≡ isKept t (entryAt (now (table .entry)) x) (t .last) ⌝ }
+{
+    let e = load(table, x);
+    is_kept(t, e, t.last)
+}
+
 fn is_plain(slot: Slot, style: Style) -> bool
     ensures { λ r. ⌜ r ≡ isPlain slot style ⌝ }
 {
@@ -213,8 +223,13 @@ pub fn shape_of(d: Decoder, near: Near, table: &Table, packet: &[u8]) -> Shape
     if is_new(status) & is_free(slot, t, near.old, table) {
         return token_shape(x0, pid, packet, d, near, table);
     }
-    if is_plain(slot, style) {
-        return next_shape(status, t.endpoint, brought_to(t, pid, packet), table);
+    if !is_plain(slot, style) {
+        return no_shape(t);
     }
-    no_shape(t)
+    let x = t.endpoint;
+    let next = brought_to(t, pid, packet);
+    if lays(x, next, table) {
+        return no_shape(next);
+    }
+    next_shape(status, x, next, table)
 }

@@ -23,6 +23,7 @@ worldOf d devices table =
       eventState = d .event;
       keepalive = d .keepalive;
       context = stamp 0 0;
+      shelf = [];
       bytes = d .counts .bytes;
       packets = d .counts .packets;
       transactions = d .counts .transactions;

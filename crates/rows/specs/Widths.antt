@@ -38,7 +38,7 @@ linkWidth = 4
 
 -- 11: endpoint, setup bytes, length
 abbrev pub requestWidth : ℕ
-requestWidth = 3
+requestWidth = 4
 
 -- by the log's number (rules, Rows); packet bytes (0), state bytes (7) and states (8) have one word for each
 abbrev pub widthOf : ℕ → ℕ

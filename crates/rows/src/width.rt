@@ -11,4 +11,4 @@ pub const GROUP: usize = 3;
 
 pub const LINK: usize = 4;
 
-pub const REQUEST: usize = 3;
+pub const REQUEST: usize = 4;

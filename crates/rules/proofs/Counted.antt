@@ -31,10 +31,10 @@ use Rattle.group.specs.declared.Grouped.{Grouped}
 use Rattle.group.specs.declared.GroupStatus.{GroupStatus}
 use Rattle.group.specs.declared.GroupStatus.the-variants as group
 use Rattle.rules.specs.Rows.{Row, BytesRow, DeviceRow, EndpointRow, PacketRow, EventRow, TransactionRow, GroupRow, StateRow, StateBytes, ItemRow, T, G, D, E, RequestRow, Over, written, log}
-use Rattle.rules.specs.World.{stamped, World, phase, push, change, cleared, withSlot, withKeepalive, withEventState, withItems, newTransaction}
+use Rattle.rules.specs.World.{withShelf, stamped, World, phase, push, change, cleared, withSlot, withKeepalive, withEventState, withItems, newTransaction}
 use Rattle.rules.specs.Endpoints.{addDevice, deviceFor, pushEndpoint, addEndpointOn, addressFor, found, packetEndpointAt, packetEndpoint, endpointOf, setDetailOn}
 use Rattle.rules.specs.Groups.{closeRow, closeRows, addItem, statesFrom, addGroupEntry, link, linkOnce, pushGroup, over, endActive, addGroup, groupEndAt, groupEnd, groupStartAt, groupStart, groupAppendAt, groupAppend, groupStep, effectStep, grouped, becomes, groupUpdate, undecided, groupEarlyAppend, startsEarly, endEarly, groupEarlyStart}
-use Rattle.rules.specs.Transactions.{transactionEndAt, transactionEnd, appendToken, transactionAppend, pushTransaction, begin as start, typeOf, beginOn, beginSplit, beginPlain, transactionStart, resumeAt, stateAt, completes, extracted, updateAt, updateFrom, isDropped, transactionUpdate}
+use Rattle.rules.specs.Transactions.{transactionEndAt, transactionEnd, appendToken, transactionAppend, pushTransaction, begin as start, typeOf, beginOn, beginSplit, beginPlain, transactionStart, resumeAt, stateAt, completes, brought, extracted, updateAt, updateFrom, isDropped, transactionUpdate}
 use Rattle.rules.specs.Events.{eventSubgroupStart, eventAddGroup, Act, nothing, single, group, subgroup, keepalive, turnOf, eventAct, eventUpdate}
 use Rattle.rules.specs.Decoder.{appendBytes, pushPacket, handleRawPacket, suspend, overRow, overRows, endAllActive, endAll, handleEvent, finish, handleDetail}
 use Rattle.rules.specs.Demand.{Call, packet, event, detail, finishing, call}
@@ -324,7 +324,7 @@ module _ (n : World) where
       by false false = let x = endpointOf pid p v in let u : World = packetEndpoint pid p v in early-start pid x (start (newTransaction (Simple pid) (w .transactions) pid x (typeOf x u)) u) (place pid p v r)
 
   update-at : (s : Status) (i pid : ℕ) (p : List ℕ) (k : Bool) (w : World) → Counted w → Counted (updateAt s i pid p k w)
-  update-at New i pid p k w l = let v : World = transactionEnd false false (extracted pid p w) in early-append (transactionStart i pid p v) (tr-start i pid p v (tr-end false false (extracted pid p w) l))
+  update-at New i pid p k w l = let v : World = transactionEnd false false (brought pid p w) in early-append (transactionStart i pid p v) (tr-start i pid p v (tr-end false false (brought pid p w) l))
   update-at Continue i pid p k w l = early-append (transactionAppend pid p (extracted pid p w)) (tr-append pid p (extracted pid p w) l)
   update-at Retry i pid p k w l = tr-end true k (transactionAppend pid p (extracted pid p w)) (tr-append pid p (extracted pid p w) l)
   update-at Done i pid p k w l = tr-end true k (transactionAppend pid p (extracted pid p w)) (tr-append pid p (extracted pid p w) l)
@@ -398,7 +398,7 @@ module _ (n : World) where
 
   pub counts : (k : Call) (w : World) → Counted w → Counted (call k w)
   unfolding handleDetail finish
-  counts (packet p time) w l = packets p time w l
+  counts (packet p time shelf) w l = packets p time (withShelf shelf w) l
   counts (event kind code time) w l = events kind code time w l
   counts (detail a number r kind m) w l = details (deviceFor a w) number r kind m w l
   counts finishing w l = tr-end false false w l

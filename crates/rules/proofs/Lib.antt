@@ -11,3 +11,4 @@ pub mod Linked
 pub mod Tokened
 pub mod Runs
 pub mod Named
+pub mod Enumerated

@@ -31,10 +31,10 @@ use Rattle.endpoints.specs.declared.Phase.{Phase}
 use Rattle.endpoints.specs.declared.Phase.the-variants.{None, Early, Active, Ended}
 use Rattle.group.specs.Step.{isActive}
 use Rattle.rules.specs.Rows.{Row, EventRow}
-use Rattle.rules.specs.World.{stamped, World, phase, push, withSlot, withTransaction, withEventState, withKeepalive, withJournal, moreTransactions, moreGroups, withPid, newTransaction}
+use Rattle.rules.specs.World.{withShelf, stamped, World, phase, push, withSlot, withTransaction, withEventState, withKeepalive, withJournal, moreTransactions, moreGroups, withPid, newTransaction}
 use Rattle.rules.specs.Endpoints.{deviceFor, packetEndpoint, endpointOf, setDetailOn}
 use Rattle.rules.specs.Groups.{closePhase, undecided, groupEarlyAppend, link}
-use Rattle.rules.specs.Transactions.{transactionEndAt, transactionEnd, appendToken, transactionAppend, pushTransaction, begin, typeOf, beginOn, beginSplit, beginPlain, transactionStart, resumeAt, stateAt, completes, extracted, updateAt, updateFrom, isDropped, transactionUpdate}
+use Rattle.rules.specs.Transactions.{transactionEndAt, transactionEnd, appendToken, transactionAppend, pushTransaction, begin, typeOf, beginOn, beginSplit, beginPlain, transactionStart, resumeAt, stateAt, completes, brought, extracted, updateAt, updateFrom, isDropped, transactionUpdate}
 use Rattle.rules.specs.Events.{eventSubgroupStart, eventAddGroup, Act, nothing, single, group, subgroup, keepalive, turnOf, eventAct, eventUpdate}
 use Rattle.rules.specs.Decoder.{appendBytes, pushPacket, handleRawPacket, suspendAt, suspend, endPhase, endAll, handleEvent, finish, handleDetail}
 use Rattle.rules.specs.Decoder as Decoder
@@ -283,7 +283,7 @@ module _ (pid : ℕ) (p : List ℕ) where
   ambiguous-links Suspended w q a d l = absurd a
 
   update-links : (s : Status) (n : ℕ) (k : Bool) (w : World) → Awake (w .slot) → Linked w → (ambiguous s ≡ true → Fine (w .slot) (w .transaction)) → Linked (updateAt s n pid p k w)
-  update-links New n k w a l d = append-linked (transactionStart n pid p (transactionEnd false false (extracted pid p w)))
+  update-links New n k w a l d = append-linked (transactionStart n pid p (transactionEnd false false (brought pid p w)))
   update-links Continue n k w a l d = append-linked (transactionAppend pid p (extracted pid p w))
   update-links Retry n k w a l d = appended-ends pid p true k (extracted pid p w) a
   update-links Done n k w a l d = appended-ends pid p true k (extracted pid p w) a
@@ -317,7 +317,7 @@ detail-links Nothing number direction kind max w l = l
 
 pub linked-after : (k : Call) (w : World) → Linked w → Linked (call k w)
 unfolding handleDetail finish
-linked-after (packet p time) w l = packet-links p time w l
+linked-after (packet p time shelf) w l = packet-links p time (withShelf shelf w) l
 linked-after (event kind code time) w l = event-links kind code time w l
 linked-after (detail a number r kind m) w l = detail-links (deviceFor a w) number r kind m w l
 linked-after finishing w l = end-links (w .slot) false false w refl l

@@ -30,10 +30,10 @@ use Rattle.group.specs.declared.Effect.the-variants.{NoEffect, NewDevice, Reque
 use Rattle.group.specs.declared.Grouped.{Grouped}
 use Rattle.group.proofs.Laws.{group-keeps}
 use Rattle.rules.specs.Rows.{Row, T, D, EventRow}
-use Rattle.rules.specs.World.{stamped, World, phase, push, change, withSlot, withTransaction, withEventState, withKeepalive, withId, withPid, moreTransactions, withPending, withTotal, newTransaction}
+use Rattle.rules.specs.World.{stamped, World, phase, push, change, withSlot, withTransaction, withShelf, withEventState, withKeepalive, withId, withPid, moreTransactions, withPending, withTotal, newTransaction}
 use Rattle.rules.specs.Endpoints.{addDevice, deviceFor, pushEndpoint, addEndpointOn, addressFor, endpointLookup, found, packetEndpointAt, packetEndpoint, numberAt, endpointOf, detailOf, setDetailOn}
 use Rattle.rules.specs.Groups.{addGroupEntry, pushGroup, link, linkOnce, groupStep, effectStep, grouped, becomes, groupUpdate, groupEarlyAppend, undecided}
-use Rattle.rules.specs.Transactions.{transactionEndAt, transactionEnd, appendToken, transactionAppend, pushTransaction, begin, typeOf, beginOn, beginSplit, beginPlain, transactionStart, resumeAt, stateAt, completes, extracted, updateAt, updateFrom, isDropped, transactionUpdate}
+use Rattle.rules.specs.Transactions.{transactionEndAt, transactionEnd, appendToken, transactionAppend, pushTransaction, begin, typeOf, beginOn, beginSplit, beginPlain, transactionStart, resumeAt, stateAt, completes, keepPayload, brought, extracted, updateAt, updateFrom, isDropped, transactionUpdate}
 use Rattle.rules.specs.Events.{eventAddSubgroup, eventSubgroupStart, eventAddGroup, Act, nothing, single, group, subgroup, keepalive, Turn, turnOf, eventAct, eventUpdate}
 use Rattle.rules.specs.Decoder.{appendBytes, pushPacket, handleRawPacket, suspend, endAllActive, endAll, handleEvent, finish, handleDetail}
 use Rattle.rules.specs.Demand.{Call, packet, event, detail, finishing, call}
@@ -271,22 +271,26 @@ module _ (base : List Row) where
         let m : Moves c y w (transactionAppend pid p w) = appended c y f t pid p w z in
         then m (ending (m .c′) (m .y′) (m .fits) (m .three) s k (transactionAppend pid p w))
 
+    abbrev pub bringing : (w : World) → Moves c y w (brought pid p w)
+    bringing w =
+        stays c y f t w (brought pid p w) (λ e l. record { facts = l .facts; inside = l .inside; unused = l .unused; quiet = l .quiet; special = l .special; size = l .size; target = extract-keeps (w .transaction) pid (length p) (setupDataOf p) .endpoint ∙ l .target })
+
+    -- the shelf is not spoken of
     abbrev pub extracting : (w : World) → Moves c y w (extracted pid p w)
-    extracting w =
-        stays c y f t w (extracted pid p w) (λ e l. record { facts = l .facts; inside = l .inside; unused = l .unused; quiet = l .quiet; special = l .special; size = l .size; target = extract-keeps (w .transaction) pid (length p) (setupDataOf p) .endpoint ∙ l .target })
+    extracting w = stays c y f t w (extracted pid p w) (λ e l. bringing (keepPayload pid p w) .keeps e l)
 
     updating : (s : Status) (k : Bool) (w : World) → Keeps base 0 c y w → Moves c y w (updateAt s n pid p k w)
     updating New k w z =
-        then (extracting w) (then m (then a (appending (a .c′) (a .y′) (a .fits) (a .three) (transactionStart n pid p v))))
+        then (bringing w) (then m (then a (appending (a .c′) (a .y′) (a .fits) (a .three) (transactionStart n pid p v))))
       where
         v : World
-        v = transactionEnd false false (extracted pid p w)
+        v = transactionEnd false false (brought pid p w)
 
-        m : Moves c y (extracted pid p w) v
-        m = ending c y f t false false (extracted pid p w)
+        m : Moves c y (brought pid p w) v
+        m = ending c y f t false false (brought pid p w)
 
         a : Moves (m .c′) (m .y′) v (transactionStart n pid p v)
-        a = starting (m .c′) (m .y′) (m .fits) (m .three) n pid p v (m .keeps 0 (extracting w .keeps 0 z))
+        a = starting (m .c′) (m .y′) (m .fits) (m .three) n pid p v (m .keeps 0 (bringing w .keeps 0 z))
     updating Continue k w z =
         then (extracting w) (then m (appending (m .c′) (m .y′) (m .fits) (m .three) (transactionAppend pid p (extracted pid p w))))
       where
@@ -410,7 +414,8 @@ module _ (base : List Row) where
 
     pub calls : (k : Call) (w : World) → Keeps base 0 c y w → Moves c y w (call k w)
     unfolding handleDetail finish
-    calls (packet p time) w z = packets c y f t p time w z
+    calls (packet p time shelf) w z =
+        let m = packets c y f t p time (withShelf shelf w) z in record { c′ = m .c′; y′ = m .y′; fits = m .fits; three = m .three; keeps = m .keeps }
     calls (event kind code time) w z = events kind code time w
     calls (detail a number r kind m) w z = details (deviceFor a w) number r kind m w
     calls finishing w z = ending c y f t false false w

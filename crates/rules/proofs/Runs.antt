@@ -7,6 +7,7 @@ use Rattle.rules.specs.Rows.{log}
 use Rattle.rules.specs.World.{World, withEndpoints, withDevices}
 use Rattle.rules.specs.Decoder.{nothingYet, fresh}
 use Rattle.rules.specs.Demand.{Call, call}
+use Rattle.rules.specs.Demand as demand
 
 abbrev below : {A : Type 0} → ℕ → (ℕ → A) → List A → List A
 below zero f acc = acc
@@ -19,13 +20,29 @@ settle w =
     let ds = below (w .deviceCount) (w .devices) [] in
     withDevices (λ j. getD ds j (nothingYet .devices j)) (withEndpoints (λ j. getD es j (nothingYet .endpoints j)) w)
 
-abbrev pub runs : List Call → World → World
+-- a call of a run goes on with the shelf that the one before left
+abbrev pub Lent : Type 0
+Lent = List ℕ → Call
+
+abbrev pub packet : List ℕ → ℕ → Lent
+packet p time shelf = demand.packet p time shelf
+
+abbrev pub event : ℕ → ℕ → ℕ → Lent
+event kind code time shelf = demand.event kind code time
+
+abbrev pub detail : ℕ → ℕ → ℕ → ℕ → ℕ → Lent
+detail address number direction kind max shelf = demand.detail address number direction kind max
+
+abbrev pub finishing : Lent
+finishing shelf = demand.finishing
+
+abbrev pub runs : List Lent → World → World
 runs [] w = w
-runs (k ∷ ks) w = runs ks (settle (call k w))
+runs (k ∷ ks) w = runs ks (settle (call (k (w .shelf)) w))
 
 -- each log of a world, in the order of their numbers
 abbrev pub logs : World → List (List ℕ)
 logs w = below 12 (λ k. log k (w .journal)) []
 
-abbrev pub Leaves : List Call → List (List ℕ) → Type 0
+abbrev pub Leaves : List Lent → List (List ℕ) → Type 0
 Leaves calls words = logs (runs calls fresh) ≡ words

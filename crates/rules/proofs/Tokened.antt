@@ -18,9 +18,9 @@ use Rattle.details.specs.Kind.{Unknown}
 use Rattle.details.specs.declared.Found.{Found}
 use Rattle.details.specs.declared.Found.the-variants.{At, Nothing}
 use Rattle.rules.specs.Rows.{Row, EventRow}
-use Rattle.rules.specs.World.{stamped, World, push, withSlot, withJournal, withKeepalive, withEventState}
+use Rattle.rules.specs.World.{withShelf, stamped, World, push, withSlot, withJournal, withKeepalive, withEventState}
 use Rattle.rules.specs.Endpoints.{deviceFor, found, packetEndpoint, numberAt, endpointOf, setDetailOn}
-use Rattle.rules.specs.Transactions.{transactionEndAt, transactionEnd, appendToken, transactionAppend, pushTransaction, typeOf, beginOn, beginSplit, beginPlain, transactionStart, resumeAt, stateAt, completes, extracted, updateAt, updateFrom, isDropped, transactionUpdate}
+use Rattle.rules.specs.Transactions.{transactionEndAt, transactionEnd, appendToken, transactionAppend, pushTransaction, typeOf, beginOn, beginSplit, beginPlain, transactionStart, resumeAt, stateAt, completes, brought, extracted, updateAt, updateFrom, isDropped, transactionUpdate}
 use Rattle.rules.specs.Events.{eventSubgroupStart, eventAddGroup, Act, nothing, single, group, subgroup, keepalive, turnOf, eventAct, eventUpdate}
 use Rattle.rules.specs.Decoder.{appendBytes, pushPacket, handleRawPacket, suspendAt, suspend, endAll, handleEvent, finish, handleDetail}
 use Rattle.rules.specs.Decoder as Decoder
@@ -95,10 +95,10 @@ module _ (pid : ℕ) (p : List ℕ) where
   appended w s h = token (extracted pid p w .transaction .style) (extracted pid p w) s (carried (extract-seen pid p w) h)
 
   updates : (s : Status) (n : ℕ) (k : Bool) (w : World) → Stands w → Tokened w → Tokened (updateAt s n pid p k w)
-  updates New n k w s h = carried (append-seen (transactionStart n pid p v)) (starts n v (end-stands false false (extracted pid p w) s))
+  updates New n k w s h = carried (append-seen (transactionStart n pid p v)) (starts n v (end-stands false false (brought pid p w) s))
     where
       v : World
-      v = transactionEnd false false (extracted pid p w)
+      v = transactionEnd false false (brought pid p w)
   updates Continue n k w s h = carried (append-seen (transactionAppend pid p (extracted pid p w))) (appended w s h)
   updates Retry n k w s h = ends true k (transactionAppend pid p (extracted pid p w)) (appended w s h)
   updates Done n k w s h = ends true k (transactionAppend pid p (extracted pid p w)) (appended w s h)
@@ -163,7 +163,7 @@ details Nothing number direction kind max w h = h
 
 pub tokened-after : (k : Call) (w : World) → Stands w → Tokened w → Tokened (call k w)
 unfolding handleDetail finish
-tokened-after (packet p time) w s h = packets p time w s h
+tokened-after (packet p time shelf) w s h = packets p time (withShelf shelf w) s h
 tokened-after (event kind code time) w s h = events kind code time w h
 tokened-after (detail a number r kind m) w s h = details (deviceFor a w) number r kind m w h
 tokened-after finishing w s h = ends false false w h

@@ -25,7 +25,7 @@ use Rattle.rules.specs.declared.EventState.the-variants.{Idle}
 -- ---- fn new
 
 abbrev pub nothingYet : World
-nothingYet = makeWorld (λ j. newEndpoint 0 0) 0 (λ j. details.fresh 0) 0 Empty (newTransaction Nothing 0 0 0 Unknown) noItem Idle false (stamp 0 0)
+nothingYet = makeWorld (λ j. newEndpoint 0 0) 0 (λ j. details.fresh 0) 0 Empty (newTransaction Nothing 0 0 0 Unknown) noItem Idle false (stamp 0 0) []
     0 0 0 0 0 0 []
 
 -- the default device, and the special endpoints: EVENT_EP_NUM, INVALID_EP_NUM, FRAMING_EP_NUM

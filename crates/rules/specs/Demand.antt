@@ -9,19 +9,19 @@ use lib.ListN.{length, getD}
 use Rattle.transaction.specs.Table.{pick}
 use Rattle.endpoints.specs.declared.Phase.the-variants.{None}
 use Rattle.rules.specs.Rows.{Row, log}
-use Rattle.rules.specs.World.{World, eventEp, phase}
+use Rattle.rules.specs.World.{World, withShelf, eventEp, phase}
 use Rattle.rules.specs.Decoder.{handleRawPacket, handleEvent, handleDetail, finish}
 use Rattle.rules.specs.Marks.{Mark, marks, endings, First, Asserted, InTurn}
 
--- a call that is not refused: bytes and time; kind, code and time; address, number, direction, type and max; finish
+-- a call that is not refused: bytes, time and the shelf that is lent; kind, code and time; address, number, direction, type and max; finish
 pub data Call : Type 0 where
-  packet : List ℕ → ℕ → Call
+  packet : List ℕ → ℕ → List ℕ → Call
   event : ℕ → ℕ → ℕ → Call
   detail : ℕ → ℕ → ℕ → ℕ → ℕ → Call
   finishing : Call
 
 abbrev pub call : Call → World → World
-call (packet p time) w = handleRawPacket p time w
+call (packet p time shelf) w = handleRawPacket p time (withShelf shelf w)
 call (event kind code time) w = handleEvent kind code time w
 call (detail a n r k m) w = handleDetail a n r k m w
 call finishing w = finish w

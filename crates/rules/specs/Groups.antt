@@ -1,8 +1,8 @@
 -- To be believed: the functions of decoder.rs from group_early_start on: groups, their rows, states and items. A function stands below those that it calls.
--- Hold it to: group_early_start, group_early_append, group_update, group_start, group_append, group_end, add_group, add_group_entry, add_endpoint_state, add_item of decoder.rs
+-- Hold it to: group_early_start, group_early_append, group_update, group_start, group_append, group_end, add_group, add_group_entry, add_endpoint_state, add_item of decoder.rs; 02, 2: "When a standard GET_DESCRIPTOR completes" and on
 use mathlib.Core.Bool.{Bool, true, false, _&&_, _||_, not}
 use mathlib.Core.List.{List, [], _∷_}
-use Prim.Native.Nat.{ℕ, zero, suc, pred, _+_}
+use Prim.Native.Nat.{ℕ, zero, suc, pred, _+_, _*_}
 use lib.Dec.{eqb}
 use Rattle.usb.specs.Pid.{SETUP, IN, OUT, SOF, MALFORMED}
 use Rattle.transaction.specs.Table.{pick, only, _or_}
@@ -12,6 +12,9 @@ use Rattle.endpoints.specs.Table.{withPhase, withState}
 use Rattle.endpoints.specs.declared.Endpoint.{Endpoint}
 use Rattle.endpoints.specs.declared.Phase.{Phase}
 use Rattle.endpoints.specs.declared.Phase.the-variants.{None, Early, Active, Ended}
+use Rattle.details.specs.declared.Device.{Device}
+use Rattle.descriptors.specs.Complete.{noteBy, rowBy, shelfBy}
+use Rattle.descriptors.specs.declared.complete.Asked.{Asked}
 use Rattle.group.specs.Step.{isActive}
 use Rattle.group.specs.Group.{groupStatus}
 use Rattle.group.specs.declared.GroupStatus.{GroupStatus}
@@ -20,7 +23,7 @@ use Rattle.group.specs.declared.Grouped.{Grouped}
 use Rattle.group.specs.declared.Effect.{Effect}
 use Rattle.group.specs.declared.Effect.the-variants.{NoEffect, NewDevice, Request, PendingData, IndexData}
 use Rattle.rules.specs.Rows.{Row, GroupRow, grouping, StateRow, StateBytes, ItemRow, T, G, D, E, RequestRow, asking, Over}
-use Rattle.rules.specs.World.{World, _▷_, eventEp, phase, lastGroup, withEndpoints, withTransaction, withLastItem, withGroups, withStateBytes, withItems, withJournal, push, change, moreTransactions, moreGroups, withGroup, withLast, cleared, withPending, withTotal, withLink}
+use Rattle.rules.specs.World.{World, _▷_, eventEp, phase, lastGroup, withEndpoints, withTransaction, withLastItem, withGroups, withStateBytes, withItems, withJournal, withShelf, push, change, changeDevice, moreTransactions, moreGroups, withGroup, withLast, cleared, withPending, withTotal, withLink}
 use Rattle.rules.specs.Endpoints.{addDevice, detailOf}
 
 -- ---- fn add_item
@@ -177,11 +180,27 @@ groupStep Retry x w = w ▷ groupAppend false x
 groupStep Done x w = w ▷ groupAppend true x ▷ groupEnd x
 groupStep Invalid x w = w ▷ groupStart false x ▷ groupEnd x
 
+-- where the Rust calls decode_request: what is asked (descriptors, Complete), by the setup data, the payload's length, the number of the device, and its row. A
+-- device's part of the shelf begins at 8,192 times its number
+abbrev pub askedAt : ℕ → ℕ → ℕ → Device → Asked
+askedAt setup n number d = record { setup = setup; length = n; start = number * 8192; kept = d .kept; chosen = d .chosen }
+
+-- on the endpoint x
+abbrev pub askedOf : ℕ → ℕ → World → Asked
+askedOf n x w = askedAt (w .endpoints x .setup) n (w .endpoints x .device) (w .devices (w .endpoints x .device))
+
+-- fn decode_request, in the words of 02, 2: "a note of what was taken", the device's row and the shelf, each by what stood there before it
+abbrev pub decodeRequest : ℕ → ℕ → World → World
+decodeRequest n x w =
+    w ▷ push (RequestRow (asking x (w .endpoints x .setup) n (noteBy (askedOf n x w) (w .shelf))))
+    ▷ changeDevice (w .endpoints x .device) (rowBy (askedOf n x w) (w .shelf))
+    ▷ withShelf (shelfBy (askedOf n x w) (w .shelf))
+
 -- where the Rust calls decode_request, a request row (01, What moves over); a waiting payload is counted under its own T row
 abbrev pub effectStep : Effect → ℕ → World → World
 effectStep NoEffect x w = w
 effectStep (NewDevice address) x w = w ▷ addDevice address
-effectStep (Request n) x w = w ▷ push (RequestRow (asking x (w .endpoints x .setup) n))
+effectStep (Request n) x w = w ▷ decodeRequest n x
 effectStep (PendingData n) x w = w ▷ change x (withPending n (w .transaction .link))
 effectStep (IndexData n waited i) x w =
     w ▷ push (D x (pick waited i (w .transaction .link)) (w .endpoints x .total))

@@ -1,6 +1,6 @@
 -- To be believed: the rows that the rules append, and the twelve logs that they go to (01, Trace and listing). A journal has the rows of all logs, the newest
 -- first.
--- Hold it to: the vectors of capture.rs that decoder.rs pushes to; 01, "Trace and listing": what a line of each kind has
+-- Hold it to: the vectors of capture.rs that decoder.rs pushes to; 01, "Trace and listing": what a line of each kind has; 02, 2: "The request row stays and gains a note"
 use mathlib.Core.Bool.{Bool}
 use mathlib.Core.List.{List, [], _∷_, _++_}
 use Prim.Native.Nat.{ℕ}
@@ -20,11 +20,13 @@ pub record Group : Type 0 where
   pub group : ℕ
   pub start : Bool
 
--- where the Rust calls decode_request: the endpoint, the setup bytes as one number, the payload's length
+-- where the Rust calls decode_request: the endpoint, the setup bytes as one number, the payload's length, and the note of what was taken (02, 2;
+-- descriptors, Complete: noteOf)
 pub record Asked : Type 0 where
   pub endpoint : ℕ
   pub setup : ℕ
   pub length : ℕ
+  pub note : ℕ
 
 abbrev pub naming : ℕ → Named
 naming packet = record { packet = packet }
@@ -32,8 +34,8 @@ naming packet = record { packet = packet }
 abbrev pub grouping : ℕ → ℕ → Bool → Group
 grouping x g start = record { endpoint = x; group = g; start = start }
 
-abbrev pub asking : ℕ → ℕ → ℕ → Asked
-asking x setup n = record { endpoint = x; setup = setup; length = n }
+abbrev pub asking : ℕ → ℕ → ℕ → ℕ → Asked
+asking x setup n note = record { endpoint = x; setup = setup; length = n; note = note }
 
 abbrev pub transactionWords : Named → List ℕ
 transactionWords r = r .packet ∷ []
@@ -42,7 +44,7 @@ abbrev pub groupWords : Group → List ℕ
 groupWords r = r .endpoint ∷ r .group ∷ one (r .start) ∷ []
 
 abbrev pub requestWords : Asked → List ℕ
-requestWords r = r .endpoint ∷ r .setup ∷ r .length ∷ []
+requestWords r = r .endpoint ∷ r .setup ∷ r .length ∷ r .note ∷ []
 
 pub data Row : Type 0 where
   -- packet bytes

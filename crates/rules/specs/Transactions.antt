@@ -1,24 +1,28 @@
 -- To be believed: the functions of decoder.rs from transaction_update to transaction_end. A function stands below those that it calls.
--- Hold it to: transaction_update, transaction_start, transaction_append, transaction_end and endpoint_id of decoder.rs; 01, "Rules of a transaction" and answer 8
+-- Hold it to: transaction_update, transaction_start, transaction_append, transaction_end and endpoint_id of decoder.rs; 01, "Rules of a transaction" and answer 8; 02, 2: "Control payloads are now kept"
 use mathlib.Core.Bool.{Bool, true, false, _&&_, not}
 use mathlib.Core.List.{List}
-use Prim.Native.Nat.{ℕ, suc}
+use Prim.Native.Nat.{ℕ, suc, _*_}
 use lib.Dec.{eqb, ltb}
 use lib.ListN.{length}
-use Rattle.usb.specs.Pid.{SPLIT, MALFORMED}
+use Rattle.usb.specs.Packet.{payloadOf}
+use Rattle.usb.specs.Pid.{DATA0, DATA1, SPLIT, MALFORMED}
 use Rattle.usb.specs.Types.{Complete}
 use Rattle.usb.specs.Fields.{splitOf, setupDataOf}
-use Rattle.transaction.specs.Table.{pick}
+use Rattle.transaction.specs.Table.{pick, only, _or_}
 use Rattle.transaction.specs.Status.{transactionStatus}
-use Rattle.transaction.specs.Payload.{extractPayload}
+use Rattle.transaction.specs.Payload.{takesSetup, extractPayload}
 use Rattle.transaction.specs.declared.Transaction.{Transaction}
 use Rattle.transaction.specs.declared.Style.{Style}
 use Rattle.transaction.specs.declared.Style.the-variants.{Nothing, Simple, Split, Token}
 use Rattle.transaction.specs.declared.Status.{Status}
 use Rattle.transaction.specs.declared.Status.the-variants.{New, Continue, Retry, Done, Fail, Ambiguous, Invalid}
 use Rattle.details.specs.Kind.{Unknown}
+use Rattle.descriptors.specs.Kind.{kindOf}
+use Rattle.descriptors.specs.Laid.{isLaid, laid}
+use Rattle.endpoints.specs.declared.Endpoint.{Endpoint}
 use Rattle.rules.specs.Rows.{TransactionRow, naming}
-use Rattle.rules.specs.World.{World, _▷_, invalidEp, withSlot, withTransaction, withTransactions, push, withId, withPid, withToken, newTransaction}
+use Rattle.rules.specs.World.{World, _▷_, invalidEp, withSlot, withTransaction, withShelf, withTransactions, push, withId, withPid, withToken, newTransaction}
 use Rattle.rules.specs.Endpoints.{packetEndpoint, endpointOf, detailOf, setEndpointType}
 use Rattle.rules.specs.Groups.{link, groupUpdate, groupEarlyAppend, groupEarlyStart}
 use Rattle.rules.specs.declared.Slot.{Slot}
@@ -122,13 +126,34 @@ completes (Simple first) s = true
 completes (Split sc kind) s = eqb sc Complete && not (isRetry s)
 completes (Token sc kind token) s = eqb sc Complete && not (isRetry s)
 
+-- whether a packet brings a payload that is no setup data, as extract_payload tells it (transaction, Payload)
+abbrev pub isPayload : Style → ℕ → Bool
+isPayload style pid = (DATA0 or only DATA1) pid && not (eqb pid DATA0 && takesSetup style)
+
+-- 02, 2: "Control payloads are now kept": of an endpoint whose setup data are a read (descriptors, Laid); a split without its token has no endpoint yet
+abbrev pub isKept : Transaction → Endpoint → ℕ → Bool
+isKept t e pid = isPayload (t .style) pid && (not (eqb (t .endpoint) 0) && isLaid (kindOf (e .setup)))
+
+-- behind the bytes of the request that count so far; it counts where the transaction's end counts it
+abbrev pub shelfWith : Bool → Endpoint → List ℕ → List ℕ → List ℕ
+shelfWith keeps e packet shelf = pick keeps (laid (e .device * 8192) (e .payload) (payloadOf packet) shelf) shelf
+
+abbrev pub keepPayload : ℕ → List ℕ → World → World
+keepPayload pid packet w =
+    let e = w .endpoints (w .transaction .endpoint) in
+    withShelf (shelfWith (isKept (w .transaction) e pid) e packet (w .shelf)) w
+
 -- state.extract_payload(pid, packet)
+abbrev pub brought : ℕ → List ℕ → World → World
+brought pid packet w = withTransaction (extractPayload (w .transaction) pid (length packet) (setupDataOf packet)) w
+
+-- the same of a packet that the transaction goes on with: the Rust's payload: Vec<u8>, whose bytes a packet alone has
 abbrev pub extracted : ℕ → List ℕ → World → World
-extracted pid packet w = withTransaction (extractPayload (w .transaction) pid (length packet) (setupDataOf packet)) w
+extracted pid packet w = w ▷ keepPayload pid packet ▷ brought pid packet
 
 abbrev pub updateAt : Status → ℕ → ℕ → List ℕ → Bool → World → World
 updateAt New id pid packet complete w =
-    w ▷ extracted pid packet ▷ transactionEnd false false ▷ transactionStart id pid packet ▷ groupEarlyAppend
+    w ▷ brought pid packet ▷ transactionEnd false false ▷ transactionStart id pid packet ▷ groupEarlyAppend
 updateAt Continue id pid packet complete w = w ▷ extracted pid packet ▷ transactionAppend pid packet ▷ groupEarlyAppend
 updateAt Retry id pid packet complete w = w ▷ extracted pid packet ▷ transactionAppend pid packet ▷ transactionEnd true complete
 updateAt Done id pid packet complete w = w ▷ extracted pid packet ▷ transactionAppend pid packet ▷ transactionEnd true complete

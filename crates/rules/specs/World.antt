@@ -37,6 +37,8 @@ pub record World : Type 0 where
   pub keepalive : Bool
   -- what the call that is running brings: its packet row's number and time. It is no part of the state: each call that has a packet row sets it first
   pub context : Stamp
+  -- 02, 2: what a caller lends to keep control payloads and descriptors in: 8,192 bytes for each device, in their order (descriptors, Complete)
+  pub shelf : List ℕ
   -- how many packet bytes, packet rows, transaction rows, group rows, state bytes and item rows there are
   pub bytes : ℕ
   pub packets : ℕ
@@ -48,9 +50,9 @@ pub record World : Type 0 where
   pub journal : List Row
 
 -- World from its fields, in their order
-abbrev pub makeWorld : (ℕ → Endpoint) → ℕ → (ℕ → Device) → ℕ → Slot → Transaction → ℕ → EventState → Bool → Stamp
+abbrev pub makeWorld : (ℕ → Endpoint) → ℕ → (ℕ → Device) → ℕ → Slot → Transaction → ℕ → EventState → Bool → Stamp → List ℕ
     → ℕ → ℕ → ℕ → ℕ → ℕ → ℕ → List Row → World
-makeWorld endpoints count devices deviceCount slot transaction lastItem eventState keepalive context
+makeWorld endpoints count devices deviceCount slot transaction lastItem eventState keepalive context shelf
     bytes packets transactions groups stateBytes items journal =
     record {
       endpoints = endpoints;
@@ -63,6 +65,7 @@ makeWorld endpoints count devices deviceCount slot transaction lastItem eventSta
       eventState = eventState;
       keepalive = keepalive;
       context = context;
+      shelf = shelf;
       bytes = bytes;
       packets = packets;
       transactions = transactions;
@@ -101,71 +104,75 @@ lastGroup x w = pred (w .endpoints x .groups)
 
 abbrev pub withEndpoints : (ℕ → Endpoint) → World → World
 withEndpoints a w = makeWorld a (w .count) (w .devices) (w .deviceCount) (w .slot) (w .transaction) (w .lastItem) (w .eventState) (w .keepalive)
-    (w .context) (w .bytes) (w .packets) (w .transactions) (w .groups) (w .stateBytes) (w .items) (w .journal)
+    (w .context) (w .shelf) (w .bytes) (w .packets) (w .transactions) (w .groups) (w .stateBytes) (w .items) (w .journal)
 
 abbrev pub withCount : ℕ → World → World
 withCount a w = makeWorld (w .endpoints) a (w .devices) (w .deviceCount) (w .slot) (w .transaction) (w .lastItem) (w .eventState) (w .keepalive)
-    (w .context) (w .bytes) (w .packets) (w .transactions) (w .groups) (w .stateBytes) (w .items) (w .journal)
+    (w .context) (w .shelf) (w .bytes) (w .packets) (w .transactions) (w .groups) (w .stateBytes) (w .items) (w .journal)
 
 abbrev pub withDevices : (ℕ → Device) → World → World
 withDevices a w = makeWorld (w .endpoints) (w .count) a (w .deviceCount) (w .slot) (w .transaction) (w .lastItem) (w .eventState) (w .keepalive)
-    (w .context) (w .bytes) (w .packets) (w .transactions) (w .groups) (w .stateBytes) (w .items) (w .journal)
+    (w .context) (w .shelf) (w .bytes) (w .packets) (w .transactions) (w .groups) (w .stateBytes) (w .items) (w .journal)
 
 abbrev pub withDeviceCount : ℕ → World → World
 withDeviceCount a w = makeWorld (w .endpoints) (w .count) (w .devices) a (w .slot) (w .transaction) (w .lastItem) (w .eventState) (w .keepalive)
-    (w .context) (w .bytes) (w .packets) (w .transactions) (w .groups) (w .stateBytes) (w .items) (w .journal)
+    (w .context) (w .shelf) (w .bytes) (w .packets) (w .transactions) (w .groups) (w .stateBytes) (w .items) (w .journal)
 
 abbrev pub withSlot : Slot → World → World
 withSlot a w = makeWorld (w .endpoints) (w .count) (w .devices) (w .deviceCount) a (w .transaction) (w .lastItem) (w .eventState) (w .keepalive)
-    (w .context) (w .bytes) (w .packets) (w .transactions) (w .groups) (w .stateBytes) (w .items) (w .journal)
+    (w .context) (w .shelf) (w .bytes) (w .packets) (w .transactions) (w .groups) (w .stateBytes) (w .items) (w .journal)
 
 abbrev pub withTransaction : Transaction → World → World
 withTransaction a w = makeWorld (w .endpoints) (w .count) (w .devices) (w .deviceCount) (w .slot) a (w .lastItem) (w .eventState) (w .keepalive)
-    (w .context) (w .bytes) (w .packets) (w .transactions) (w .groups) (w .stateBytes) (w .items) (w .journal)
+    (w .context) (w .shelf) (w .bytes) (w .packets) (w .transactions) (w .groups) (w .stateBytes) (w .items) (w .journal)
 
 abbrev pub withLastItem : ℕ → World → World
 withLastItem a w = makeWorld (w .endpoints) (w .count) (w .devices) (w .deviceCount) (w .slot) (w .transaction) a (w .eventState) (w .keepalive)
-    (w .context) (w .bytes) (w .packets) (w .transactions) (w .groups) (w .stateBytes) (w .items) (w .journal)
+    (w .context) (w .shelf) (w .bytes) (w .packets) (w .transactions) (w .groups) (w .stateBytes) (w .items) (w .journal)
 
 abbrev pub withEventState : EventState → World → World
 withEventState a w = makeWorld (w .endpoints) (w .count) (w .devices) (w .deviceCount) (w .slot) (w .transaction) (w .lastItem) a (w .keepalive)
-    (w .context) (w .bytes) (w .packets) (w .transactions) (w .groups) (w .stateBytes) (w .items) (w .journal)
+    (w .context) (w .shelf) (w .bytes) (w .packets) (w .transactions) (w .groups) (w .stateBytes) (w .items) (w .journal)
 
 abbrev pub withKeepalive : Bool → World → World
 withKeepalive a w = makeWorld (w .endpoints) (w .count) (w .devices) (w .deviceCount) (w .slot) (w .transaction) (w .lastItem) (w .eventState) a
-    (w .context) (w .bytes) (w .packets) (w .transactions) (w .groups) (w .stateBytes) (w .items) (w .journal)
+    (w .context) (w .shelf) (w .bytes) (w .packets) (w .transactions) (w .groups) (w .stateBytes) (w .items) (w .journal)
 
 abbrev pub withContext : Stamp → World → World
 withContext a w = makeWorld (w .endpoints) (w .count) (w .devices) (w .deviceCount) (w .slot) (w .transaction) (w .lastItem) (w .eventState)
-    (w .keepalive) a (w .bytes) (w .packets) (w .transactions) (w .groups) (w .stateBytes) (w .items) (w .journal)
+    (w .keepalive) a (w .shelf) (w .bytes) (w .packets) (w .transactions) (w .groups) (w .stateBytes) (w .items) (w .journal)
+
+abbrev pub withShelf : List ℕ → World → World
+withShelf a w = makeWorld (w .endpoints) (w .count) (w .devices) (w .deviceCount) (w .slot) (w .transaction) (w .lastItem) (w .eventState)
+    (w .keepalive) (w .context) a (w .bytes) (w .packets) (w .transactions) (w .groups) (w .stateBytes) (w .items) (w .journal)
 
 abbrev pub withBytes : ℕ → World → World
 withBytes a w = makeWorld (w .endpoints) (w .count) (w .devices) (w .deviceCount) (w .slot) (w .transaction) (w .lastItem) (w .eventState)
-    (w .keepalive) (w .context) a (w .packets) (w .transactions) (w .groups) (w .stateBytes) (w .items) (w .journal)
+    (w .keepalive) (w .context) (w .shelf) a (w .packets) (w .transactions) (w .groups) (w .stateBytes) (w .items) (w .journal)
 
 abbrev pub withPackets : ℕ → World → World
 withPackets a w = makeWorld (w .endpoints) (w .count) (w .devices) (w .deviceCount) (w .slot) (w .transaction) (w .lastItem) (w .eventState)
-    (w .keepalive) (w .context) (w .bytes) a (w .transactions) (w .groups) (w .stateBytes) (w .items) (w .journal)
+    (w .keepalive) (w .context) (w .shelf) (w .bytes) a (w .transactions) (w .groups) (w .stateBytes) (w .items) (w .journal)
 
 abbrev pub withTransactions : ℕ → World → World
 withTransactions a w = makeWorld (w .endpoints) (w .count) (w .devices) (w .deviceCount) (w .slot) (w .transaction) (w .lastItem) (w .eventState)
-    (w .keepalive) (w .context) (w .bytes) (w .packets) a (w .groups) (w .stateBytes) (w .items) (w .journal)
+    (w .keepalive) (w .context) (w .shelf) (w .bytes) (w .packets) a (w .groups) (w .stateBytes) (w .items) (w .journal)
 
 abbrev pub withGroups : ℕ → World → World
 withGroups a w = makeWorld (w .endpoints) (w .count) (w .devices) (w .deviceCount) (w .slot) (w .transaction) (w .lastItem) (w .eventState)
-    (w .keepalive) (w .context) (w .bytes) (w .packets) (w .transactions) a (w .stateBytes) (w .items) (w .journal)
+    (w .keepalive) (w .context) (w .shelf) (w .bytes) (w .packets) (w .transactions) a (w .stateBytes) (w .items) (w .journal)
 
 abbrev pub withStateBytes : ℕ → World → World
 withStateBytes a w = makeWorld (w .endpoints) (w .count) (w .devices) (w .deviceCount) (w .slot) (w .transaction) (w .lastItem) (w .eventState)
-    (w .keepalive) (w .context) (w .bytes) (w .packets) (w .transactions) (w .groups) a (w .items) (w .journal)
+    (w .keepalive) (w .context) (w .shelf) (w .bytes) (w .packets) (w .transactions) (w .groups) a (w .items) (w .journal)
 
 abbrev pub withItems : ℕ → World → World
 withItems a w = makeWorld (w .endpoints) (w .count) (w .devices) (w .deviceCount) (w .slot) (w .transaction) (w .lastItem) (w .eventState)
-    (w .keepalive) (w .context) (w .bytes) (w .packets) (w .transactions) (w .groups) (w .stateBytes) a (w .journal)
+    (w .keepalive) (w .context) (w .shelf) (w .bytes) (w .packets) (w .transactions) (w .groups) (w .stateBytes) a (w .journal)
 
 abbrev pub withJournal : List Row → World → World
 withJournal a w = makeWorld (w .endpoints) (w .count) (w .devices) (w .deviceCount) (w .slot) (w .transaction) (w .lastItem) (w .eventState)
-    (w .keepalive) (w .context) (w .bytes) (w .packets) (w .transactions) (w .groups) (w .stateBytes) (w .items) a
+    (w .keepalive) (w .context) (w .shelf) (w .bytes) (w .packets) (w .transactions) (w .groups) (w .stateBytes) (w .items) a
 
 -- ---- what a call brings
 

@@ -15,21 +15,21 @@ use Rattle.call.specs.State.{Logs, State, state}
 use Rattle.start.specs.Fresh.{Makes, unmade, noDevices}
 use Rattle.start.specs.FreshLaws.{made-on}
 use Rattle.events.specs.Call.{FinishCall}
-use Rattle.step.specs.Block.{Takes}
+use Rattle.step.specs.Block.{Stand, stand, Takes}
 use Rattle.run.specs.Run.{Runs, Ran}
 use Rattle.run.specs.Run.Ran.{wrong, refused, runs}
 use Rattle.run.specs.Run.Runs.{ends, stops}
 
 -- ---- the records, and finish
 
-module _ {trace : List ℕ} {at n e b p : ℕ} {c c′ : Clock} {s s′ : State} (h : at ≡ 5) (k : c ≡ stopped) (x : Takes trace at c s n e b p c′ s′) where
+module _ {trace : List ℕ} {at n e b p : ℕ} {c c′ : Clock} {s s′ : Stand} (h : at ≡ 5) (k : c ≡ stopped) (x : Takes trace at c s n e b p c′ s′) where
   begun : Takes trace 5 stopped s n e b p c′ s′
   begun = subst (λ (i : ℕ). Takes trace i stopped s n e b p c′ s′) h (subst (λ (u : Clock). Takes trace at u s n e b p c′ s′) k x)
 
   pub runs-stops : (b ≡ 0 → ⊥) → Runs trace 5 stopped s b p s′
   runs-stops ne = stops begun ne
 
-  pub runs-ends : {a : ℕ} {s″ : State} → b ≡ 0 → FinishCall s′ a s″ → Runs trace 5 stopped s a (length trace) s″
+  pub runs-ends : {a : ℕ} {s″ : State} → b ≡ 0 → FinishCall (s′ .state) a s″ → Runs trace 5 stopped s a (length trace) (stand s″ (s′ .shelf))
   runs-ends z f = ends (subst (λ (i : ℕ). Takes trace 5 stopped s n e i p c′ s′) z begun) f
 
 -- ---- the whole trace
@@ -37,18 +37,18 @@ module _ {trace : List ℕ} {at n e b p : ℕ} {c c′ : Clock} {s s′ : State}
 answered : (trace : List ℕ) {h : Header} {a : ℕ} → h ≡ headerOf trace → a ≡ headerAnswer h → a ≡ headerAnswer (headerOf trace)
 answered trace f k = k ∙ ap headerAnswer f
 
-module _ {trace t : List ℕ} {l : Logs} {d : Device} {h : Header} {a : ℕ} (e : d ≡ fresh 0) (f : h ≡ headerOf trace) (k : a ≡ headerAnswer h) where
-  pub ran-wrong : {p : ℕ} {r : Decoder} → (a ≡ 0 → ⊥) → r ≡ refusedDecoder → p ≡ headerPlace h → Ran trace t l a p (state r (replicate 64 d) t l)
+module _ {trace t : List ℕ} {l : Logs} {shelf : List ℕ} {d : Device} {h : Header} {a : ℕ} (e : d ≡ fresh 0) (f : h ≡ headerOf trace) (k : a ≡ headerAnswer h) where
+  pub ran-wrong : {p : ℕ} {r : Decoder} → (a ≡ 0 → ⊥) → r ≡ refusedDecoder → p ≡ headerPlace h → Ran trace t l shelf a p (stand (state r (replicate 64 d) t l) shelf)
   unfolding unmade
   ran-wrong {p} {r} n u v =
       let g = answered trace f k in
       let left : state r (replicate 64 d) t l ≡ unmade noDevices t l = λ i. state (u i) (replicate 64 (e i)) t l in
-      subst (λ (x : ℕ). Ran trace t l x p (state r (replicate 64 d) t l)) (sym g)
-      (subst (λ (x : ℕ). Ran trace t l (headerAnswer (headerOf trace)) x (state r (replicate 64 d) t l)) (sym (v ∙ ap headerPlace f))
-      (subst (λ (x : State). Ran trace t l (headerAnswer (headerOf trace)) (headerPlace (headerOf trace)) x) (sym left) (wrong (λ z. n (g ∙ z)))))
+      subst (λ (x : ℕ). Ran trace t l shelf x p (stand (state r (replicate 64 d) t l) shelf)) (sym g)
+      (subst (λ (x : ℕ). Ran trace t l shelf (headerAnswer (headerOf trace)) x (stand (state r (replicate 64 d) t l) shelf)) (sym (v ∙ ap headerPlace f))
+      (subst (λ (x : State). Ran trace t l shelf (headerAnswer (headerOf trace)) (headerPlace (headerOf trace)) (stand x shelf)) (sym left) (wrong (λ z. n (g ∙ z)))))
 
-  pub ran-refused : {b : ℕ} {s : State} → Makes (replicate 64 d) t l b s → a ≡ 0 → (b ≡ 0 → ⊥) → Ran trace t l b 0 s
+  pub ran-refused : {b : ℕ} {s : State} → Makes (replicate 64 d) t l b s → a ≡ 0 → (b ≡ 0 → ⊥) → Ran trace t l shelf b 0 (stand s shelf)
   ran-refused m z n = refused (sym (answered trace f k) ∙ z) (made-on e m) n
 
-  pub ran-made : {b j p : ℕ} {s s′ : State} → Makes (replicate 64 d) t l b s → a ≡ 0 → b ≡ 0 → Runs trace 5 stopped s j p s′ → Ran trace t l j p s′
+  pub ran-made : {b j p : ℕ} {s : State} {s′ : Stand} → Makes (replicate 64 d) t l b s → a ≡ 0 → b ≡ 0 → Runs trace 5 stopped (stand s shelf) j p s′ → Ran trace t l shelf j p s′
   ran-made {s = s} m z y r = runs (sym (answered trace f k) ∙ z) (subst (λ (x : ℕ). Makes noDevices t l x s) y (made-on e m)) r

@@ -10,26 +10,30 @@ use Rattle.trace.specs.declared.clock.Clock.{Clock}
 use Rattle.call.specs.State.{Logs, State}
 use Rattle.start.specs.Fresh.{Makes, unmade, noDevices}
 use Rattle.events.specs.Call.{FinishCall}
-use Rattle.step.specs.Block.{Takes}
+use Rattle.step.specs.Block.{Stand, stand, Takes}
 
 -- ---- the records from a place on
 
--- from the place `at` on, with this clock, on the state s: the run ends with the answer a at the place p, and leaves s′. Its records are a block (block, Block). At
+-- from the place `at` on, with this clock, on s: the run ends with the answer a at the place p, and leaves s′. Its records are a block (block, Block). At
 -- the trace's end finish is called, at "the trace's length"; a record that is refused stops the run at "the record's offset in the trace"; "8 prints nothing and
 -- the run goes on"
-pub data Runs (trace : List ℕ) : ℕ → Clock → State → ℕ → ℕ → State → Type 0 where
-  ends : {at n e a p : ℕ} {c c′ : Clock} {s s′ s″ : State} → Takes trace at c s n e 0 p c′ s′ → FinishCall s′ a s″ → Runs trace at c s a (length trace) s″
-  stops : {at n e a p : ℕ} {c c′ : Clock} {s s′ : State} → Takes trace at c s n e a p c′ s′ → (a ≡ 0 → ⊥) → Runs trace at c s a p s′
+pub data Runs (trace : List ℕ) : ℕ → Clock → Stand → ℕ → ℕ → Stand → Type 0 where
+  ends : {at n e a p : ℕ} {c c′ : Clock} {s s′ : Stand} {s″ : State}
+      → Takes trace at c s n e 0 p c′ s′
+      → FinishCall (s′ .state) a s″
+      → Runs trace at c s a (length trace) (stand s″ (s′ .shelf))
+  stops : {at n e a p : ℕ} {c c′ : Clock} {s s′ : Stand} → Takes trace at c s n e a p c′ s′ → (a ≡ 0 → ⊥) → Runs trace at c s a p s′
 
 -- ---- the whole trace
 
--- a trace on this table and these logs: the answer (0: finished), the place, and what is left. A wrong header leaves what a refused decoder leaves; a
+-- a trace on this table, these logs and the shelf h: the answer (0: finished), the place, and what is left. A wrong header leaves what a refused decoder leaves; a
 -- decoder that can't be made is refused at 0 (docs/DECISIONS.md, 2); records start behind the header
-pub data Ran (trace t : List ℕ) (l : Logs) : ℕ → ℕ → State → Type 0 where
-  wrong : (headerAnswer (headerOf trace) ≡ 0 → ⊥) → Ran trace t l (headerAnswer (headerOf trace)) (headerPlace (headerOf trace)) (unmade noDevices t l)
-  refused : {a : ℕ} {s : State} → headerAnswer (headerOf trace) ≡ 0 → Makes noDevices t l a s → (a ≡ 0 → ⊥) → Ran trace t l a 0 s
-  runs : {a p : ℕ} {s s′ : State}
+pub data Ran (trace t : List ℕ) (l : Logs) (h : List ℕ) : ℕ → ℕ → Stand → Type 0 where
+  wrong : (headerAnswer (headerOf trace) ≡ 0 → ⊥)
+      → Ran trace t l h (headerAnswer (headerOf trace)) (headerPlace (headerOf trace)) (stand (unmade noDevices t l) h)
+  refused : {a : ℕ} {s : State} → headerAnswer (headerOf trace) ≡ 0 → Makes noDevices t l a s → (a ≡ 0 → ⊥) → Ran trace t l h a 0 (stand s h)
+  runs : {a p : ℕ} {s : State} {s′ : Stand}
       → headerAnswer (headerOf trace) ≡ 0
       → Makes noDevices t l 0 s
-      → Runs trace 5 stopped s a p s′
-      → Ran trace t l a p s′
+      → Runs trace 5 stopped (stand s h) a p s′
+      → Ran trace t l h a p s′

@@ -5,6 +5,7 @@ use endpoints::Table;
 use events::finish;
 use record::Decoder;
 use record::fresh::refused_decoder;
+use shelving::Shelf;
 use start::fresh::fresh;
 use trace::check_header;
 use trace::first;
@@ -13,6 +14,7 @@ use trace::header_place;
 ghost use mathlib.Core.Path.{_≡_};
 ghost use Rattle.trace.specs.Clock.{stopped};
 ghost use Rattle.call.specs.State.{state, logs};
+ghost use Rattle.step.specs.Block.{stand};
 ghost use Rattle.run.specs.Run.{Runs, Ran};
 
 // A run's end: the answer (0: finished), its place in the trace, and the decoder.
@@ -41,8 +43,9 @@ fn records(
     items: &mut [u64],
     links: &mut [u64],
     requests: &mut [u64],
+    shelf: &mut Shelf,
 ) -> Done
-    ensures { λ r. ⌜ Runs (now (trace .entry)) 5 stopped (state decoder devices (now (table .entry)) (logs (now (bytes .entry)) (now («device_rows» .entry)) (now («endpoint_rows» .entry)) (now (packets .entry)) (now (events .entry)) (now (transactions .entry)) (now (groups .entry)) (now (statebytes .entry)) (now (states .entry)) (now (items .entry)) (now (links .entry)) (now (requests .entry)))) (r .answer) (r .place) (state (r .decoder) (r .devices) (now (table .exit)) (logs (now (bytes .exit)) (now («device_rows» .exit)) (now («endpoint_rows» .exit)) (now (packets .exit)) (now (events .exit)) (now (transactions .exit)) (now (groups .exit)) (now (statebytes .exit)) (now (states .exit)) (now (items .exit)) (now (links .exit)) (now (requests .exit)))) ⌝ }
+    ensures { λ r. ⌜ Runs (now (trace .entry)) 5 stopped (stand (state decoder devices (now (table .entry)) (logs (now (bytes .entry)) (now («device_rows» .entry)) (now («endpoint_rows» .entry)) (now (packets .entry)) (now (events .entry)) (now (transactions .entry)) (now (groups .entry)) (now (statebytes .entry)) (now (states .entry)) (now (items .entry)) (now (links .entry)) (now (requests .entry)))) (now (shelf .entry))) (r .answer) (r .place) (stand (state (r .decoder) (r .devices) (now (table .exit)) (logs (now (bytes .exit)) (now («device_rows» .exit)) (now («endpoint_rows» .exit)) (now (packets .exit)) (now (events .exit)) (now (transactions .exit)) (now (groups .exit)) (now (statebytes .exit)) (now (states .exit)) (now (items .exit)) (now (links .exit)) (now (requests .exit)))) (now (shelf .exit))) ⌝ }
 {
     let start = first();
     let r = block::records(
@@ -64,6 +67,7 @@ fn records(
         items,
         links,
         requests,
+        shelf,
     );
     let answer = r.answer;
     let decoder = r.decoder;
@@ -104,7 +108,7 @@ fn records(
     }
 }
 
-// The trace on the lent table and logs: 10 or 11 for its header, what a decoder that can't be made answers, or what its records come to.
+// The trace on the lent table, logs and shelf: 10 or 11 for its header, what a decoder that can't be made answers, or what its records come to.
 pub fn run(
     trace: &[u8],
     table: &mut Table,
@@ -120,8 +124,9 @@ pub fn run(
     items: &mut [u64],
     links: &mut [u64],
     requests: &mut [u64],
+    shelf: &mut Shelf,
 ) -> Done
-    ensures { λ r. ⌜ Ran (now (trace .entry)) (now (table .entry)) (logs (now (bytes .entry)) (now («device_rows» .entry)) (now («endpoint_rows» .entry)) (now (packets .entry)) (now (events .entry)) (now (transactions .entry)) (now (groups .entry)) (now (statebytes .entry)) (now (states .entry)) (now (items .entry)) (now (links .entry)) (now (requests .entry))) (r .answer) (r .place) (state (r .decoder) (r .devices) (now (table .exit)) (logs (now (bytes .exit)) (now («device_rows» .exit)) (now («endpoint_rows» .exit)) (now (packets .exit)) (now (events .exit)) (now (transactions .exit)) (now (groups .exit)) (now (statebytes .exit)) (now (states .exit)) (now (items .exit)) (now (links .exit)) (now (requests .exit)))) ⌝ }
+    ensures { λ r. ⌜ Ran (now (trace .entry)) (now (table .entry)) (logs (now (bytes .entry)) (now («device_rows» .entry)) (now («endpoint_rows» .entry)) (now (packets .entry)) (now (events .entry)) (now (transactions .entry)) (now (groups .entry)) (now (statebytes .entry)) (now (states .entry)) (now (items .entry)) (now (links .entry)) (now (requests .entry))) (now (shelf .entry)) (r .answer) (r .place) (stand (state (r .decoder) (r .devices) (now (table .exit)) (logs (now (bytes .exit)) (now («device_rows» .exit)) (now («endpoint_rows» .exit)) (now (packets .exit)) (now (events .exit)) (now (transactions .exit)) (now (groups .exit)) (now (statebytes .exit)) (now (states .exit)) (now (items .exit)) (now (links .exit)) (now (requests .exit)))) (now (shelf .exit))) ⌝ }
 {
     let blank = fresh_device(0);
     let devices = [blank; 64];
@@ -180,5 +185,6 @@ pub fn run(
         items,
         links,
         requests,
+        shelf,
     )
 }

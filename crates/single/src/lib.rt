@@ -4,6 +4,7 @@ use endpoints::Table;
 use events::event;
 use packet::packet;
 use record::Decoder;
+use shelving::Shelf;
 use start::detail::detail;
 use step::Stepped;
 use step::over;
@@ -14,6 +15,7 @@ use trace::clock::tick;
 ghost use mathlib.Core.Path.{_≡_};
 ghost use Rattle.trace.specs.Trace.{nextAt};
 ghost use Rattle.call.specs.State.{state, logs};
+ghost use Rattle.step.specs.Block.{stand};
 ghost use Rattle.step.specs.Step.{Steps};
 
 // What was found at this place: a record, as its call; or no whole record, and then nothing is called.
@@ -37,9 +39,10 @@ pub fn single_step(
     items: &mut [u64],
     links: &mut [u64],
     requests: &mut [u64],
+    shelf: &mut Shelf,
 ) -> Stepped
     requires { ⌜ found ≡ nextAt (now records) at ⌝ }
-    ensures { λ r. ⌜ Steps (now (records .entry)) at clock (state d devices (now (table .entry)) (logs (now (bytes .entry)) (now («device_rows» .entry)) (now («endpoint_rows» .entry)) (now (packets .entry)) (now (events .entry)) (now (transactions .entry)) (now (groups .entry)) (now (statebytes .entry)) (now (states .entry)) (now (items .entry)) (now (links .entry)) (now (requests .entry)))) r (now (table .exit)) (logs (now (bytes .exit)) (now («device_rows» .exit)) (now («endpoint_rows» .exit)) (now (packets .exit)) (now (events .exit)) (now (transactions .exit)) (now (groups .exit)) (now (statebytes .exit)) (now (states .exit)) (now (items .exit)) (now (links .exit)) (now (requests .exit))) ⌝ }
+    ensures { λ r. ⌜ Steps (now (records .entry)) at clock (stand (state d devices (now (table .entry)) (logs (now (bytes .entry)) (now («device_rows» .entry)) (now («endpoint_rows» .entry)) (now (packets .entry)) (now (events .entry)) (now (transactions .entry)) (now (groups .entry)) (now (statebytes .entry)) (now (states .entry)) (now (items .entry)) (now (links .entry)) (now (requests .entry)))) (now (shelf .entry))) r (now (table .exit)) (logs (now (bytes .exit)) (now («device_rows» .exit)) (now («endpoint_rows» .exit)) (now (packets .exit)) (now (events .exit)) (now (transactions .exit)) (now (groups .exit)) (now (statebytes .exit)) (now (states .exit)) (now (items .exit)) (now (links .exit)) (now (requests .exit))) (now (shelf .exit)) ⌝ }
 {
     match found {
         Next::Packet {
@@ -67,6 +70,7 @@ pub fn single_step(
                 items,
                 links,
                 requests,
+                shelf,
             );
             let answer = r.answer;
             let decoder = r.decoder;

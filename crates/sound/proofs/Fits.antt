@@ -30,10 +30,10 @@ use Rattle.rules.proofs.Linked.{token-slot, resume-links, extract-links}
 use Rattle.rules.proofs.Seen.{Seen, append-seen}
 use Rattle.rules.proofs.Tokened.{resumes}
 use Rattle.rules.specs.Rows.{Row, EventRow}
-use Rattle.rules.specs.World.{World, stamped, push, withSlot, withTransaction, withEventState, withKeepalive, withId, withPid, moreTransactions, newTransaction}
+use Rattle.rules.specs.World.{withShelf, World, stamped, push, withSlot, withTransaction, withEventState, withKeepalive, withId, withPid, moreTransactions, newTransaction}
 use Rattle.rules.specs.Endpoints.{deviceFor, packetEndpoint, endpointOf, typed, detailed, setEndpointType, setDetailOn}
 use Rattle.rules.specs.Groups.{addGroupEntry, pushGroup, link, groupUpdate, groupEarlyAppend}
-use Rattle.rules.specs.Transactions.{transactionEndAt, transactionEnd, appendToken, transactionAppend, pushTransaction, begin, typeOf, beginOn, beginSplit, beginPlain, transactionStart, resumeAt, stateAt, completes, extracted, updateAt, updateFrom, isDropped, transactionUpdate}
+use Rattle.rules.specs.Transactions.{brought, transactionEndAt, transactionEnd, appendToken, transactionAppend, pushTransaction, begin, typeOf, beginOn, beginSplit, beginPlain, transactionStart, resumeAt, stateAt, completes, extracted, updateAt, updateFrom, isDropped, transactionUpdate}
 use Rattle.rules.specs.Events.{eventAddSubgroup, eventLink, eventSubgroupStart, eventAddGroup, Act, nothing, single, group, subgroup, keepalive, turnOf, eventAct, eventUpdate}
 use Rattle.rules.specs.Decoder.{appendBytes, pushPacket, handleRawPacket, suspendAt, suspend, endPhase, overRow, overRows, endAllActive, endAll, handleEvent, finish, handleDetail}
 use Rattle.rules.specs.Demand.{Call, packet, event, detail, finishing, call}
@@ -46,8 +46,8 @@ use Rattle.record.specs.Formed.{standing, holds}
 use Rattle.sound.specs.Fit.{linkRows, HeldFit, Fit}
 use Rattle.sound.proofs.FitsTame.{StandsIn, begun, done, spread, one-changed, phased, more-transactions, longer, carries, held-as}
 use Rattle.sound.proofs.FitsGroups.{item-stands, entry-stands, group-stands, link-stands, groupEarlyStart-stands}
-use Rattle.sound.proofs.FitsPlaces.{Placed, placing, changed-device}
-use Rattle.sound.proofs.FitsUpdate.{Prompt, update-stands, append-stands}
+use Rattle.sound.proofs.FitsPlaces.{Placed, placing}
+use Rattle.sound.proofs.FitsUpdate.{changed-device, Prompt, update-stands, append-stands}
 use Rattle.sound.proofs.FitsWaits.{closing, split-on}
 
 -- between two functions
@@ -211,10 +211,10 @@ module _ (n : ℕ) where
             prompt-token (e .transaction .style) e (rw h at (extract-links pid p (w .slot) (w .transaction) (w .endpoints) l)) (λ sc kind g. d h sc kind (sym (extract-keeps (w .transaction) pid (length p) (setupDataOf p) .style) ∙ g))
 
     updates : (s : Status) (id : ℕ) (k : Bool) (w : World) → Tokened w → Linked w → (closing s ≡ true → NotOut w) → Fits n w → Fits n (updateAt s id pid p k w)
-    updates New id k w t l d f = early-fits (transactionStart id pid p v) (start-fits id pid p v (fail-fits false (extracted pid p w) (extract-fits w f)))
+    updates New id k w t l d f = early-fits (transactionStart id pid p v) (start-fits id pid p v (fail-fits false (brought pid p w) (extract-fits w f)))
       where
         v : World
-        v = transactionEnd false false (extracted pid p w)
+        v = transactionEnd false false (brought pid p w)
     updates Continue id k w t l d f = early-fits (transactionAppend pid p (extracted pid p w)) (appended-fits w t f)
     updates Retry id k w t l d f = closed-fits k w t l (d refl) f
     updates Done id k w t l d f = closed-fits k w t l (d refl) f
@@ -336,7 +336,7 @@ module _ (n : ℕ) where
 
   call-fits : (k : Call) (w : World) → Tokened w → Linked w → Fits n w → Fits n (call k w)
   unfolding handleDetail finish
-  call-fits (packet p time) w t l f = packet-fits p time w t l f
+  call-fits (packet p time shelf) w t l f = packet-fits p time (withShelf shelf w) t l f
   call-fits (event kind code time) w t l f = event-fits kind code time w f
   call-fits (detail a number r kind m) w t l f = detail-fits (deviceFor a w) number r kind m w f
   call-fits finishing w t l f = fail-fits false w f

@@ -17,7 +17,7 @@ use Rattle.endpoints.specs.declared.Endpoint.{Endpoint}
 use Rattle.details.specs.declared.Found.{Found}
 use Rattle.details.specs.declared.Found.the-variants.{At, Nothing}
 use Rattle.rules.proofs.Moves.{Spot, found-spot}
-use Rattle.rules.specs.World.{World, noItem, changeDevice}
+use Rattle.rules.specs.World.{World, noItem}
 use Rattle.endpoints.specs.Table.{newEndpoint}
 use Rattle.rules.specs.Endpoints.{addDevice, deviceFor, pushEndpoint, addEndpointOn, addressFor, found, packetEndpointAt, packetEndpoint, numberAt, endpointOf}
 use Rattle.record.specs.FormedLaws.{Special}
@@ -105,12 +105,3 @@ placing n b y pid p w s = by (found pid p w) (found-spot pid p w (s .three) (s .
         let a = addressFor pid (tokenOf p .number) in
         let q = added-count d (tokenOf p .address) a w in
         record { rows = added-rows d (tokenOf p .address) a w; stands = add-stands n b y d (tokenOf p .address) a w (last-is (λ i. eqb (w .devices i .address) (tokenOf p .address)) (w .deviceCount)) s; there = omega arith; real = λ z. omega (arith, s .three) }
-
--- ---- a device that keeps its address
-
-kept-address : (q : Bool) (d e : Device) → e .address ≡ d .address → pick q e d .address ≡ d .address
-kept-address true d e h = h
-kept-address false d e h = refl
-
-pub changed-device : (n : ℕ) (b : Bool) (y d : ℕ) (f : Device → Device) (w : World) → ((e : Device) → f e .address ≡ e .address) → StandsIn n b y w → StandsIn n b y (changeDevice d f w)
-changed-device n b y d f w h s = deviced (kept-address (eqb 0 d) (w .devices 0) (f (w .devices 0)) (h (w .devices 0))) (le-refl _) s

@@ -22,9 +22,13 @@ use Rattle.group.specs.declared.Grouped.{Grouped}
 use Rattle.group.specs.declared.GroupStatus.{GroupStatus}
 use Rattle.group.specs.declared.GroupStatus.the-variants.{Single, New, Continue, Retry, Done, Invalid}
 use Rattle.rules.proofs.Keeps.{early}
-use Rattle.rules.specs.World.{World, phase, change, withLast, withPending, withTotal}
+use Rattle.descriptors.specs.Complete.{noteBy, rowBy}
+use Rattle.descriptors.specs.Kind.{kindOf}
+use Rattle.descriptors.specs.RowLaws.{row-address}
+use Rattle.rules.specs.Rows.{RequestRow, asking}
+use Rattle.rules.specs.World.{World, push, phase, change, changeDevice, withLast, withPending, withTotal}
 use Rattle.rules.specs.Endpoints.{addDevice, detailOf}
-use Rattle.rules.specs.Groups.{link, linkOnce, endActive, addItem, groupStartAt, groupStart, groupAppendAt, groupAppend, groupEndAt, groupEnd, groupStep, effectStep, grouped, becomes, groupUpdate, undecided, groupEarlyAppend}
+use Rattle.rules.specs.Groups.{link, linkOnce, endActive, addItem, groupStartAt, groupStart, groupAppendAt, groupAppend, groupEndAt, groupEnd, groupStep, askedOf, effectStep, grouped, becomes, groupUpdate, undecided, groupEarlyAppend}
 use Rattle.rules.specs.Linked.{excused, linkedAt}
 use Rattle.sound.proofs.FitsTame.{StandsIn, spread, one-changed, alike, longer, deviced}
 use Rattle.sound.proofs.FitsGroups.{once-stands, groupStep-stands}
@@ -92,6 +96,15 @@ pub device-stands : (n : ℕ) (b : Bool) (y a : ℕ) (w : World) → StandsIn n 
 device-stands n b y a w s =
     deviced (first-device (eqb 0 (w .deviceCount)) a (w .devices 0) (ne-eqb 0 (w .deviceCount) (λ z. omega (arith, s .device)))) (omega arith) (longer (omega arith) s)
 
+-- a device that keeps its address
+
+kept-address : (q : Bool) (d e : Device) → e .address ≡ d .address → pick q e d .address ≡ d .address
+kept-address true d e h = h
+kept-address false d e h = refl
+
+pub changed-device : (n : ℕ) (b : Bool) (y d : ℕ) (f : Device → Device) (w : World) → ((e : Device) → f e .address ≡ e .address) → StandsIn n b y w → StandsIn n b y (changeDevice d f w)
+changed-device n b y d f w h s = deviced (kept-address (eqb 0 d) (w .devices 0) (f (w .devices 0)) (h (w .devices 0))) (le-refl _) s
+
 -- where it may have a payload wait, the transaction has its T row or a reason to lack it
 abbrev pub Prompt : Bool → World → Type 0
 Prompt success w = success ≡ true → startPid (w .transaction .style) ≡ OUT → linkedAt (w .transaction) (w .endpoints) ≡ true
@@ -103,7 +116,8 @@ module _ (n y : ℕ) (real : ¬ (y ≡ 0)) where
   effect-stands : (g : Effect) (w : World) → (pends g ≡ true → w .transaction .linked ≡ true) → StandsIn n true y w → StandsIn n true y (effectStep g y w)
   effect-stands NoEffect w h s = s
   effect-stands (NewDevice a) w h s = device-stands n true y a w s
-  effect-stands (Request m) w h s = longer (omega arith) s
+  effect-stands (Request m) w h s =
+      changed-device n true y (w .endpoints y .device) (rowBy (askedOf m y w) (w .shelf)) (push (RequestRow (asking y (w .endpoints y .setup) m (noteBy (askedOf m y w) (w .shelf)))) w) (λ d. row-address (kindOf (w .endpoints y .setup)) (askedOf m y w) (w .shelf) d) (longer (omega arith) s)
   effect-stands (PendingData m) w h s =
       spread (one-changed y (withPending m (w .transaction .link)) (w .endpoints) (le-refl _) (alike (w .endpoints y) _ refl refl refl refl refl (λ e q. linked-below w s (h refl)))) s
   effect-stands (IndexData m v i) w h s =

@@ -137,8 +137,8 @@ keeps k s q f a s′ room x h = by (accepts (firstOf q)) refl
         (sound s (sound-well s h) .1) (room (passed q e)) (tokened-after k (worldAt s) (fits .three, fits .event .address) tokened) (linked-after k (worldAt s) (linked-of s h))
     by false e = ap isSound (x .kept e) ∙ h
 
-pub sound-packet : (bytes : List ℕ) (time : ℕ) → Keeps (PacketCall bytes time)
-sound-packet bytes time s a s′ x h = keeps (packet bytes time) s (testsOf bytes time s) (s .decoder .finished) a s′ (λ p. room-left s _ (p .full)) x h
+pub sound-packet : (bytes : List ℕ) (time : ℕ) (shelf shelf′ : List ℕ) → Keeps (λ s a s′. PacketCall bytes time s shelf a s′ shelf′)
+sound-packet bytes time shelf shelf′ s a s′ x h = keeps (packet bytes time shelf) s (testsOf bytes time s shelf) (s .decoder .finished) a s′ (λ p. room-left s _ (p .full)) (x .answers) h
 
 pub sound-event : (kind code time : ℕ) → Keeps (EventCall kind code time)
 sound-event kind code time s a s′ x h = keeps (event kind code time) s (eventTestsOf kind (call (event kind code time) (worldAt s)) s) (s .decoder .finished) a s′ (λ p. room-left s _ (p .full)) x h

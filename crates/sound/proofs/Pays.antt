@@ -23,10 +23,10 @@ use Rattle.details.specs.Kind.{Unknown}
 use Rattle.details.specs.declared.Found.{Found}
 use Rattle.details.specs.declared.Found.the-variants.{At, Nothing}
 use Rattle.rules.specs.Rows.{EventRow}
-use Rattle.rules.specs.World.{World, stamped, eventEp, push, withSlot, withTransaction, withEventState, withKeepalive, moreTransactions, moreGroups, withId, withPid, newTransaction}
+use Rattle.rules.specs.World.{withShelf, World, stamped, eventEp, push, withSlot, withTransaction, withEventState, withKeepalive, moreTransactions, moreGroups, withId, withPid, newTransaction}
 use Rattle.endpoints.specs.Table.{newEndpoint}
 use Rattle.rules.specs.Endpoints.{addDevice, deviceFor, pushEndpoint, addEndpointOn, found, packetEndpointAt, packetEndpoint, endpointOf, setDetailOn}
-use Rattle.rules.specs.Transactions.{transactionEnd, appendToken, transactionAppend, pushTransaction, begin, typeOf, beginOn, beginSplit, beginPlain, transactionStart, resumeAt, stateAt, completes, extracted, updateAt, updateFrom, isDropped, transactionUpdate}
+use Rattle.rules.specs.Transactions.{brought, transactionEnd, appendToken, transactionAppend, pushTransaction, begin, typeOf, beginOn, beginSplit, beginPlain, transactionStart, resumeAt, stateAt, completes, extracted, updateAt, updateFrom, isDropped, transactionUpdate}
 use Rattle.rules.specs.Events.{eventLink, eventSubgroupStart, eventAddGroup, Act, nothing, single, group, subgroup, keepalive, turnOf, eventAct, eventUpdate}
 use Rattle.rules.specs.Decoder.{appendBytes, pushPacket, handleRawPacket, suspendAt, suspend, endAll, handleEvent, finish, handleDetail}
 use Rattle.rules.specs.Demand.{Call, packet, event, detail, finishing, call}
@@ -157,8 +157,9 @@ module _ (pid : ℕ) (p : List ℕ) where
 
       by : (s : Status) → Paid (updateAt s n pid p k w)
       by New =
-          let e = end-pays false false v (extract-pays w spare) in
-          paid-less (append-spares (transactionStart n pid p (transactionEnd false false v))) (start-pays n pid p (transactionEnd false false v) (λ i g. (omega (arith, e i g))))
+          let u = transactionEnd false false (brought pid p w) in
+          let e = end-pays false false (brought pid p w) (extract-pays w spare) in
+          paid-less (append-spares (transactionStart n pid p u)) (start-pays n pid p u (λ i g. (omega (arith, e i g))))
       by Continue = paid-less (append-spares (transactionAppend pid p v)) went
       by Retry = end-pays true k (transactionAppend pid p v) went
       by Done = end-pays true k (transactionAppend pid p v) went
@@ -248,7 +249,7 @@ detail-pays Nothing number direction kind max w p = p
 -- on a world with an endpoint, as every decoder has three
 pub paid-after : (k : Call) (w : World) → 0 < w .count → Tokened w → Paid w → Paid (call k w)
 unfolding handleDetail finish
-paid-after (packet p time) w l h paid = packet-pays p time w l h paid
+paid-after (packet p time shelf) w l h paid = packet-pays p time (withShelf shelf w) l h paid
 paid-after (event kind code time) w l h paid = event-pays kind code time w paid
 paid-after (detail a number r kind m) w l h paid = detail-pays (deviceFor a w) number r kind m w paid
 paid-after finishing w l h paid = end-pays false false w paid

@@ -24,7 +24,8 @@ pub record Kept : Type 0 where
   pub well : (s : State) → isSound s ≡ true → isIll s ≡ false
   -- fresh, answered 0, with a table of all its words and a row for the first device
   pub fresh : (v : List Device) (t : List ℕ) (l : Logs) (s : State) → Makes v t l 0 s → length t ≡ word.table → 0 < length v → isSound s ≡ true
-  pub packet : (bytes : List ℕ) (time : ℕ) → Keeps (PacketCall bytes time)
+  -- whatever the shelf holds
+  pub packet : (bytes : List ℕ) (time : ℕ) (shelf shelf′ : List ℕ) → Keeps (λ s a s′. PacketCall bytes time s shelf a s′ shelf′)
   pub event : (kind code time : ℕ) → Keeps (EventCall kind code time)
   pub detail : (address number direction kind max : ℕ) → Keeps (Details address number direction kind max)
   pub finish : Keeps FinishCall

@@ -33,7 +33,7 @@ use Rattle.rules.specs.Events as events
 use Rattle.rules.specs.Groups.{groupEarlyAppend}
 use Rattle.rules.specs.Rows.{EventRow}
 use Rattle.rules.specs.Transactions.{isDropped, stateAt, transactionEndAt, transactionEnd, transactionUpdate}
-use Rattle.rules.specs.World.{World, stamped, newTransaction, push, withKeepalive}
+use Rattle.rules.specs.World.{World, stamped, newTransaction, push, withKeepalive, withShelf}
 use Rattle.rules.specs.declared.Slot.{Slot}
 use Rattle.rules.specs.declared.Slot.the-variants.{Empty, Current, Suspended}
 use Rattle.record.specs.Answers.{firstOf, packetTests, eventTests}
@@ -45,10 +45,10 @@ use Rattle.call.specs.OutcomeLaws.{sound}
 use Rattle.call.specs.State.{Logs, State, roomOf}
 use Rattle.update.specs.Effect.{passes}
 use Rattle.event.specs.Event.{isCurrent}
-use Rattle.plan.specs.Packet.{oldEndpoint, transactionThen, slotThen, resumes, isNew, isLast, succeeds, completesBy, middleOf, entryEnded, lastEnded, closeOf, endIf, planBy, planOf}
+use Rattle.plan.specs.Packet.{oldEndpoint, transactionThen, slotThen, resumes, isNew, isLast, succeeds, completesBy, middleOf, entryEnded, lastEnded, closeOf, endIf, planBy, planOf, kept as laid}
 use Rattle.plan.specs.Step.{endOf}
 use Rattle.plan.specs.declared.Middle.{Middle}
-use Rattle.plan.proofs.Packet.{packet-is, dropped-is}
+use Rattle.plan.proofs.Packet.{packet-laden, dropped-is}
 use Rattle.plan.proofs.Quiet.{no-effect, no-transaction}
 use Rattle.tally.specs.Passes.{planPasses}
 use Rattle.tally.specs.Suited.{Totalled}
@@ -58,7 +58,7 @@ use Rattle.tally.proofs.Totals.{totalled-over}
 use Rattle.tally.proofs.Unpassed.{keepalive-over}
 use Rattle.start.specs.Fresh.{made, Makes}
 use Rattle.start.specs.FreshLaws.{fresh-stands}
-use Rattle.packet.specs.Call.{PacketCall, testsOf}
+use Rattle.packet.specs.Call.{after, PacketCall, testsOf}
 use Rattle.events.specs.Call.{EventCall, eventTestsOf}
 use Rattle.sound.specs.Sound.{isSound}
 use Rattle.sound.proofs.Keeps.{passed, kept}
@@ -109,19 +109,19 @@ module _ {w : World} {f : Bool} {s s′ : State} (x : Left w f s s′) where
 
 -- ---- a packet
 
-module _ (p : List ℕ) (time : ℕ) (s : State) {a : ℕ} {s′ : State} (x : PacketCall p time s a s′) (ok : accepts a ≡ true) where
-  told : accepts (firstOf (testsOf p time s)) ≡ true
-  told = ap accepts (sym (x .answer)) ∙ ok
+module _ (p : List ℕ) (time : ℕ) (s : State) (h : List ℕ) {a : ℕ} {s′ : State} {h′ : List ℕ} (x : PacketCall p time s h a s′ h′) (ok : accepts a ≡ true) where
+  told : accepts (firstOf (testsOf p time s h)) ≡ true
+  told = ap accepts (sym (x .answers .answer)) ∙ ok
 
-  pub packet-left : Left (handleRawPacket p time (worldAt s)) (s .decoder .finished) s s′
-  packet-left = x .left told
+  pub packet-left : Left (after p time s h) (s .decoder .finished) s s′
+  packet-left = x .answers .left told
 
   pub packet-good : Good s → Good s′
   packet-good g =
       record {
-        sound = kept .packet p time s a s′ x (g .sound);
+        sound = kept .packet p time h h′ s a s′ x (g .sound);
         going = finished-left packet-left ∙ g .going;
-        totals = totals-left packet-left (over-totalled _ (passed (testsOf p time s) told .over));
+        totals = totals-left packet-left (over-totalled _ (passed (testsOf p time s h) told .over));
       }
 
 packet-tests : (full over dropped : Bool) (len : ℕ) → len ≤ 4096 → firstOf (packetTests false false len full over dropped) ≡ cond full 7 (cond over 9 (cond dropped 8 0))
@@ -166,31 +166,35 @@ module _ (s : State) (g : Good s) where
   not-ill : isIll s ≡ false
   not-ill = kept .well s (g .sound)
 
-  module _ (p : List ℕ) (time : ℕ) (short : length p ≤ 4096) {a : ℕ} {s′ : State} (x : PacketCall p time s a s′) where
-    abbrev after : World
-    after = handleRawPacket p time (worldAt s)
+  module _ (p : List ℕ) (time : ℕ) (h : List ℕ) (short : length p ≤ 4096) {a : ℕ} {s′ : State} {h′ : List ℕ} (x : PacketCall p time s h a s′ h′) where
+    -- before it, and with its payload on the shelf
+    abbrev lent : World
+    lent = withShelf h (worldAt s)
+
+    abbrev laden : World
+    laden = laid (planOf p lent) p lent
 
     -- none is suspended, and none is current
     module _ (empty : s .decoder .slot ≡ Empty) where
       live : isDropped (s .decoder .slot) (s .decoder .transaction) ≡ false
       live = ap (λ (z : Slot). isDropped z (s .decoder .transaction)) empty
 
-      still : isOver after ≡ false
-      still = ap isOver (packet-is p time (worldAt s) live) ∙ (packet-over-is p time s (roomOf (s .logs)) (sound s not-ill .0) (g .totals) ∙ quiet-plan p (worldAt s) empty)
+      still : isOver (after p time s h) ≡ false
+      still = ap isOver (packet-laden p time lent live) ∙ (packet-over-is p time (laden .shelf) s (roomOf (s .logs)) (sound s not-ill .0) (g .totals) ∙ quiet-plan p laden empty)
 
-      pub plain-answer : a ≡ cond (isFull s after) 7 0
-      plain-answer = x .answer ∙ packet-answer _ _ (isFull s after) _ _ (length p) false not-ill (g .going) short still live
+      pub plain-answer : a ≡ cond (isFull s (after p time s h)) 7 0
+      plain-answer = x .answers .answer ∙ packet-answer _ _ (isFull s (after p time s h)) _ _ (length p) false not-ill (g .going) short still live
 
     -- a split without its token is suspended
     module _ (suspended : s .decoder .slot ≡ Suspended) (tokenless : s .decoder .transaction .endpoint ≡ 0) where
       drops : isDropped (s .decoder .slot) (s .decoder .transaction) ≡ true
       drops = ap (λ (z : Slot). isDropped z (s .decoder .transaction)) suspended ∙ ap (λ (n : ℕ). eqb n 0) tokenless
 
-      unmoved : isOver after ≡ false
-      unmoved = ap isOver (dropped-is p time (worldAt s) drops) ∙ totalled-over _ (g .totals)
+      unmoved : isOver (after p time s h) ≡ false
+      unmoved = ap isOver (dropped-is p time lent drops) ∙ totalled-over _ (g .totals)
 
-      pub dropped-answer : a ≡ cond (isFull s after) 7 8
-      dropped-answer = x .answer ∙ packet-answer _ _ (isFull s after) _ _ (length p) true not-ill (g .going) short unmoved drops
+      pub dropped-answer : a ≡ cond (isFull s (after p time s h)) 7 8
+      dropped-answer = x .answers .answer ∙ packet-answer _ _ (isFull s (after p time s h)) _ _ (length p) true not-ill (g .going) short unmoved drops
 
 -- a SPLIT where there is no transaction begins one, which has no endpoint yet
 split-world : (p : List ℕ) (time : ℕ) (w : World) → checkedOf p ≡ Valid SPLIT → w .slot ≡ Empty
@@ -304,12 +308,13 @@ pub record Waiting (z : Slot) (s : State) : Type 0 where
   pub slot : s .decoder .slot ≡ z
   pub tokenless : s .decoder .transaction .endpoint ≡ 0
 
-pub after-split : (p : List ℕ) (time : ℕ) (s : State) {a : ℕ} {s′ : State} → checkedOf p ≡ Valid SPLIT → PacketCall p time s a s′ → a ≡ 0 → Good s → s .decoder .slot ≡ Empty → Waiting Current s′
-after-split p time s h x ok g e =
-    let k = packet-left p time s x (ap accepts ok) in
-    let w = split-world p time (worldAt s) h e in
+pub after-split : (p : List ℕ) (time : ℕ) (s : State) (h : List ℕ) {a : ℕ} {s′ : State} {h′ : List ℕ} → checkedOf p ≡ Valid SPLIT → PacketCall p time s h a s′ h′ → a ≡ 0 → Good s
+    → s .decoder .slot ≡ Empty → Waiting Current s′
+after-split p time s h v x ok g e =
+    let k = packet-left p time s h x (ap accepts ok) in
+    let w = split-world p time (withShelf h (worldAt s)) v e in
     record {
-      good = packet-good p time s x (ap accepts ok) g;
+      good = packet-good p time s h x (ap accepts ok) g;
       slot = slot-left k ∙ w .0;
       tokenless = ap (λ (t : Transaction). t .endpoint) (transaction-left k) ∙ w .1;
     }

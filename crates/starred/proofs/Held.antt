@@ -41,17 +41,17 @@ out-data0 type t q b e v = data0-is OUT t q b v ∙ ap (λ (k : ℕ). simpleStat
 -- ---- calls
 
 three-calls : (s : State) → Good s → s .decoder .slot ≡ Empty → Goes (anySplit answers 0 ∷ anyKeepalive answers 0 ∷ anyPacket answers 8 ∷ []) s
-three-calls s g e p t a s1 v x = (
-  plain-answer s g p t (split-short p v) x e,
+three-calls s g e p t h a s1 h1 v x = (
+  plain-answer s g p t h (split-short p v) x e,
   λ y. (
     tt,
-    let w1 = after-split p t s v x y g e in
+    let w1 = after-split p t s h v x y g e in
         λ code t2 a2 s2 x2. (
           keepalive-answer code t2 s1 x2 (w1 .good),
           λ y2. (
             tt,
             let w2 = after-keepalive code t2 Current s1 x2 y2 w1 in
-                λ q t3 a3 s3 short x3. (dropped-answer s2 (w2 .good) q t3 short x3 (w2 .slot) (w2 .tokenless), λ y3. (tt, tt)),
+                λ q t3 h2 a3 s3 h3 short x3. (dropped-answer s2 (w2 .good) q t3 h2 short x3 (w2 .slot) (w2 .tokenless), λ y3. (tt, tt)),
           ),
         ),
   ),
@@ -59,10 +59,10 @@ three-calls s g e p t a s1 v x = (
 
 two-keepalives : (s : State) → Good s → s .decoder .slot ≡ Empty
     → Goes (anySplit leaves Current ∷ anyKeepalive leaves Suspended ∷ anyKeepalive leaves Empty ∷ anyPacket answers 0 ∷ []) s
-two-keepalives s g e p t a s1 v x = (
-  plain-answer s g p t (split-short p v) x e,
+two-keepalives s g e p t h a s1 h1 v x = (
+  plain-answer s g p t h (split-short p v) x e,
   λ y.
-      let w1 = after-split p t s v x y g e in (
+      let w1 = after-split p t s h v x y g e in (
         w1 .slot,
         λ code t2 a2 s2 x2. (
           keepalive-answer code t2 s1 x2 (w1 .good),
@@ -73,7 +73,7 @@ two-keepalives s g e p t a s1 v x = (
                   keepalive-answer code3 t3 s2 x3 (w2 .good),
                   λ y3.
                       let w3 = after-keepalive code3 t3 Suspended s2 x3 y3 w2 in
-                      (w3 .slot, λ q t4 a4 s4 short x4. (plain-answer s3 (w3 .good) q t4 short x4 (w3 .slot), λ y4. (tt, tt))),
+                      (w3 .slot, λ q t4 h3 a4 s4 h4 short x4. (plain-answer s3 (w3 .good) q t4 h3 short x4 (w3 .slot), λ y4. (tt, tt))),
                 ),
               ),
         ),

@@ -24,25 +24,25 @@ use Rattle.transaction.specs.declared.Transaction.{Transaction}
 use Rattle.group.specs.Step.{stepOf}
 use Rattle.group.specs.Group.{groupStatus}
 use Rattle.group.specs.declared.GroupStatus.{GroupStatus}
-use Rattle.rules.specs.Decoder.{handleRawPacket, handleEvent}
+use Rattle.rules.specs.Decoder.{handleEvent}
 use Rattle.rules.specs.Events.{LsKeepalive}
 use Rattle.rules.specs.World.{World}
 use Rattle.rules.specs.declared.Slot.{Slot}
 use Rattle.call.specs.Outcome.{isFull, worldAt}
 use Rattle.call.specs.State.{Logs, State}
 use Rattle.start.specs.Fresh.{Makes}
-use Rattle.packet.specs.Call.{PacketCall}
+use Rattle.packet.specs.Call.{after, PacketCall}
 use Rattle.events.specs.Call.{EventCall}
 
 -- ---- the cases
 
 -- a call, any one of its kind
 pub data Any : Type 0 where
-  -- a packet that is a valid SPLIT, at any time
+  -- a packet that is a valid SPLIT, at any time, with any shelf
   anySplit : Any
   -- a keepalive, with any code at any time
   anyKeepalive : Any
-  -- a packet of any bytes, at most 4,096, at any time
+  -- a packet of any bytes, at most 4,096, at any time, with any shelf
   anyPacket : Any
 
 infixl 80 _answers_
@@ -124,18 +124,20 @@ read type len =
     }
 
 abbrev pub detail : ℕ → ℕ → Detail
-detail type size = record { kind = type; max = size }
+detail type size = record { kind = type; given = false; max = size }
 
 -- ---- calls
 
 -- P holds of each call of this kind on the state s: of the world that the rules end in, and of each answer and state that the contract permits
 abbrev pub Each : Any → State → (World → ℕ → State → Type 0) → Type 0
 Each anySplit s P =
-    (p : List ℕ) (time a : ℕ) (s′ : State) → checkedOf p ≡ Valid SPLIT → PacketCall p time s a s′ → P (handleRawPacket p time (worldAt s)) a s′
+    (p : List ℕ) (time : ℕ) (h : List ℕ) (a : ℕ) (s′ : State) (h′ : List ℕ)
+    → checkedOf p ≡ Valid SPLIT → PacketCall p time s h a s′ h′ → P (after p time s h) a s′
 Each anyKeepalive s P =
     (code time a : ℕ) (s′ : State) → EventCall LsKeepalive code time s a s′ → P (handleEvent LsKeepalive code time (worldAt s)) a s′
 Each anyPacket s P =
-    (p : List ℕ) (time a : ℕ) (s′ : State) → length p ≤ 4096 → PacketCall p time s a s′ → P (handleRawPacket p time (worldAt s)) a s′
+    (p : List ℕ) (time : ℕ) (h : List ℕ) (a : ℕ) (s′ : State) (h′ : List ℕ)
+    → length p ≤ 4096 → PacketCall p time s h a s′ h′ → P (after p time s h) a s′
 
 abbrev pub kindOf : Step → Any
 kindOf (k answers n) = k

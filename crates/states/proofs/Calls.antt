@@ -13,12 +13,13 @@ use Rattle.details.specs.declared.Found.the-variants.{At, Nothing}
 use Rattle.endpoints.specs.declared.Endpoint.{Endpoint}
 use Rattle.endpoints.specs.declared.Phase.{Phase}
 use Rattle.endpoints.specs.declared.Phase.the-variants.{None, Early, Active, Ended}
+use Rattle.descriptors.specs.Complete.{noteBy}
 use Rattle.group.specs.declared.Effect.{Effect}
 use Rattle.group.specs.declared.Effect.the-variants.{NoEffect, NewDevice, Request, PendingData, IndexData}
 use Rattle.rules.specs.Rows.{Row, BytesRow, DeviceRow, EndpointRow, PacketRow, EventRow, TransactionRow, naming, GroupRow, grouping, ItemRow, T, G, D, E, RequestRow, asking, Over}
-use Rattle.rules.specs.World.{World, stamped, eventEp, lastGroup, push, change, cleared, withTransaction, withEventState, withKeepalive, changeDevice}
+use Rattle.rules.specs.World.{World, stamped, eventEp, lastGroup, push, change, cleared, withTransaction, withEventState, withKeepalive, withShelf, changeDevice}
 use Rattle.rules.specs.Endpoints.{addDevice, deviceFor, pushEndpoint, typed, setDetailOn}
-use Rattle.rules.specs.Groups.{closeRow, closeRows, addItem, statesFrom, addGroupEntry, link, pushGroup, over, effectStep, becomes}
+use Rattle.rules.specs.Groups.{closeRow, closeRows, addItem, statesFrom, addGroupEntry, link, pushGroup, over, askedOf, effectStep, becomes}
 use Rattle.rules.specs.Transactions.{transactionEnd, pushTransaction, isDropped}
 use Rattle.rules.specs.Events.{eventSubgroupStart, eventAddGroup, Act, nothing, single, group, subgroup, keepalive, turnOf, eventAct, eventUpdate}
 use Rattle.rules.specs.Decoder.{appendBytes, pushPacket, handleRawPacket, suspend, overRow, overRows, endAll, handleEvent, finish, handleDetail}
@@ -29,7 +30,7 @@ use Rattle.update.specs.declared.Update.{Update}
 use Rattle.update.specs.declared.Then.{Then}
 use Rattle.update.specs.declared.Then.the-variants.{Keep, Begin, BeginFailed, Last, BeginEarly}
 use Rattle.plan.specs.Step.{opened, begun, ended}
-use Rattle.plan.specs.Packet.{planOf, played}
+use Rattle.plan.specs.Packet.{kept, planOf, played}
 use Rattle.plan.specs.Ending.{endingOf, endPlayed}
 use Rattle.plan.specs.Sound.{world1, world2, world3, world4}
 use Rattle.plan.specs.declared.Begin.{Begin as Beginning}
@@ -125,7 +126,7 @@ module _ (b : ℕ) where
   effect-keeps : (f : Effect) (x : ℕ) → Keeps (effectStep f x)
   effect-keeps NoEffect x w h = h
   effect-keeps (NewDevice address) x w h = other (DeviceRow address) refl refl h
-  effect-keeps (Request n) x w h = other (RequestRow (asking x (w .endpoints x .setup) n)) refl refl h
+  effect-keeps (Request n) x w h = other (RequestRow (asking x (w .endpoints x .setup) n (noteBy (askedOf n x w) (w .shelf)))) refl refl h
   effect-keeps (PendingData n) x w h = h
   effect-keeps (IndexData n waited i) x w h = other (D x (pick waited i (w .transaction .link)) (w .endpoints x .total)) refl refl h
 
@@ -177,7 +178,7 @@ module _ (b : ℕ) where
 
       by : (c : Bool) → isDropped (w .slot) (w .transaction) ≡ c → In (handleRawPacket bytes time w)
       by true q = subst In (sym (dropped-is bytes time w q)) rowed
-      by false q = subst In (sym (packet-is bytes time w q)) (played-keeps (planOf bytes w) bytes time w rowed)
+      by false q = subst In (sym (packet-is bytes time w q)) (played-keeps (planOf bytes w) bytes time (kept (planOf bytes w) bytes w) rowed)
 
   -- ---- an event
 
@@ -227,7 +228,7 @@ module _ (b : ℕ) where
 
   pub call-keeps : (k : Call) → Keeps (call k)
   unfolding handleDetail finish
-  call-keeps (packet bytes time) w h = packet-keeps bytes time w h
+  call-keeps (packet bytes time shelf) w h = packet-keeps bytes time (withShelf shelf w) h
   call-keeps (event kind code time) w h = event-keeps kind code time w h
   call-keeps (detail a number r kind m) w h = detail-keeps (deviceFor a w) number r kind m w h
   call-keeps finishing w h = end-keeps w h

@@ -15,6 +15,7 @@ use Rattle.record.specs.declared.Counts.{Counts}
 use Rattle.call.specs.OutcomeLaws.{sound}
 use Rattle.call.specs.State.{Logs, State, roomBy, roomOf}
 use Rattle.lines.specs.Listing.{stateBytes, stateLines}
+use Rattle.step.specs.Block.{Stand}
 use Rattle.run.specs.Run.{Runs, Ran}
 use Rattle.run.specs.Run.Runs.{ends, stops}
 use Rattle.run.specs.Run.Ran.{wrong, refused, runs}
@@ -54,11 +55,11 @@ whole {js} {s} q =
 -- ---- a run
 
 -- its records are a block, and finish is one call more
-records : {trace : List ℕ} {at a p : ℕ} {c : Clock} {s s′ : State} → Comes s → Runs trace at c s a p s′ → Comes s′
+records : {trace : List ℕ} {at a p : ℕ} {c : Clock} {s s′ : Stand} → Comes (s .state) → Runs trace at c s a p s′ → Comes (s′ .state)
 records q (ends x f) = let b = block-sequence (q .sequence) x in record { history = _; sequence = then finishing _ _ (b .sequence) f }
 records q (stops x h) = let b = block-sequence (q .sequence) x in record { history = _; sequence = b .sequence }
 
-pub comes : {trace t : List ℕ} {l : Logs} {a p : ℕ} {s : State} → length t ≡ word.table → Ran trace t l a p s → a ≡ 0 → Comes s
+pub comes : {trace t : List ℕ} {l : Logs} {h : List ℕ} {a p : ℕ} {s : Stand} → length t ≡ word.table → Ran trace t l h a p s → a ≡ 0 → Comes (s .state)
 comes ht (wrong h) e = absurd (h e)
 comes ht (refused h m n) e = absurd (n e)
 comes ht (runs h m r) e = records (record { history = _; sequence = made refl ht m }) r

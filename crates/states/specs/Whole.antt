@@ -13,6 +13,7 @@ use Rattle.text.specs.Lines.{stateLine}
 use Rattle.record.specs.Room.{mostEndpoints}
 use Rattle.call.specs.State.{Logs, State}
 use Rattle.lines.specs.Listing.{each, stateLines}
+use Rattle.step.specs.Block.{Stand}
 use Rattle.run.specs.Run.{Ran}
 use Rattle.demands.specs.Sequence.{Sequence}
 
@@ -60,5 +61,5 @@ pub record Comes (s : State) : Type 0 where
 pub record ListedWhole : Type 0 where
   pub sequence : {js : List Row} {s : State} → Sequence js s → Whole s
   -- a run that finished is such a sequence, so what is listed of it is whole; the table has its 2,704 words, as the program's has
-  pub comes : {trace t : List ℕ} {l : Logs} {a p : ℕ} {s : State} → length t ≡ word.table → Ran trace t l a p s → a ≡ 0 → Comes s
-  pub run : {trace t : List ℕ} {l : Logs} {a p : ℕ} {s : State} → length t ≡ word.table → Ran trace t l a p s → a ≡ 0 → Whole s
+  pub comes : {trace t : List ℕ} {l : Logs} {h : List ℕ} {a p : ℕ} {s : Stand} → length t ≡ word.table → Ran trace t l h a p s → a ≡ 0 → Comes (s .state)
+  pub run : {trace t : List ℕ} {l : Logs} {h : List ℕ} {a p : ℕ} {s : Stand} → length t ≡ word.table → Ran trace t l h a p s → a ≡ 0 → Whole (s .state)

@@ -19,6 +19,15 @@ use Rattle.start.specs.Detail.{Details}
 use Rattle.packet.specs.Call.{PacketCall}
 use Rattle.events.specs.Call.{EventCall}
 
+-- ---- what a record is called on: the state, and the shelf that is lent beside it (02, 2)
+
+pub record Stand : Type 0 where
+  pub state : State
+  pub shelf : List ℕ
+
+abbrev pub stand : State → List ℕ → Stand
+stand s h = record { state = s; shelf = h }
+
 -- ---- one record
 
 -- the clock behind a record: packets and events have ticks, details none
@@ -39,25 +48,26 @@ behind Unknown at = at
 behind Cut at = at
 behind End at = at
 
--- a record, with the clock as it stands in front of it, on the state s: it answers a and leaves s′. 01: "Wrong or missing .. tag 12, cut record 13" by
+-- a record, with the clock as it stands in front of it, on s: it answers a and leaves s′; packets alone go to the shelf. 01: "Wrong or missing .. tag 12, cut record 13" by
 -- the numbers of trace, Trace, "tested for each record before its call", so whatever the state is; the end is no record
-abbrev pub Gives : List ℕ → Next → Clock → State → ℕ → State → Type 0
-Gives t (Packet ticks start end next) c s a s′ = PacketCall (take (end - start) (drop start t)) (tickOf c ticks .time) s a s′
-Gives t (Event ticks kind code next) c s a s′ = EventCall kind code (tickOf c ticks .time) s a s′
-Gives t (Detail address number direction kind max next) c s a s′ = Details address number direction kind max s a s′
+abbrev pub Gives : List ℕ → Next → Clock → Stand → ℕ → Stand → Type 0
+Gives t (Packet ticks start end next) c s a s′ =
+    PacketCall (take (end - start) (drop start t)) (tickOf c ticks .time) (s .state) (s .shelf) a (s′ .state) (s′ .shelf)
+Gives t (Event ticks kind code next) c s a s′ = EventCall kind code (tickOf c ticks .time) (s .state) a (s′ .state) × (s′ .shelf ≡ s .shelf)
+Gives t (Detail address number direction kind max next) c s a s′ = Details address number direction kind max (s .state) a (s′ .state) × (s′ .shelf ≡ s .shelf)
 Gives t Unknown c s a s′ = (a ≡ answerOf Unknown) × (s′ ≡ s)
 Gives t Cut c s a s′ = (a ≡ answerOf Cut) × (s′ ≡ s)
 Gives t End c s a s′ = ⊥
 
 -- ---- the records from a place on
 
--- from the place `at` on, "starting tick state passed in", on the state s: n is "the records taken", e "the 8s among them", a the answer, p the place where
+-- from the place `at` on, "starting tick state passed in", on s: n is "the records taken", e "the 8s among them", a the answer, p the place where
 -- it stops, c′ "the tick state after those", s′ what is left. "It stops at the first answer other than 0 or 8, returns that answer or else 0"; "what they wrote
 -- remains"; "An empty block takes none and answers 0"
-pub data Takes (t : List ℕ) : (at : ℕ) → Clock → State → (n e a p : ℕ) → Clock → State → Type 0 where
-  done : {at : ℕ} {c : Clock} {s : State} → nextAt t at ≡ End → Takes t at c s 0 0 0 at c s
-  stops : {at a : ℕ} {c : Clock} {s s′ : State} → Gives t (nextAt t at) c s a s′ → accepts a ≡ false → Takes t at c s 0 0 a at c s′
-  goes : {at n e b p : ℕ} {c c′ : Clock} {s s′ s″ : State} (a : ℕ)
+pub data Takes (t : List ℕ) : (at : ℕ) → Clock → Stand → (n e a p : ℕ) → Clock → Stand → Type 0 where
+  done : {at : ℕ} {c : Clock} {s : Stand} → nextAt t at ≡ End → Takes t at c s 0 0 0 at c s
+  stops : {at a : ℕ} {c : Clock} {s s′ : Stand} → Gives t (nextAt t at) c s a s′ → accepts a ≡ false → Takes t at c s 0 0 a at c s′
+  goes : {at n e b p : ℕ} {c c′ : Clock} {s s′ s″ : Stand} (a : ℕ)
       → Gives t (nextAt t at) c s a s′
       → accepts a ≡ true
       → Takes t (behind (nextAt t at) at) (clockAfter (nextAt t at) c) s′ n e b p c′ s″

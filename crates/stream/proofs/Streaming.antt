@@ -37,10 +37,12 @@ use Rattle.decide.proofs.Bounds.{old-there}
 use Rattle.decide.proofs.Places.{number-small, place-few, seen-by}
 use Rattle.packet.specs.Call.{PacketCall}
 use Rattle.packet.specs.Lent.{Lent}
+use Rattle.packet.proofs.Answers.{withRequests}
 use Rattle.sound.specs.Sound.{isSound}
 use Rattle.sound.proofs.Keeps.{kept}
 use Rattle.stream.specs.Addresses.{Addressed, foundAddress, sightOf}
-use Rattle.step.specs.Block.{clockAfter, behind, Gives, Takes}
+use Rattle.step.specs.Block.{Stand, stand, clockAfter, behind, Gives, Takes}
+use Rattle.step.specs.BlockLaws.{gives-same}
 use Rattle.step.specs.Block.Takes.{stops}
 use Rattle.stream.specs.Part.{isShort, partOf}
 use Rattle.step.specs.Step.{Goes}
@@ -80,39 +82,34 @@ part-is b {n} n′ {p} q e h =
 
 -- ---- the loop's invariant
 
--- the packets so far lead from s₀ to s, which no packet finds ill or finished where the loop is ready, and a has the addresses of its devices
-pub record Streaming (b : Bool) (t : List ℕ) (at₀ : ℕ) (c₀ : Clock) (s₀ : State) (n e at : ℕ) (c : Clock) (s : State) (a : List ℕ) : Type 0 where
+-- the packets so far lead from s₀ to s, whose state no packet finds ill or finished where the loop is ready, and a has the addresses of its devices
+pub record Streaming (b : Bool) (t : List ℕ) (at₀ : ℕ) (c₀ : Clock) (s₀ : Stand) (n e at : ℕ) (c : Clock) (s : Stand) (a : List ℕ) : Type 0 where
   pub leads : Leads t at₀ c₀ s₀ n e at c s
-  pub sizes : SameSizes (s₀ .logs) (s .logs)
-  pub fits : Fits b s
-  pub many : length (s .devices) ≡ 64
-  pub addressed : Addressed 64 a (s .devices)
+  pub sizes : SameSizes (s₀ .state .logs) (s .state .logs)
+  pub fits : Fits b (s .state)
+  pub many : length (s .state .devices) ≡ 64
+  pub addressed : Addressed 64 a (s .state .devices)
 
-pub streaming-start : {b : Bool} (t : List ℕ) (at : ℕ) (c : Clock) {s : State} {a : List ℕ} → Fits b s → length (s .devices) ≡ 64 → Addressed 64 a (s .devices) → Streaming b t at c s 0 0 at c s a
+pub streaming-start : {b : Bool} (t : List ℕ) (at : ℕ) (c : Clock) {s : Stand} {a : List ℕ} → Fits b (s .state) → length (s .state .devices) ≡ 64 → Addressed 64 a (s .state .devices) → Streaming b t at c s 0 0 at c s a
 streaming-start t at c {s} f m d = record { leads = leads-start t at c s; sizes = λ k u. refl; fits = f; many = m; addressed = d }
 
 -- a record that the loop does not take
-pub streaming-ends : {b : Bool} {t a : List ℕ} {at₀ n e at : ℕ} {c₀ c : Clock} {s₀ s : State} → Streaming b t at₀ c₀ s₀ n e at c s a
-    → Runs t at₀ c₀ s₀ (record { going = true; answer = 0; taken = n; eights = e; place = at; clock = c; decoder = s .decoder; devices = s .devices }) (s .table) (s .logs)
+pub streaming-ends : {b : Bool} {t a : List ℕ} {at₀ n e at : ℕ} {c₀ c : Clock} {s₀ s : Stand} → Streaming b t at₀ c₀ s₀ n e at c s a
+    → Runs t at₀ c₀ s₀ (record { going = true; answer = 0; taken = n; eights = e; place = at; clock = c; decoder = s .state .decoder; devices = s .state .devices }) (s .state .table) (s .state .logs) (s .shelf)
 streaming-ends g = record { leads = λ z. g .leads; over = λ z. absurd (true≢false z); counted = (g .leads .few, g .leads .eights) }
-
--- with these devices
-pub streaming-with : {b : Bool} {t a : List ℕ} {at₀ n e at : ℕ} {c₀ c : Clock} {s₀ s : State} → Streaming b t at₀ c₀ s₀ n e at c s a → (v : List Device) → v ≡ s .devices
-    → Streaming b t at₀ c₀ s₀ n e at c (state (s .decoder) v (s .table) (s .logs)) a
-streaming-with {b} {t} {a} {at₀} {n} {e} {at} {c₀} {c} {s₀} {s} g v q = subst (λ (u : List Device). Streaming b t at₀ c₀ s₀ n e at c (state (s .decoder) u (s .table) (s .logs)) a) (sym q) g
 
 abbrev pub bytesOf : List ℕ → Part → List ℕ
 bytesOf t p = take (p .end - p .start) (drop (p .start) t)
 
-module _ {b : Bool} {t a : List ℕ} {at₀ n e at : ℕ} {c₀ c : Clock} {s₀ s : State} {p : Part} (g : Streaming b t at₀ c₀ s₀ n e at c s a) (k : IsPart b (nextAt t at) p) where
-  pub streaming-unfinished : s .decoder .finished ≡ false
+module _ {b : Bool} {t a : List ℕ} {at₀ n e at : ℕ} {c₀ c : Clock} {s₀ s : Stand} {p : Part} (g : Streaming b t at₀ c₀ s₀ n e at c s a) (k : IsPart b (nextAt t at) p) where
+  pub streaming-unfinished : s .state .decoder .finished ≡ false
   streaming-unfinished = g .fits .unfinished (k .ready)
 
-  well : isIll s ≡ false
-  well = kept .well s (g .fits .sound (k .ready))
+  well : isIll (s .state) ≡ false
+  well = kept .well (s .state) (g .fits .sound (k .ready))
 
-  pub streaming-ready : Ready (s .decoder) (s .table)
-  streaming-ready = let w = sound s well in ready (s .decoder) (s .devices) (s .table) (roomOf (s .logs)) (w .0)
+  pub streaming-ready : Ready (s .state .decoder) (s .state .table)
+  streaming-ready = let w = sound (s .state) well in ready (s .state .decoder) (s .state .devices) (s .state .table) (roomOf (s .state .logs)) (w .0)
 
   pub streaming-bounds : (p .start ≤ p .end) × (p .end ≤ length t)
   streaming-bounds =
@@ -140,58 +137,58 @@ module _ {b : Bool} {t a : List ℕ} {at₀ n e at : ℕ} {c₀ c : Clock} {s₀
       omega (arith, k .short)
 
   abbrev old : Endpoint
-  old = entryAt (s .table) (oldEndpoint (s .decoder .slot) (s .decoder .transaction))
+  old = entryAt (s .state .table) (oldEndpoint (s .state .decoder .slot) (s .state .decoder .transaction))
 
   -- what packet_in goes by, as the loop takes it
-  module _ {q : Sight} (seen : q ≡ sightOf a (s .decoder) (s .table) (bytesOf t p)) where
-    found-is : q .found ≡ foundDevice (s .devices) (s .decoder .counts .devices) (tokenOf (bytesOf t p) .address)
-    found-is = ap (λ (x : Sight). x .found) seen ∙ found-same (g .addressed) (s .decoder .counts .devices) _ (streaming-ready .devices)
+  module _ {q : Sight} (seen : q ≡ sightOf a (s .state .decoder) (s .state .table) (bytesOf t p)) where
+    found-is : q .found ≡ foundDevice (s .state .devices) (s .state .decoder .counts .devices) (tokenOf (bytesOf t p) .address)
+    found-is = ap (λ (x : Sight). x .found) seen ∙ found-same (g .addressed) (s .state .decoder .counts .devices) _ (streaming-ready .devices)
 
     place-is : q .place ≡ placeIn (q .found)
     place-is = ap (λ (x : Sight). x .place) seen ∙ ap placeIn (sym (ap (λ (x : Sight). x .found) seen))
 
     pub streaming-place : q .place < 64
-    streaming-place = subst (λ (i : ℕ). i < 64) (sym place-is) (place-few (s .devices) (s .decoder .counts .devices) _ (q .found) found-is (streaming-ready .devices))
+    streaming-place = subst (λ (i : ℕ). i < 64) (sym place-is) (place-few (s .state .devices) (s .state .decoder .counts .devices) _ (q .found) found-is (streaming-ready .devices))
 
     pub streaming-owner : q .owner < 64
     streaming-owner =
         let r = streaming-ready in
-        let k = r .entries _ (old-there (s .decoder .transaction) (r .three) (s .decoder .slot) (r .held)) in
+        let k = r .entries _ (old-there (s .state .decoder .transaction) (r .three) (s .state .decoder .slot) (r .held)) in
         subst (λ (i : ℕ). i < 64) (sym (ap (λ (x : Sight). x .owner) seen)) (omega (arith, k .device, r .devices))
 
     pub streaming-number : q .number < 16
     streaming-number = subst (λ (i : ℕ). i < 16) (sym (ap (λ (x : Sight). x .number) seen)) (number-small (bytesOf t p) refl)
 
-    pub streaming-lent : {near : Near} → near ≡ nearBy (q .found) (q .number) (getD (s .devices) (q .place) blank) (detailsOf (getD (s .devices) (q .owner) blank) (q .address))
-        → Lent near (bytesOf t p) (s .decoder) (s .devices) (s .table) (s .logs)
+    pub streaming-lent : {near : Near} → near ≡ nearBy (q .found) (q .number) (getD (s .state .devices) (q .place) blank) (detailsOf (getD (s .state .devices) (q .owner) blank) (q .address))
+        → Lent near (bytesOf t p) (s .state .decoder) (s .state .devices) (s .state .table) (s .state .logs)
     unfolding foundDevice
     streaming-lent taken =
         record {
           ill = well;
           many = g .many;
-          seen = seen-by taken found-is (ap (λ (x : Sight). x .number) seen) (ap (λ (i : ℕ). getD (s .devices) i blank) place-is)
-              (ap (λ (x : Sight). detailsOf (getD (s .devices) (x .owner) blank) (x .address)) seen);
+          seen = seen-by taken found-is (ap (λ (x : Sight). x .number) seen) (ap (λ (i : ℕ). getD (s .state .devices) i blank) place-is)
+              (ap (λ (x : Sight). detailsOf (getD (s .state .devices) (x .owner) blank) (x .address)) seen);
         }
 
   -- ---- what a packet leaves
 
-  module _ {answer : ℕ} {s′ : State} {c′ : Clock} (tick : c′ ≡ tickOf c (p .ticks)) (x : PacketCall (bytesOf t p) (c′ .time) s answer s′) where
-    gives : Gives t (nextAt t at) c s answer s′
+  module _ {answer : ℕ} {s′ : State} {h′ : List ℕ} {c′ : Clock} (tick : c′ ≡ tickOf c (p .ticks)) (x : PacketCall (bytesOf t p) (c′ .time) (s .state) (s .shelf) answer s′ h′) where
+    gives : Gives t (nextAt t at) c s answer (stand s′ h′)
     gives =
-        here t at c s (Packet (p .ticks) (p .start) (p .end) (k .next)) answer s′ (k .found)
-        (subst (λ (u : Clock). PacketCall (bytesOf t p) (u .time) s answer s′) tick x)
+        here t at c s (Packet (p .ticks) (p .start) (p .end) (k .next)) answer (stand s′ h′) (k .found)
+        (subst (λ (u : Clock). PacketCall (bytesOf t p) (u .time) (s .state) (s .shelf) answer s′ h′) tick x)
 
-    -- a refused packet leaves the devices, too, as they were
-    left : accepts answer ≡ false → Takes t at₀ c₀ s₀ n e answer at c (state (s′ .decoder) (s .devices) (s′ .table) (s′ .logs))
+    -- a refused packet leaves what is the loop's, too, as it was: the devices, the log of requests and the shelf
+    left : accepts answer ≡ false → Takes t at₀ c₀ s₀ n e answer at c (stand (state (s′ .decoder) (s .state .devices) (s′ .table) (withRequests (s .state .logs .requests) (s′ .logs))) (s .shelf))
     left h =
-        let same = x .kept (ap accepts (sym (x .answer)) ∙ h) in
-        subst (λ (v : List Device). Takes t at₀ c₀ s₀ n e answer at c (state (s′ .decoder) v (s′ .table) (s′ .logs))) (ap (λ (u : State). u .devices) same)
+        let same = gives-same t (nextAt t at) c s answer (stand s′ h′) gives h in
+        subst (Takes t at₀ c₀ s₀ n e answer at c) (λ i. stand (state (s′ .decoder) (same i .state .devices) (s′ .table) (withRequests (same i .state .logs .requests) (s′ .logs))) (same i .shelf))
         (leads-over (g .leads) (stops gives h))
 
-    pub streaming-stops : accepts answer ≡ false → Runs t at₀ c₀ s₀ (record { going = false; answer = answer; taken = n; eights = e; place = at; clock = c; decoder = s′ .decoder; devices = s .devices }) (s′ .table) (s′ .logs)
+    pub streaming-stops : accepts answer ≡ false → Runs t at₀ c₀ s₀ (record { going = false; answer = answer; taken = n; eights = e; place = at; clock = c; decoder = s′ .decoder; devices = s .state .devices }) (s′ .table) (withRequests (s .state .logs .requests) (s′ .logs)) (s .shelf)
     streaming-stops h = record { leads = λ z. absurd (true≢false (sym z)); over = λ z. left h; counted = (g .leads .few, g .leads .eights) }
 
-    goes : accepts answer ≡ true → Goes t at c s answer (p .next) c′ s′
+    goes : accepts answer ≡ true → Goes t at c s answer (p .next) c′ (stand s′ h′)
     goes h =
         record {
           gives = gives;
@@ -201,8 +198,8 @@ module _ {b : Bool} {t a : List ℕ} {at₀ n e at : ℕ} {c₀ c : Clock} {s₀
           further = streaming-further;
         }
 
-    pub streaming-more : {a′ : List ℕ} {u : ℕ} → accepts answer ≡ true → u ≡ one (eqb answer 8) → Addressed 64 a′ (s′ .devices) → SameSizes (s .logs) (s′ .logs)
-        → Streaming b t at₀ c₀ s₀ (n + 1) (e + u) (p .next) c′ s′ a′
+    pub streaming-more : {a′ : List ℕ} {u : ℕ} → accepts answer ≡ true → u ≡ one (eqb answer 8) → Addressed 64 a′ (s′ .devices) → SameSizes (s .state .logs) (s′ .logs)
+        → Streaming b t at₀ c₀ s₀ (n + 1) (e + u) (p .next) c′ (stand s′ h′) a′
     streaming-more h q d z =
         let l = leads-one (goes h) in
-        record { leads = leads-then (g .leads) (subst (λ (f : ℕ). Leads t at c s 1 f (p .next) c′ s′) (sym q) l); sizes = λ j u. z j u ∙ g .sizes j u; fits = l .fits b (g .fits); many = l .many ∙ g .many; addressed = d }
+        record { leads = leads-then (g .leads) (subst (λ (f : ℕ). Leads t at c s 1 f (p .next) c′ (stand s′ h′)) (sym q) l); sizes = λ j u. z j u ∙ g .sizes j u; fits = l .fits b (g .fits); many = l .many ∙ g .many; addressed = d }

@@ -1,4 +1,4 @@
-// The packets that the block takes by the inner call, one after the other, in a loop that owns the devices.
+// The packets that the block takes by the inner call, one after the other, in a loop that owns the devices and is lent the shelf.
 mod address;
 mod part;
 mod sight;
@@ -9,11 +9,11 @@ use crate::sight::near_by;
 use crate::sight::sight_of;
 use details::Device;
 use endpoints::Table;
-use packet::change::added_by;
 use packet::change::is_change;
-use packet::change::row_by;
+use packet::change::make_change;
 use quick::quick_in;
 use record::Decoder;
+use shelving::Shelf;
 use step::eight;
 use step::goes_on;
 use trace::clock::Clock;
@@ -22,6 +22,7 @@ use trace::reader::record_at;
 ghost use mathlib.Core.Bool.{true};
 ghost use mathlib.Core.Path.{_≡_};
 ghost use Rattle.call.specs.State.{state, logs};
+ghost use Rattle.step.specs.Block.{stand};
 ghost use Rattle.stream.specs.Leads.{Fits, Runs};
 
 // Where it ends: at a record that it doesn't take, so the block goes on there; or at a packet that was refused, with that answer.
@@ -57,9 +58,10 @@ pub fn run_packets(
     items: &mut [u64],
     links: &mut [u64],
     requests: &mut [u64],
+    shelf: &mut Shelf,
 ) -> Run
     requires { ⌜ Fits ready (state d devices (now table) (logs (now bytes) (now «device_rows») (now «endpoint_rows») (now packets) (now events) (now transactions) (now groups) (now statebytes) (now states) (now items) (now links) (now requests))) ⌝ }
-    ensures { λ r. ⌜ Runs (now (records .entry)) at clock (state d devices (now (table .entry)) (logs (now (bytes .entry)) (now («device_rows» .entry)) (now («endpoint_rows» .entry)) (now (packets .entry)) (now (events .entry)) (now (transactions .entry)) (now (groups .entry)) (now (statebytes .entry)) (now (states .entry)) (now (items .entry)) (now (links .entry)) (now (requests .entry)))) r (now (table .exit)) (logs (now (bytes .exit)) (now («device_rows» .exit)) (now («endpoint_rows» .exit)) (now (packets .exit)) (now (events .entry)) (now (transactions .exit)) (now (groups .exit)) (now (statebytes .exit)) (now (states .exit)) (now (items .exit)) (now (links .exit)) (now (requests .exit))) ⌝ }
+    ensures { λ r. ⌜ Runs (now (records .entry)) at clock (stand (state d devices (now (table .entry)) (logs (now (bytes .entry)) (now («device_rows» .entry)) (now («endpoint_rows» .entry)) (now (packets .entry)) (now (events .entry)) (now (transactions .entry)) (now (groups .entry)) (now (statebytes .entry)) (now (states .entry)) (now (items .entry)) (now (links .entry)) (now (requests .entry)))) (now (shelf .entry))) r (now (table .exit)) (logs (now (bytes .exit)) (now («device_rows» .exit)) (now («endpoint_rows» .exit)) (now (packets .exit)) (now (events .entry)) (now (transactions .exit)) (now (groups .exit)) (now (statebytes .exit)) (now (states .exit)) (now (items .exit)) (now (links .exit)) (now (requests .exit))) (now (shelf .exit)) ⌝ }
 {
     let mut decoder = d;
     let mut addresses = addresses_of(devices);
@@ -131,14 +133,9 @@ pub fn run_packets(
         eights += eight(answer);
         let c = r.change;
         if is_change(c) {
-            let place = c.place;
-            let row = row_by(c, devices[place]);
-            devices[place] = row;
-            addresses[place] = row.address;
-            let place = c.at;
-            let added = added_by(c, devices[place]);
-            devices[place] = added;
-            addresses[place] = added.address;
+            let changed = make_change(c, devices, &records[begin..end], shelf, requests);
+            addresses = addresses_of(changed);
+            devices = changed;
         }
     }
 }

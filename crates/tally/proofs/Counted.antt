@@ -12,7 +12,7 @@ use Rattle.transaction.specs.declared.Transaction.{Transaction}
 use Rattle.details.specs.declared.Device.{Device}
 use Rattle.endpoints.specs.declared.Endpoint.{Endpoint}
 use Rattle.endpoints.specs.declared.Phase.{Phase}
-use Rattle.rules.specs.World.{World, withContext, phase, change, changeDevice, withTransaction, isEnded, waitingOf}
+use Rattle.rules.specs.World.{World, withContext, withShelf, phase, change, changeDevice, withTransaction, isEnded, waitingOf}
 use Rattle.rules.specs.Endpoints as rules
 use Rattle.rules.specs.Groups.{becomes}
 use Rattle.rules.specs.Transactions.{pushTransaction}
@@ -38,12 +38,16 @@ use Rattle.tally.specs.Suited.{BeginSuits, EndSuits, PlanSuits, EndingSu
 
 -- what is no row changes no tally: slot, transaction, event state, keepalive group, context and details
 pub same-adds : {t : Tally} {w₀ w : World} (s : Slot) (x : Transaction) (e : EventState) (k : Bool) (c : Stamp) (d : ℕ → Device) → Adds t w₀ w
-    → Adds t w₀ (record { endpoints = w .endpoints; count = w .count; devices = d; deviceCount = w .deviceCount; slot = s; transaction = x; lastItem = w .lastItem; eventState = e; keepalive = k; context = c; bytes = w .bytes; packets = w .packets; transactions = w .transactions; groups = w .groups; stateBytes = w .stateBytes; items = w .items; journal = w .journal })
+    → Adds t w₀ (record { endpoints = w .endpoints; count = w .count; devices = d; deviceCount = w .deviceCount; slot = s; transaction = x; lastItem = w .lastItem; eventState = e; keepalive = k; context = c; shelf = w .shelf; bytes = w .bytes; packets = w .packets; transactions = w .transactions; groups = w .groups; stateBytes = w .stateBytes; items = w .items; journal = w .journal })
 same-adds s x e k c d a = record { words = a .words; waiting = a .waiting; bytes = a .bytes; devices = a .devices; endpoints = a .endpoints; packets = a .packets; transactions = a .transactions; groups = a .groups; statebytes = a .statebytes; items = a .items }
 
 -- nor where the call began with another context
 pub adds-from : {t : Tally} {w v : World} (c : Stamp) → Adds t (withContext c w) v → Adds t w v
 adds-from c a = record { words = a .words; waiting = a .waiting; bytes = a .bytes; devices = a .devices; endpoints = a .endpoints; packets = a .packets; transactions = a .transactions; groups = a .groups; statebytes = a .statebytes; items = a .items }
+
+-- nor with another shelf
+pub adds-shelf : {t : Tally} {w v : World} (h : List ℕ) → Adds t (withShelf h w) v → Adds t w v
+adds-shelf h a = record { words = a .words; waiting = a .waiting; bytes = a .bytes; devices = a .devices; endpoints = a .endpoints; packets = a .packets; transactions = a .transactions; groups = a .groups; statebytes = a .statebytes; items = a .items }
 
 -- ---- a step that begins
 

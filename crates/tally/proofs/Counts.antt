@@ -6,8 +6,9 @@ use Prim.Native.Nat.{ℕ, _+_, _/_}
 use native.Mathlib.Omega.{arith}
 use lib.ListN.{length}
 use Rattle.details.specs.declared.Device.{Device}
+use Rattle.rows.specs.Widths.{requestWidth}
 use Rattle.rules.specs.Rows.{Row, log}
-use Rattle.rules.specs.World.{World}
+use Rattle.rules.specs.World.{World, withShelf}
 use Rattle.tally.specs.Tally.{wordsIn, inLog, wordsFor, Adds}
 use Rattle.rules.specs.World.{waitingOf}
 use Rattle.tally.specs.declared.add.Tally.{Tally}
@@ -25,7 +26,7 @@ use Rattle.plan.specs.declared.Plan.{Plan}
 use Rattle.tally.specs.Has.{Has}
 use Rattle.tally.specs.Suited.{PlanSuits, EndingSuits}
 use Rattle.tally.specs.Tallies.{tallyPlan, tallyEnding, addCounts, roomFor}
-use Rattle.tally.proofs.Counted.{played-adds, ending-adds}
+use Rattle.tally.proofs.Counted.{adds-shelf, played-adds, ending-adds}
 
 abbrev counts : ℕ → ℕ → ℕ → ℕ → ℕ → ℕ → ℕ → ℕ → ℕ → ℕ → ℕ → ℕ → Counts
 counts bytes devices endpoints packets events transactions groups statebytes states items links requests =
@@ -52,7 +53,7 @@ module _ {n : Counts} {t : Tally} {w v : World} (h : Has n w) (a : Adds t w v) w
   unfolding inLog
   links = let e = words 10 in omega arith
 
-  requests : length (log 11 (v .journal)) / 3 ≡ t .requests
+  requests : length (log 11 (v .journal)) / requestWidth ≡ t .requests
   unfolding inLog
   requests = let e = words 11 in omega arith
 
@@ -99,10 +100,10 @@ unfolding isFull
 state-full {t} s b a =
     ap not (ap (λ (m : Counts). roomy (s .table) m (roomOf (s .logs))) (counts-after (world-has (s .decoder) (s .devices) (s .table)) a) ∙ roomy-add b t (roomOf (s .logs)))
 
--- answer 7 of a packet, and of finish
-pub played-full : (p : Plan) (packet : List ℕ) (time : ℕ) (s : State) → Begun (s .table) (s .decoder .counts) → PlanSuits p packet time (worldAt s)
-    → isFull s (played p packet time (worldAt s)) ≡ not (roomFor (heldAt s) (s .decoder .counts) (tallyPlan p (length packet) (s .decoder .counts .endpoints) (waitingOf (worldAt s))) (roomOf (s .logs)))
-played-full p packet time s b h = state-full s b (played-adds p packet time (worldAt s) h)
+-- answer 7 of a packet, whatever the shelf holds, and of finish
+pub played-full : (p : Plan) (packet : List ℕ) (time : ℕ) (h : List ℕ) (s : State) → Begun (s .table) (s .decoder .counts) → PlanSuits p packet time (withShelf h (worldAt s))
+    → isFull s (played p packet time (withShelf h (worldAt s))) ≡ not (roomFor (heldAt s) (s .decoder .counts) (tallyPlan p (length packet) (s .decoder .counts .endpoints) (waitingOf (worldAt s))) (roomOf (s .logs)))
+played-full p packet time h s b u = state-full s b (adds-shelf h (played-adds p packet time (withShelf h (worldAt s)) u))
 
 pub ending-full : (e : Ending) (s : State) → Begun (s .table) (s .decoder .counts) → EndingSuits e (worldAt s)
     → isFull s (endPlayed e (worldAt s)) ≡ not (roomFor (heldAt s) (s .decoder .counts) (tallyEnding e (s .decoder .counts .endpoints) (waitingOf (worldAt s))) (roomOf (s .logs)))

@@ -11,7 +11,7 @@ use Rattle.endpoints.specs.PhasesLaws.{count-ext, phase-entry}
 use Rattle.endpoints.specs.Table.{entryAt}
 use Rattle.endpoints.specs.Word as word
 use Rattle.details.specs.declared.Device.{Device}
-use Rattle.rules.specs.World.{World}
+use Rattle.rules.specs.World.{World, withShelf}
 use Rattle.rules.specs.declared.Slot.{Slot}
 use Rattle.rules.specs.declared.Slot.the-variants.{Empty, Current, Suspended}
 use Rattle.rules.specs.World.{endedIn, waitingOf}
@@ -72,19 +72,22 @@ module _ {d : Decoder} {devices : List Device} {table : List ℕ} {room : Counts
   pub waiting-few : d .waiting ≤ 128
   waiting-few = let c = count-few (inPhase word.Ended table) (d .counts .endpoints) 0 in let f = h .counts .fewEndpoints in let e = h .waiting in omega (arith, c, f, e)
 
--- answer 7 of a packet, by the record's count of those that wait
-pub packet-full-is : (packet : List ℕ) (time : ℕ) (s : State) (room : Counts) → WellFormed (s .decoder) (s .devices) (s .table) room
-    → isFull s (played (planOf packet (worldAt s)) packet time (worldAt s))
-    ≡ not (roomFor (heldAt s) (s .decoder .counts) (tallyPlan (planOf packet (worldAt s)) (length packet) (s .decoder .counts .endpoints) (s .decoder .waiting)) (roomOf (s .logs)))
-packet-full-is packet time s room h =
-    let p = planOf packet (worldAt s) in
-    played-full p packet time s (h .begun) (plan-suits packet time (worldAt s) (three h) (old-stands h))
+-- answer 7 of a packet, by the record's count of those that wait, whatever the shelf holds
+pub packet-full-is : (packet : List ℕ) (time : ℕ) (shelf : List ℕ) (s : State) (room : Counts) → WellFormed (s .decoder) (s .devices) (s .table) room
+    → (let w = withShelf shelf (worldAt s) in isFull s (played (planOf packet w) packet time w)
+    ≡ not (roomFor (heldAt s) (s .decoder .counts) (tallyPlan (planOf packet w) (length packet) (s .decoder .counts .endpoints) (s .decoder .waiting)) (roomOf (s .logs))))
+packet-full-is packet time shelf s room h =
+    let w = withShelf shelf (worldAt s) in
+    let p = planOf packet w in
+    played-full p packet time shelf s (h .begun) (plan-suits packet time w (three h) (old-stands h))
     ∙ ap (λ (m : ℕ). not (roomFor (heldAt s) (s .decoder .counts) (tallyPlan p (length packet) (s .decoder .counts .endpoints) m) (roomOf (s .logs)))) (waiting-is h)
 
 -- answer 9 of a packet
-pub packet-over-is : (packet : List ℕ) (time : ℕ) (s : State) (room : Counts) → WellFormed (s .decoder) (s .devices) (s .table) room → Totalled (worldAt s)
-    → isOver (played (planOf packet (worldAt s)) packet time (worldAt s)) ≡ planPasses (planOf packet (worldAt s))
-packet-over-is packet time s room h t = played-over (planOf packet (worldAt s)) packet time (worldAt s) (plan-totals packet time (worldAt s) (three h) (old-stands h)) t
+pub packet-over-is : (packet : List ℕ) (time : ℕ) (shelf : List ℕ) (s : State) (room : Counts) → WellFormed (s .decoder) (s .devices) (s .table) room → Totalled (withShelf shelf (worldAt s))
+    → (let w = withShelf shelf (worldAt s) in isOver (played (planOf packet w) packet time w) ≡ planPasses (planOf packet w))
+packet-over-is packet time shelf s room h t =
+    let w = withShelf shelf (worldAt s) in
+    played-over (planOf packet w) packet time w (plan-totals packet time w (three h) (old-stands h)) t
 
 -- answer 7 of finish
 pub finish-full-is : (s : State) (room : Counts) → WellFormed (s .decoder) (s .devices) (s .table) room

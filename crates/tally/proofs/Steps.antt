@@ -20,7 +20,8 @@ use Rattle.rules.specs.Rows.{BytesRow, DeviceRow, EndpointRow, PacketRow, Event
 use Rattle.rules.specs.World.{World, _▷_, push, withPending, withTotal, endedIn, waitingOf}
 use Rattle.endpoints.specs.Table.{newEndpoint}
 use Rattle.rules.specs.Endpoints as rules
-use Rattle.rules.specs.Groups.{effectStep}
+use Rattle.descriptors.specs.Complete.{noteBy}
+use Rattle.rules.specs.Groups.{askedOf, effectStep}
 use Rattle.rules.specs.Transactions.{pushTransaction}
 use Rattle.rules.specs.Decoder.{appendBytes, pushPacket}
 use Rattle.update.specs.Effect.{effectEntry}
@@ -73,7 +74,7 @@ module _ {t : Tally} {w₀ w : World} (a : Adds t w₀ w) where
   effect-adds NoEffect x h = a
   effect-adds (NewDevice address) x h = device-adds address
   effect-adds (Request n) x h =
-      record { words = (λ k. omega (arith, row k (RequestRow (asking x (w .endpoints x .setup) n)) (w .journal), more 11 k (t .requests * requestWidth) 3 ((t .requests + 1) * requestWidth) (omega arith), a .words k)); waiting = a .waiting; bytes = a .bytes; devices = a .devices; endpoints = a .endpoints; packets = a .packets; transactions = a .transactions; groups = a .groups; statebytes = a .statebytes; items = a .items }
+      record { words = (λ k. omega (arith, row k (RequestRow (asking x (w .endpoints x .setup) n (noteBy (askedOf n x w) (w .shelf)))) (w .journal), more 11 k (t .requests * requestWidth) 4 ((t .requests + 1) * requestWidth) (omega arith), a .words k)); waiting = a .waiting; bytes = a .bytes; devices = a .devices; endpoints = a .endpoints; packets = a .packets; transactions = a .transactions; groups = a .groups; statebytes = a .statebytes; items = a .items }
   effect-adds (PendingData n) x h =
       let c = waiting-change x (withPending n (w .transaction .link)) w h in
       record { words = a .words; waiting = omega (arith, c, a .waiting); bytes = a .bytes; devices = a .devices; endpoints = a .endpoints; packets = a .packets; transactions = a .transactions; groups = a .groups; statebytes = a .statebytes; items = a .items }

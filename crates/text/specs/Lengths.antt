@@ -10,7 +10,7 @@ use lib.ListN.{length, getD, length-append, length-map}
 use Rattle.text.specs.Words as words
 use Rattle.text.specs.Words.{space, newline, inEnd, outEnd, startEnd, endEnd}
 use Rattle.text.specs.Numbers.{digit, digits, decimal, hexBytes}
-use Rattle.text.specs.Lines.{fields, line, deviceLine, endpointLine, packetLine, eventLine, transactionLine, groupLine, stateLine, itemLine, linkLine, requestLine, refusedLine, longest}
+use Rattle.text.specs.Lines.{fields, line, deviceLine, endpointLine, packetLine, eventLine, transactionLine, groupLine, stateLine, itemLine, linkLine, noteEnd, requestLine, refusedLine, longest}
 
 chosen : (n : ℕ) (b : Bool) (x y : List ℕ) → length x ≤ n → length y ≤ n → length (cond b x y) ≤ n
 chosen n true x y f g = f
@@ -76,15 +76,23 @@ module _ (row : ℕ) (w : List ℕ) where
   pub item-fits : length (itemLine row w) ≤ longest
   item-fits = within words.item (row ∷ getD w 0 0 ∷ []) newline (omega arith)
 
+  note-length : (what count : ℕ) → length (noteEnd what count) ≤ 27
+  unfolding noteEnd
+  note-length what count =
+      chosen 27 (eqb what 1) _ _ (omega (arith, line-length words.max (count ∷ []) newline))
+      (chosen 27 (eqb what 2) _ _ (omega (arith, line-length words.read (count ∷ []) newline))
+      (chosen 27 (eqb what 3) _ _ (omega (arith, line-length words.set (count ∷ []) newline)) (omega arith)))
+
   pub request-fits : length (requestLine row w) ≤ longest
-  unfolding requestLine
+  unfolding requestLine decimal
   request-fits =
       simp length-append
       (omega (
         arith,
         line-length words.request (row ∷ getD w 0 0 ∷ []) (space ∷ []),
         hex-length 8 (getD w 1 0),
-        line-length [] (getD w 2 0 ∷ []) newline,
+        digits-length 20 (getD w 2 0),
+        note-length (getD w 3 0 % 4) (getD w 3 0 / 4),
       ))
 
 pub link-fits : (w : List ℕ) → length (linkLine w) ≤ longest

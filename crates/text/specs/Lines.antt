@@ -1,13 +1,13 @@
 -- To be believed: Document 01, "Trace and listing": a line for each kind of row, from the row's number and its words.
 -- Assumes nothing.
--- Hold it to: 01, "Trace and listing": what a line of each kind has
-use Prim.Native.Nat.{ℕ, _+_}
+-- Hold it to: 01, "Trace and listing": what a line of each kind has; 02, 2: "gains a note of what was taken"
+use Prim.Native.Nat.{ℕ, _+_, _/_, _%_}
 use mathlib.Core.Bool.{cond}
 use mathlib.Core.List.{List, [], _∷_, _++_, map}
 use lib.Dec.{eqb}
 use lib.ListN.{getD}
 use Rattle.text.specs.Words as words
-use Rattle.text.specs.Words.{space, newline, eventEnd, invalidEnd, framingEnd, inEnd, outEnd, startEnd, endEnd}
+use Rattle.text.specs.Words.{space, newline, eventEnd, invalidEnd, framingEnd, inEnd, outEnd, startEnd, endEnd, noneEnd}
 use Rattle.text.specs.Numbers.{decimal, hexSetup, letter}
 
 -- each number after a space
@@ -75,9 +75,18 @@ linkLine w =
     (cond (eqb (first w) 2) (line words.linkD (second w ∷ third w ∷ fourth w ∷ []) newline)
     (line words.linkE (second w ∷ third w ∷ []) newline)))
 
--- request: endpoint, setup data, length
+-- what was taken of a request (02, 2): a device's largest packet, so many entries read, so many details set; or nothing
+unfoldable pub noteEnd : ℕ → ℕ → List ℕ
+noteEnd what count =
+    cond (eqb what 1) (line words.max (count ∷ []) newline)
+    (cond (eqb what 2) (line words.read (count ∷ []) newline)
+    (cond (eqb what 3) (line words.set (count ∷ []) newline) noneEnd))
+
+-- request: endpoint, setup data, length, note: four times the count, and what was taken
 unfoldable pub requestLine : ℕ → List ℕ → List ℕ
-requestLine row w = line words.request (row ∷ first w ∷ []) (space ∷ []) ++ (hexSetup (second w) ++ line [] (third w ∷ []) newline)
+requestLine row w =
+    line words.request (row ∷ first w ∷ []) (space ∷ [])
+    ++ (hexSetup (second w) ++ ((space ∷ decimal (third w)) ++ noteEnd (fourth w % 4) (fourth w / 4)))
 
 -- `refused N at B`
 unfoldable pub refusedLine : ℕ → ℕ → List ℕ

@@ -1,6 +1,6 @@
 -- To be believed: the words of document 01's listing, byte by byte (ASCII): what a line begins with, and what it ends with.
 -- Assumes nothing.
--- Hold it to: 01, "Trace and listing": the words of its example and of the paragraph below it, in ASCII
+-- Hold it to: 01, "Trace and listing": the words of its example and of the paragraph below it, in ASCII; the words of a request's note are ours (02, 2)
 use Prim.Native.Nat.{ℕ}
 use mathlib.Core.List.{List, [], _∷_}
 
@@ -67,6 +67,18 @@ request = 0x72 ∷ 0x65 ∷ 0x71 ∷ 0x75 ∷ 0x65 ∷ 0x73 ∷ 0x74 ∷ []
 abbrev pub refused : List ℕ
 refused = 0x72 ∷ 0x65 ∷ 0x66 ∷ 0x75 ∷ 0x73 ∷ 0x65 ∷ 0x64 ∷ []
 
+-- ` max`
+abbrev pub max : List ℕ
+max = 0x20 ∷ 0x6D ∷ 0x61 ∷ 0x78 ∷ []
+
+-- ` read`
+abbrev pub read : List ℕ
+read = 0x20 ∷ 0x72 ∷ 0x65 ∷ 0x61 ∷ 0x64 ∷ []
+
+-- ` set`
+abbrev pub set : List ℕ
+set = 0x20 ∷ 0x73 ∷ 0x65 ∷ 0x74 ∷ []
+
 -- ` at`
 abbrev pub place : List ℕ
 place = 0x20 ∷ 0x61 ∷ 0x74 ∷ []
@@ -106,3 +118,7 @@ startEnd = 0x20 ∷ 0x73 ∷ 0x74 ∷ 0x61 ∷ 0x72 ∷ 0x74 ∷ 0x0A ∷ []
 -- ` end` and the end of the line
 abbrev pub endEnd : List ℕ
 endEnd = 0x20 ∷ 0x65 ∷ 0x6E ∷ 0x64 ∷ 0x0A ∷ []
+
+-- ` none` and the end of the line
+abbrev pub noneEnd : List ℕ
+noneEnd = 0x20 ∷ 0x6E ∷ 0x6F ∷ 0x6E ∷ 0x65 ∷ 0x0A ∷ []

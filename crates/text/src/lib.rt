@@ -145,6 +145,19 @@ pub fn link_line(out: &mut [u8], at: usize, kind: u64, endpoint: u64, n: u64, to
     }
 }
 
+// How the line of a request ends: what was taken of it, and how much.
+fn note_end(out: &mut [u8], at: usize, what: u64, count: u64) -> usize
+    requires { ⌜ Room (now out) at (lines.noteEnd what count) ⌝ }
+    ensures { λ r. ⌜ Appended (now (out .entry)) at (lines.noteEnd what count) (now (out .exit)) r ⌝ }
+{
+    match what {
+        1 => line(out, at, b" max", &[count], b"\n"),
+        2 => line(out, at, b" read", &[count], b"\n"),
+        3 => line(out, at, b" set", &[count], b"\n"),
+        _ => number::word(out, at, b" none\n"),
+    }
+}
+
 pub fn request_line(
     out: &mut [u8],
     at: usize,
@@ -152,13 +165,15 @@ pub fn request_line(
     endpoint: u64,
     setup: u64,
     length: u64,
+    note: u64,
 ) -> usize
-    requires { ⌜ Room (now out) at (lines.requestLine row (endpoint ∷ setup ∷ length ∷ [])) ⌝ }
-    ensures { λ r. ⌜ Appended (now (out .entry)) at (lines.requestLine row (endpoint ∷ setup ∷ length ∷ [])) (now (out .exit)) r ⌝ }
+    requires { ⌜ Room (now out) at (lines.requestLine row (endpoint ∷ setup ∷ length ∷ note ∷ [])) ⌝ }
+    ensures { λ r. ⌜ Appended (now (out .entry)) at (lines.requestLine row (endpoint ∷ setup ∷ length ∷ note ∷ [])) (now (out .exit)) r ⌝ }
 {
     let next = line(out, at, b"request", &[row, endpoint], b" ");
     let next = number::hex_setup(out, next, setup);
-    line(out, next, b"", &[length], b"\n")
+    let next = field(out, next, length);
+    note_end(out, next, note % 4, note / 4)
 }
 
 pub fn refused_line(out: &mut [u8], at: usize, answer: u64, place: u64) -> usize

@@ -34,7 +34,7 @@ fn split_setup(sc: u8, kind: u8, pid: u8) -> bool
 }
 
 // Whether a DATA0 brings setup bytes.
-fn takes_setup(style: Style) -> bool
+pub fn takes_setup(style: Style) -> bool
     ensures { λ r. ⌜ r ≡ takesSetup style ⌝ }
 {
     match style {

@@ -6,26 +6,26 @@ use mathlib.Core.List.{List, [], _∷_}
 use mathlib.Core.Path.{_≡_, refl}
 use lib.ListN.{length}
 use lib.Seq.{sets, length-sets}
-use Rattle.rows.specs.Widths.{linkWidth, requestWidth, transactionWidth}
+use Rattle.rows.specs.Widths.{linkWidth, transactionWidth}
 use Rattle.rows.specs.Sets.{opt}
 use Rattle.write.specs.declared.Written.{Written}
 use Rattle.endpoints.specs.Table.{entryAt}
-use Rattle.group.specs.declared.Effect.the-variants.{NewDevice, Request, IndexData}
+use Rattle.group.specs.declared.Effect.the-variants.{NewDevice, IndexData}
 use Rattle.rules.specs.Rows.{naming, transactionWords}
 use Rattle.write_packet.specs.Asked.{RoomEffect}
-use Rattle.write_packet.specs.Desk.{Desk, desk, plus, totalWords, requestWordsBy, effectDesk}
+use Rattle.write_packet.specs.Desk.{Desk, desk, plus, totalWords, effectDesk}
 use Rattle.write_packet.specs.declared.Hand.{Hand}
 
-abbrev pub hand : Written → ℕ → ℕ → ℕ → ℕ → Hand
-hand d r v n q = record { written = d; transactions = r; devices = v; endpoints = n; requests = q }
+abbrev pub hand : Written → ℕ → ℕ → ℕ → Hand
+hand d r v n = record { written = d; transactions = r; devices = v; endpoints = n }
 
-pub hands : {d d′ : Written} {r r′ v v′ n n′ q q′ : ℕ} → d ≡ d′ → r ≡ r′ → v ≡ v′ → n ≡ n′ → q ≡ q′ → hand d r v n q ≡ hand d′ r′ v′ n′ q′
-hands d r v n q = rw (d, r, v, n, q) refl
+pub hands : {d d′ : Written} {r r′ v v′ n n′ : ℕ} → d ≡ d′ → r ≡ r′ → v ≡ v′ → n ≡ n′ → hand d r v n ≡ hand d′ r′ v′ n′
+hands d r v n = rw (d, r, v, n) refl
 
-pub desks : {h h′ : Hand} {t t′ d d′ e e′ r r′ g g′ m m′ s s′ i i′ l l′ q q′ : List ℕ}
-    → h ≡ h′ → t ≡ t′ → d ≡ d′ → e ≡ e′ → r ≡ r′ → g ≡ g′ → m ≡ m′ → s ≡ s′ → i ≡ i′ → l ≡ l′ → q ≡ q′
-    → desk h t d e r g m s i l q ≡ desk h′ t′ d′ e′ r′ g′ m′ s′ i′ l′ q′
-desks h t d e r g m s i l q = rw (h, t, d, e, r, g, m, s, i, l, q) refl
+pub desks : {h h′ : Hand} {t t′ d d′ e e′ r r′ g g′ m m′ s s′ i i′ l l′ : List ℕ}
+    → h ≡ h′ → t ≡ t′ → d ≡ d′ → e ≡ e′ → r ≡ r′ → g ≡ g′ → m ≡ m′ → s ≡ s′ → i ≡ i′ → l ≡ l′
+    → desk h t d e r g m s i l ≡ desk h′ t′ d′ e′ r′ g′ m′ s′ i′ l′
+desks h t d e r g m s i l = rw (h, t, d, e, r, g, m, s, i, l) refl
 
 -- a log has room for a row where it has it after the row, and the count then fits
 pub row1-fits : (b : Bool) (a at : ℕ) (l : List ℕ) → plus b at ≤ length (sets l at (opt b (a ∷ []))) → at + length (opt b (a ∷ [])) ≤ length l
@@ -49,9 +49,6 @@ plus-le false n = omega arith
 module _ (k : Desk) where
   pub device-asks : (a x : ℕ) → RoomEffect (effectDesk (NewDevice a) x k) → k .hand .devices + 1 ≤ length (k .devices)
   device-asks a x r = omega (arith, r .devices, length-sets (k .devices) (k .hand .devices) (a ∷ []))
-
-  pub request-asks : (n x : ℕ) → RoomEffect (effectDesk (Request n) x k) → (k .hand .requests + 1) * requestWidth ≤ length (k .requests)
-  request-asks n x r = omega (arith, r .requests, length-sets (k .requests) (k .hand .requests * requestWidth) (requestWordsBy (Request n) x (entryAt (k .table) x)))
 
   pub total-asks : (n : ℕ) (waited : Bool) (i x : ℕ) → RoomEffect (effectDesk (IndexData n waited i) x k) → (k .hand .written .links + 1) * linkWidth ≤ length (k .links)
   total-asks n waited i x r = omega (arith, r .links, length-sets (k .links) (k .hand .written .links * linkWidth) (totalWords (IndexData n waited i) x (entryAt (k .table) x) (k .hand .written .link)))

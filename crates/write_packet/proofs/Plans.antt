@@ -5,7 +5,7 @@ use mathlib.Core.Bool.{Bool, true, false}
 use mathlib.Core.List.{[]}
 use mathlib.Core.Path.{_≡_, refl, ap, _∙_}
 use lib.Seq.{length-sets}
-use Rattle.rows.specs.Widths.{endpointWidth, requestWidth, transactionWidth}
+use Rattle.rows.specs.Widths.{endpointWidth, transactionWidth}
 use Rattle.endpoints.specs.Table.{entryAt}
 use Rattle.transaction.specs.Payload.{startPid}
 use Rattle.group.specs.declared.Effect.{Effect}
@@ -19,7 +19,7 @@ use Rattle.plan.specs.declared.Begin.{Begin}
 use Rattle.plan.specs.declared.End.{End}
 use Rattle.plan.specs.declared.Plan.{Plan}
 use Rattle.write_packet.specs.Asked.{RoomAll, BeginsIf, EndsIf, PlanAsks}
-use Rattle.write_packet.specs.Desk.{Desk, desk, memoryOf, transactionWordsIf, deviceWords, endpointWords, openedDesk, begunDesk, storedDesk, devicesBy, requestsBy, newDeviceWords, requestWordsBy, closingDesk, endedDesk, desk2, desk3, desk4}
+use Rattle.write_packet.specs.Desk.{Desk, desk, memoryOf, transactionWordsIf, deviceWords, endpointWords, openedDesk, begunDesk, storedDesk, devicesBy, newDeviceWords, closingDesk, endedDesk, desk2, desk3, desk4}
 use Rattle.write_packet.specs.ReadyLaws.{begins-if, ends-if}
 use Rattle.write_packet.proofs.Parts.{plus-le}
 use Rattle.write_packet.proofs.Steps.{room-effect}
@@ -37,7 +37,6 @@ room-begun s k r =
       devices = omega (arith, r .devices, plus-le (s .device) (k .hand .devices), length-sets (k .devices) (k .hand .devices) (deviceWords s));
       endpoints = omega (arith, r .endpoints, plus-le (s .endpoint) (k .hand .endpoints), length-sets (k .endpoints) (k .hand .endpoints * endpointWidth) (endpointWords s));
       transactions = omega (arith, r .transactions, plus-le (s .row) (k .hand .transactions), length-sets (k .transactions) (k .hand .transactions * transactionWidth) (transactionWordsIf (k .hand .written .stamp) s));
-      requests = r .requests;
     }
   where
     bare : Room (memoryOf (openedDesk s k)) → Room (memoryOf k)
@@ -50,13 +49,6 @@ devices-le (Request m) n = omega arith
 devices-le (PendingData m) n = omega arith
 devices-le (IndexData m waited i) n = omega arith
 
-requests-le : (f : Effect) (n : ℕ) → n ≤ requestsBy f n
-requests-le NoEffect n = omega arith
-requests-le (NewDevice address) n = omega arith
-requests-le (Request m) n = omega arith
-requests-le (PendingData m) n = omega arith
-requests-le (IndexData m waited i) n = omega arith
-
 pub room-ended : (x id pid : ℕ) (s : End) (k : Desk) → RoomAll (endedDesk x id pid s k) → RoomAll k
 unfolding endedDesk
 room-ended x id pid s k r =
@@ -65,7 +57,6 @@ room-ended x id pid s k r =
       devices = omega (arith, r .devices, devices-le (s .effect) (k .hand .devices), length-sets (k .devices) (k .hand .devices) (newDeviceWords (s .effect)));
       endpoints = r .endpoints;
       transactions = r .transactions;
-      requests = omega (arith, r .requests, requests-le (s .effect) (k .hand .requests), length-sets (k .requests) (k .hand .requests * requestWidth) (requestWordsBy (s .effect) x (entryAt (closingDesk x id pid s k .table) x)));
     }
   where
     bare : Room (memoryOf (storedDesk x (s .entry) k)) → Room (memoryOf k)
@@ -87,19 +78,19 @@ module _ (p : Plan) (k : Desk) (a : PlanAsks p k) where
   room2 : RoomAll (desk2 p k)
   room2 = when-room (p .ends) _ (λ y r. room-ended (p .old) (p .brought .id) (startPid (p .brought .style)) (p .end) y r) (desk2 p k) room3
 
-  pub first : BeginsIf (p .resumes) (p .resume) (desk (k .hand) (k .table) (k .devices) (k .endpoints) (k .transactions) (k .groups) (k .statebytes) (k .states) (k .items) (k .links) [])
+  pub first : BeginsIf (p .resumes) (p .resume) (desk (k .hand) (k .table) (k .devices) (k .endpoints) (k .transactions) (k .groups) (k .statebytes) (k .states) (k .items) (k .links))
   first = begins-if (p .resumes) (p .resume) k k refl room2 (a .resume)
 
   pub second : (pid : ℕ) → pid ≡ startPid (p .brought .style) → (k₁ : Desk) → k₁ ≡ desk2 p k
-      → EndsIf (p .ends) (p .old) (p .brought .id) pid (p .end) (desk (k₁ .hand) (k₁ .table) (k₁ .devices) [] [] (k₁ .groups) (k₁ .statebytes) (k₁ .states) (k₁ .items) (k₁ .links) (k₁ .requests))
+      → EndsIf (p .ends) (p .old) (p .brought .id) pid (p .end) (desk (k₁ .hand) (k₁ .table) (k₁ .devices) [] [] (k₁ .groups) (k₁ .statebytes) (k₁ .states) (k₁ .items) (k₁ .links))
   second pid f k₁ e = ends-if (p .ends) (p .old) (p .brought .id) (startPid (p .brought .style)) pid (p .end) (desk2 p k) k₁ e f room3 (a .end)
 
   pub third : (k₁ : Desk) → k₁ ≡ desk3 p k
-      → BeginsIf true (p .begin) (desk (k₁ .hand) (k₁ .table) (k₁ .devices) (k₁ .endpoints) (k₁ .transactions) (k₁ .groups) (k₁ .statebytes) (k₁ .states) (k₁ .items) (k₁ .links) [])
+      → BeginsIf true (p .begin) (desk (k₁ .hand) (k₁ .table) (k₁ .devices) (k₁ .endpoints) (k₁ .transactions) (k₁ .groups) (k₁ .statebytes) (k₁ .states) (k₁ .items) (k₁ .links))
   third k₁ e = begins-if true (p .begin) (desk3 p k) k₁ e room4 (λ t. a .begin)
 
   pub fourth : (pid : ℕ) → pid ≡ startPid (p .begin .transaction .style) → (k₁ : Desk) → k₁ ≡ desk4 p k
-      → EndsIf (p .closes) (p .begin .transaction .endpoint) (p .begin .transaction .id) pid (p .close) (desk (k₁ .hand) (k₁ .table) (k₁ .devices) [] [] (k₁ .groups) (k₁ .statebytes) (k₁ .states) (k₁ .items) (k₁ .links) (k₁ .requests))
+      → EndsIf (p .closes) (p .begin .transaction .endpoint) (p .begin .transaction .id) pid (p .close) (desk (k₁ .hand) (k₁ .table) (k₁ .devices) [] [] (k₁ .groups) (k₁ .statebytes) (k₁ .states) (k₁ .items) (k₁ .links))
   fourth pid f k₁ e =
       ends-if (p .closes) (p .begin .transaction .endpoint) (p .begin .transaction .id) (startPid (p .begin .transaction .style)) pid (p .close) (desk4 p k) k₁ e f (a .room) (a .close)
 

@@ -32,15 +32,15 @@ CarryAsks u x id pid k =
 
 -- and what it leaves
 pub acted : (u : Update) (x id pid : ℕ) (k : Desk) (m : Memory) (r : Hand) → m ≡ carried u (k .hand .endpoints) x id pid (memoryOf k) → r ≡ withWritten (m .written) (k .hand)
-    → desk r (m .table) (k .devices) (k .endpoints) (k .transactions) (m .groups) (m .statebytes) (m .states) (m .items) (m .links) (k .requests) ≡ actedDesk u x id pid k
+    → desk r (m .table) (k .devices) (k .endpoints) (k .transactions) (m .groups) (m .statebytes) (m .states) (m .items) (m .links) ≡ actedDesk u x id pid k
 acted u x id pid k m r e f =
-    ap (λ (h : Hand). desk h (m .table) (k .devices) (k .endpoints) (k .transactions) (m .groups) (m .statebytes) (m .states) (m .items) (m .links) (k .requests)) f
+    ap (λ (h : Hand). desk h (m .table) (k .devices) (k .endpoints) (k .transactions) (m .groups) (m .statebytes) (m .states) (m .items) (m .links)) f
     ∙ ap (λ (a : Memory). withMemory a k) e
 
 -- ---- a step that begins
 
 module _ (s : Begin) (k : Desk) (a : BeginReady s k) where
-  pub open-asks : RoomRows (openedDesk s (desk (k .hand) (k .table) (k .devices) (k .endpoints) (k .transactions) [] [] [] [] [] []))
+  pub open-asks : RoomRows (openedDesk s (desk (k .hand) (k .table) (k .devices) (k .endpoints) (k .transactions) [] [] [] [] []))
   unfolding begunDesk
   open-asks = record { devices = a .rows .devices; endpoints = a .rows .endpoints; transactions = a .rows .transactions }
 
@@ -82,24 +82,24 @@ module _ (x id pid : ℕ) (s : End) (k : Desk) (a : EndReady x id pid s k) where
   end-there = omega (arith, a .asks .there, a .asks .few)
 
   pub end-carries : (t : List ℕ) → t ≡ storeAt (k .table) x (s .entry)
-      → CarryAsks (s .update) x id pid (desk (k .hand) t (k .devices) (k .endpoints) (k .transactions) (k .groups) (k .statebytes) (k .states) (k .items) (k .links) (k .requests))
+      → CarryAsks (s .update) x id pid (desk (k .hand) t (k .devices) (k .endpoints) (k .transactions) (k .groups) (k .statebytes) (k .states) (k .items) (k .links))
   unfolding endedDesk
   end-carries t e =
-      subst (λ (y : List ℕ). CarryAsks (s .update) x id pid (desk (k .hand) y (k .devices) (k .endpoints) (k .transactions) (k .groups) (k .statebytes) (k .states) (k .items) (k .links) (k .requests))) (sym e)
+      subst (λ (y : List ℕ). CarryAsks (s .update) x id pid (desk (k .hand) y (k .devices) (k .endpoints) (k .transactions) (k .groups) (k .statebytes) (k .states) (k .items) (k .links))) (sym e)
       (a .asks .few, (a .asks .there, (a .asks .transactions, (a .asks .groups, room-effect (s .effect) x (closingDesk x id pid s k) (a .memory)))))
 
   pub effect-asks : (k₂ : Desk) → k₂ ≡ closingDesk x id pid s k
-      → (x < 128) × ((passes (s .effect) (entryAt (k₂ .table) x .total) ≡ false) × RoomEffect (effectDesk (s .effect) x (desk (k₂ .hand) (k₂ .table) (k₂ .devices) [] [] [] [] [] [] (k₂ .links) (k₂ .requests))))
+      → (x < 128) × ((passes (s .effect) (entryAt (k₂ .table) x .total) ≡ false) × RoomEffect (effectDesk (s .effect) x (desk (k₂ .hand) (k₂ .table) (k₂ .devices) [] [] [] [] [] [] (k₂ .links))))
   unfolding endedDesk
   effect-asks k₂ e =
-      subst (λ (y : Desk). (x < 128) × ((passes (s .effect) (entryAt (y .table) x .total) ≡ false) × RoomEffect (effectDesk (s .effect) x (desk (y .hand) (y .table) (y .devices) [] [] [] [] [] [] (y .links) (y .requests))))) (sym e)
-      (end-there, (a .asks .total, record { devices = a .effect .devices; links = a .effect .links; requests = a .effect .requests }))
+      subst (λ (y : Desk). (x < 128) × ((passes (s .effect) (entryAt (y .table) x .total) ≡ false) × RoomEffect (effectDesk (s .effect) x (desk (y .hand) (y .table) (y .devices) [] [] [] [] [] [] (y .links))))) (sym e)
+      (end-there, (a .asks .total, record { devices = a .effect .devices; links = a .effect .links }))
 
 pub stored-acted : (x id pid : ℕ) (s : End) (k k₂ : Desk) (t : List ℕ) → t ≡ storeAt (k .table) x (s .entry)
-    → k₂ ≡ actedDesk (s .update) x id pid (desk (k .hand) t (k .devices) (k .endpoints) (k .transactions) (k .groups) (k .statebytes) (k .states) (k .items) (k .links) (k .requests))
+    → k₂ ≡ actedDesk (s .update) x id pid (desk (k .hand) t (k .devices) (k .endpoints) (k .transactions) (k .groups) (k .statebytes) (k .states) (k .items) (k .links))
     → k₂ ≡ closingDesk x id pid s k
 stored-acted x id pid s k k₂ t e g =
-    g ∙ ap (λ (y : List ℕ). actedDesk (s .update) x id pid (desk (k .hand) y (k .devices) (k .endpoints) (k .transactions) (k .groups) (k .statebytes) (k .states) (k .items) (k .links) (k .requests))) e
+    g ∙ ap (λ (y : List ℕ). actedDesk (s .update) x id pid (desk (k .hand) y (k .devices) (k .endpoints) (k .transactions) (k .groups) (k .statebytes) (k .states) (k .items) (k .links))) e
 
 pub ends : (x id pid : ℕ) (s : End) (k k₂ k₃ : Desk) → k₂ ≡ closingDesk x id pid s k → k₃ ≡ effectDesk (s .effect) x k₂ → k₃ ≡ endedDesk x id pid s k
 unfolding endedDesk

@@ -5,7 +5,7 @@ use mathlib.Core.List.{List}
 use mathlib.Core.Path.{_≡_}
 use lib.ListN.{length}
 use Rattle.rows.specs.One.{one}
-use Rattle.rows.specs.Widths.{endpointWidth, linkWidth, requestWidth, transactionWidth}
+use Rattle.rows.specs.Widths.{endpointWidth, linkWidth, transactionWidth}
 use Rattle.endpoints.specs.Table.{entryAt}
 use Rattle.transaction.specs.Payload.{startPid}
 use Rattle.update.specs.Effect.{passes}
@@ -18,7 +18,7 @@ use Rattle.write_packet.specs.declared.Hand.{Hand}
 
 -- ---- room: the rows fit their logs
 
--- in the logs of rows that a step begins with; in those of an effect; in all nine
+-- in the logs of rows that a step begins with; in those of an effect; in all eight
 pub record RoomRows (k : Desk) : Type 0 where
   pub devices : k .hand .devices ≤ length (k .devices)
   pub endpoints : k .hand .endpoints * endpointWidth ≤ length (k .endpoints)
@@ -27,14 +27,12 @@ pub record RoomRows (k : Desk) : Type 0 where
 pub record RoomEffect (k : Desk) : Type 0 where
   pub devices : k .hand .devices ≤ length (k .devices)
   pub links : k .hand .written .links * linkWidth ≤ length (k .links)
-  pub requests : k .hand .requests * requestWidth ≤ length (k .requests)
 
 pub record RoomAll (k : Desk) : Type 0 where
   pub memory : Room (memoryOf k)
   pub devices : k .hand .devices ≤ length (k .devices)
   pub endpoints : k .hand .endpoints * endpointWidth ≤ length (k .endpoints)
   pub transactions : k .hand .transactions * transactionWidth ≤ length (k .transactions)
-  pub requests : k .hand .requests * requestWidth ≤ length (k .requests)
 
 -- ---- a step that begins
 
@@ -84,13 +82,10 @@ pub record PlanAsks (p : Plan) (k : Desk) : Type 0 where
 -- ---- a step f over some of the logs, whatever the others hold: what stands after it is f of what stood before
 
 abbrev pub OnRows : (Desk → Desk) → Hand → List ℕ → List ℕ → List ℕ → List ℕ → Hand → List ℕ → List ℕ → List ℕ → List ℕ → Type 0
-OnRows f h t d e r h′ t′ d′ e′ r′ = (g m s i l q : List ℕ) → desk h′ t′ d′ e′ r′ g m s i l q ≡ f (desk h t d e r g m s i l q)
+OnRows f h t d e r h′ t′ d′ e′ r′ = (g m s i l : List ℕ) → desk h′ t′ d′ e′ r′ g m s i l ≡ f (desk h t d e r g m s i l)
 
-abbrev pub OnEffect : (Desk → Desk) → Hand → List ℕ → List ℕ → List ℕ → List ℕ → Hand → List ℕ → List ℕ → List ℕ → List ℕ → Type 0
-OnEffect f h t d l q h′ t′ d′ l′ q′ = (e r g m s i : List ℕ) → desk h′ t′ d′ e r g m s i l′ q′ ≡ f (desk h t d e r g m s i l q)
+abbrev pub OnEffect : (Desk → Desk) → Hand → List ℕ → List ℕ → List ℕ → Hand → List ℕ → List ℕ → List ℕ → Type 0
+OnEffect f h t d l h′ t′ d′ l′ = (e r g m s i : List ℕ) → desk h′ t′ d′ e r g m s i l′ ≡ f (desk h t d e r g m s i l)
 
-abbrev pub OnBegin : (Desk → Desk) → Hand → List ℕ → List ℕ → List ℕ → List ℕ → List ℕ → List ℕ → List ℕ → List ℕ → List ℕ → Hand → List ℕ → List ℕ → List ℕ → List ℕ → List ℕ → List ℕ → List ℕ → List ℕ → List ℕ → Type 0
-OnBegin f h t d e r g m s i l h′ t′ d′ e′ r′ g′ m′ s′ i′ l′ = (q : List ℕ) → desk h′ t′ d′ e′ r′ g′ m′ s′ i′ l′ q ≡ f (desk h t d e r g m s i l q)
-
-abbrev pub OnEnd : (Desk → Desk) → Hand → List ℕ → List ℕ → List ℕ → List ℕ → List ℕ → List ℕ → List ℕ → List ℕ → Hand → List ℕ → List ℕ → List ℕ → List ℕ → List ℕ → List ℕ → List ℕ → List ℕ → Type 0
-OnEnd f h t d g m s i l q h′ t′ d′ g′ m′ s′ i′ l′ q′ = (e r : List ℕ) → desk h′ t′ d′ e r g′ m′ s′ i′ l′ q′ ≡ f (desk h t d e r g m s i l q)
+abbrev pub OnEnd : (Desk → Desk) → Hand → List ℕ → List ℕ → List ℕ → List ℕ → List ℕ → List ℕ → List ℕ → Hand → List ℕ → List ℕ → List ℕ → List ℕ → List ℕ → List ℕ → List ℕ → Type 0
+OnEnd f h t d g m s i l h′ t′ d′ g′ m′ s′ i′ l′ = (e r : List ℕ) → desk h′ t′ d′ e r g′ m′ s′ i′ l′ ≡ f (desk h t d e r g m s i l)

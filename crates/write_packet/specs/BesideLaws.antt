@@ -1,4 +1,4 @@
--- Laws (proved): what a step on memory does not touch: the logs of devices, endpoints, transactions and requests, and the counts.
+-- Laws (proved): what a step on memory does not touch: the logs of devices, endpoints and transactions, and the counts.
 use Prim.Native.Nat.{ℕ}
 use mathlib.Core.Bool.{false}
 use mathlib.Core.Path.{_≡_, refl, ap}
@@ -14,22 +14,20 @@ pub record Beside (w v : World) : Type 0 where
   pub devices : log 1 (v .journal) ≡ log 1 (w .journal)
   pub endpoints : log 2 (v .journal) ≡ log 2 (w .journal)
   pub transactions : log 5 (v .journal) ≡ log 5 (w .journal)
-  pub requests : log 11 (v .journal) ≡ log 11 (w .journal)
   pub count : v .count ≡ w .count
   pub deviceCount : v .deviceCount ≡ w .deviceCount
 
 -- a change of endpoints alone
 pub beside-change : (x : ℕ) (f : Endpoint → Endpoint) (w : World) → Beside w (change x f w)
-beside-change x f w = record { devices = refl; endpoints = refl; transactions = refl; requests = refl; count = refl; deviceCount = refl }
+beside-change x f w = record { devices = refl; endpoints = refl; transactions = refl; count = refl; deviceCount = refl }
 
 -- a row of another log
-pub beside-push : (r : Row) → eqb (written r .0) 1 ≡ false → eqb (written r .0) 2 ≡ false → eqb (written r .0) 5 ≡ false → eqb (written r .0) 11 ≡ false → (w : World) → Beside w (push r w)
-beside-push r a b c d w =
+pub beside-push : (r : Row) → eqb (written r .0) 1 ≡ false → eqb (written r .0) 2 ≡ false → eqb (written r .0) 5 ≡ false → (w : World) → Beside w (push r w)
+beside-push r a b c w =
     record {
       devices = row-log 1 r (w .journal) a;
       endpoints = row-log 2 r (w .journal) b;
       transactions = row-log 5 r (w .journal) c;
-      requests = row-log 11 r (w .journal) d;
       count = refl;
       deviceCount = refl;
     }
@@ -42,7 +40,6 @@ beside-act x u w =
       devices = act-log 1 refl refl refl refl refl u x w;
       endpoints = act-log 2 refl refl refl refl refl u x w;
       transactions = act-log 5 refl refl refl refl refl u x w;
-      requests = act-log 11 refl refl refl refl refl u x w;
       count = ap (λ (r : Rest). r .count) rest;
       deviceCount = ap (λ (r : Rest). r .deviceCount) rest;
     }

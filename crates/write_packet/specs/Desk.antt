@@ -1,10 +1,10 @@
--- Inner (cited by private contracts alone): what the steps of a call (plan, Step) write on: how far the call has written, the endpoint table and the nine logs
+-- Inner (cited by private contracts alone): what the steps of a call (plan, Step) write on: how far the call has written, the endpoint table and the eight logs
 -- that steps go to; and what each step does to them. `sets l i vs` (lib.Seq) is the list l with vs stored from place i on, so each log is said word for word.
 use Prim.Native.Nat.{ℕ, _+_, _*_, _/_}
 use mathlib.Core.Bool.{Bool, true, false}
 use mathlib.Core.List.{List, [], _∷_}
 use lib.Seq.{sets}
-use Rattle.rows.specs.Widths.{endpointWidth, linkWidth, requestWidth, transactionWidth}
+use Rattle.rows.specs.Widths.{endpointWidth, linkWidth, transactionWidth}
 use Rattle.rows.specs.Sets.{opt}
 use Rattle.details.specs.Details.{numberOf}
 use Rattle.endpoints.specs.Link as kind
@@ -15,7 +15,7 @@ use Rattle.transaction.specs.Table.{pick}
 use Rattle.transaction.specs.declared.Transaction.{Transaction}
 use Rattle.group.specs.declared.Effect.{Effect}
 use Rattle.group.specs.declared.Effect.the-variants.{NoEffect, NewDevice, Request, PendingData, IndexData}
-use Rattle.rules.specs.Rows.{naming, asking, transactionWords, requestWords}
+use Rattle.rules.specs.Rows.{naming, transactionWords}
 use Rattle.rules.specs.World.{_▷_}
 use Rattle.rules.specs.declared.Stamp.{Stamp}
 use Rattle.endpoints.specs.Table.{newEndpoint}
@@ -41,11 +41,10 @@ pub record Desk : Type 0 where
   pub states : List ℕ
   pub items : List ℕ
   pub links : List ℕ
-  pub requests : List ℕ
 
-abbrev pub desk : Hand → List ℕ → List ℕ → List ℕ → List ℕ → List ℕ → List ℕ → List ℕ → List ℕ → List ℕ → List ℕ → Desk
-desk h t d e r g m s i l q =
-    record { hand = h; table = t; devices = d; endpoints = e; transactions = r; groups = g; statebytes = m; states = s; items = i; links = l; requests = q }
+abbrev pub desk : Hand → List ℕ → List ℕ → List ℕ → List ℕ → List ℕ → List ℕ → List ℕ → List ℕ → List ℕ → Desk
+desk h t d e r g m s i l =
+    record { hand = h; table = t; devices = d; endpoints = e; transactions = r; groups = g; statebytes = m; states = s; items = i; links = l }
 
 -- ---- the part that an update is carried out on (write_update)
 
@@ -53,10 +52,10 @@ abbrev pub memoryOf : Desk → Memory
 memoryOf k = memory (k .hand .written) (k .table) (k .groups) (k .statebytes) (k .states) (k .items) (k .links)
 
 abbrev pub withWritten : Written → Hand → Hand
-withWritten d h = record { written = d; transactions = h .transactions; devices = h .devices; endpoints = h .endpoints; requests = h .requests }
+withWritten d h = record { written = d; transactions = h .transactions; devices = h .devices; endpoints = h .endpoints }
 
 abbrev pub withMemory : Memory → Desk → Desk
-withMemory m k = desk (withWritten (m .written) (k .hand)) (m .table) (k .devices) (k .endpoints) (k .transactions) (m .groups) (m .statebytes) (m .states) (m .items) (m .links) (k .requests)
+withMemory m k = desk (withWritten (m .written) (k .hand)) (m .table) (k .devices) (k .endpoints) (k .transactions) (m .groups) (m .statebytes) (m .states) (m .items) (m .links)
 
 -- an update of endpoint x by the transaction in row id that began with pid
 abbrev pub actedDesk : Update → ℕ → ℕ → ℕ → Desk → Desk
@@ -80,7 +79,6 @@ openedHand s h =
       transactions = plus (s .row) (h .transactions);
       devices = plus (s .device) (h .devices);
       endpoints = plus (s .endpoint) (h .endpoints);
-      requests = h .requests;
     }
 
 -- the entry of a new endpoint behind n others
@@ -104,7 +102,7 @@ openedDesk s k =
     (sets (k .devices) (k .hand .devices) (deviceWords s))
     (sets (k .endpoints) (k .hand .endpoints * endpointWidth) (endpointWords s))
     (sets (k .transactions) (k .hand .transactions * transactionWidth) (transactionWordsIf (k .hand .written .stamp) s))
-    (k .groups) (k .statebytes) (k .states) (k .items) (k .links) (k .requests)
+    (k .groups) (k .statebytes) (k .states) (k .items) (k .links)
 
 -- then what is done to the transaction's endpoint
 unfoldable pub begunDesk : Begin → Desk → Desk
@@ -115,9 +113,9 @@ begunDesk s k =
 -- ---- a step that ends
 
 abbrev pub storedDesk : ℕ → Endpoint → Desk → Desk
-storedDesk x e k = desk (k .hand) (storeAt (k .table) x e) (k .devices) (k .endpoints) (k .transactions) (k .groups) (k .statebytes) (k .states) (k .items) (k .links) (k .requests)
+storedDesk x e k = desk (k .hand) (storeAt (k .table) x e) (k .devices) (k .endpoints) (k .transactions) (k .groups) (k .statebytes) (k .states) (k .items) (k .links)
 
--- what group_status has as its effect: how many device, link and request rows there are then, of m before
+-- what group_status has as its effect: how many device and link rows there are then, of m before; the row of a request is its caller's (shelving)
 abbrev pub devicesBy : Effect → ℕ → ℕ
 devicesBy NoEffect m = m
 devicesBy (NewDevice address) m = m + 1
@@ -131,13 +129,6 @@ linksBy (NewDevice address) m = m
 linksBy (Request n) m = m
 linksBy (PendingData n) m = m
 linksBy (IndexData n waited i) m = m + 1
-
-abbrev pub requestsBy : Effect → ℕ → ℕ
-requestsBy NoEffect m = m
-requestsBy (NewDevice address) m = m
-requestsBy (Request n) m = m + 1
-requestsBy (PendingData n) m = m
-requestsBy (IndexData n waited i) m = m
 
 -- their words; the endpoint x has the entry e, and link is the transaction's T row
 abbrev pub newDeviceWords : Effect → List ℕ
@@ -153,13 +144,6 @@ totalWords (NewDevice address) x e link = []
 totalWords (Request n) x e link = []
 totalWords (PendingData n) x e link = []
 totalWords (IndexData n waited i) x e link = kind.D ∷ x ∷ pick waited i link ∷ e .total ∷ []
-
-abbrev pub requestWordsBy : Effect → ℕ → Endpoint → List ℕ
-requestWordsBy NoEffect x e = []
-requestWordsBy (NewDevice address) x e = []
-requestWordsBy (Request n) x e = requestWords (asking x (e .setup) n)
-requestWordsBy (PendingData n) x e = []
-requestWordsBy (IndexData n waited i) x e = []
 
 -- the entry is stored where the effect is on it
 abbrev pub effectTable : Effect → ℕ → ℕ → List ℕ → List ℕ
@@ -179,7 +163,6 @@ effectHand f h =
       transactions = h .transactions;
       devices = devicesBy f (h .devices);
       endpoints = h .endpoints;
-      requests = requestsBy f (h .requests);
     }
 
 abbrev pub effectDesk : Effect → ℕ → Desk → Desk
@@ -191,7 +174,6 @@ effectDesk f x k =
     (sets (k .devices) (k .hand .devices) (newDeviceWords f))
     (k .endpoints) (k .transactions) (k .groups) (k .statebytes) (k .states) (k .items)
     (sets (k .links) (k .hand .written .links * linkWidth) (totalWords f x e link))
-    (sets (k .requests) (k .hand .requests * requestWidth) (requestWordsBy f x e))
 
 -- before the effect; the transaction is that in row id, which began with pid
 abbrev pub closingDesk : ℕ → ℕ → ℕ → End → Desk → Desk

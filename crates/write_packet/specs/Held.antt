@@ -1,11 +1,11 @@
--- Laws (proved): what it means that a desk holds a world of the rules (rules, World): `Holds` of write for the logs of groups, and the like for the other four,
+-- Laws (proved): what it means that a desk holds a world of the rules (rules, World): `Holds` of write for the logs of groups, and the like for the other three,
 -- for the counts and for the table's words.
 use Prim.Native.Nat.{ℕ, _+_, _*_, _<_, _≤_}
 use mathlib.Core.List.{List}
 use mathlib.Core.Path.{_≡_}
 use lib.ListN.{length}
 use Rattle.endpoints.specs.Word as word
-use Rattle.rows.specs.Widths.{endpointWidth, requestWidth, transactionWidth}
+use Rattle.rows.specs.Widths.{endpointWidth, transactionWidth}
 use Rattle.endpoints.specs.Table.{entryAt}
 use Rattle.transaction.specs.Payload.{startPid}
 use Rattle.transaction.specs.declared.Transaction.{Transaction}
@@ -22,7 +22,6 @@ pub record HoldsAll (k₀ : Desk) (w : World) (k : Desk) : Type 0 where
   pub devices : Appended 1 (k₀ .devices) (k₀ .hand .devices) (w .journal) (k .devices) (k .hand .devices)
   pub endpoints : Appended 2 (k₀ .endpoints) (k₀ .hand .endpoints * endpointWidth) (w .journal) (k .endpoints) (k .hand .endpoints * endpointWidth)
   pub transactions : Appended 5 (k₀ .transactions) (k₀ .hand .transactions * transactionWidth) (w .journal) (k .transactions) (k .hand .transactions * transactionWidth)
-  pub requests : Appended 11 (k₀ .requests) (k₀ .hand .requests * requestWidth) (w .journal) (k .requests) (k .hand .requests * requestWidth)
   pub deviceCount : k .hand .devices ≡ w .deviceCount
   pub count : k .hand .endpoints ≡ w .count
   pub table : Tabled (w .count) (k₀ .table) (k .table)
@@ -47,7 +46,6 @@ pub record SpaceAll (k₀ : Desk) (js : List Row) : Type 0 where
   pub devices : k₀ .hand .devices + length (log 1 js) ≤ length (k₀ .devices)
   pub endpoints : k₀ .hand .endpoints * endpointWidth + length (log 2 js) ≤ length (k₀ .endpoints)
   pub transactions : k₀ .hand .transactions * transactionWidth + length (log 5 js) ≤ length (k₀ .transactions)
-  pub requests : k₀ .hand .requests * requestWidth + length (log 11 js) ≤ length (k₀ .requests)
 
 -- two transactions that say the same of what a step writes: the row, the token and the T row
 pub record Brought (t t′ : Transaction) : Type 0 where

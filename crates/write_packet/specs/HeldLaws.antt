@@ -7,7 +7,7 @@ use mathlib.Core.Path.{_≡_, refl, sym, ap, _∙_, subst}
 use borrow.Author.Tests.{eqb-true, eqb-false}
 use lib.Dec.{eqb}
 use lib.Seq.{sets}
-use Rattle.rows.specs.Widths.{endpointWidth, requestWidth, transactionWidth}
+use Rattle.rows.specs.Widths.{endpointWidth, transactionWidth}
 use Rattle.rows.specs.Sets.{opt}
 use Rattle.details.specs.Details.{numberOf}
 use Rattle.endpoints.specs.Link as kind
@@ -20,10 +20,10 @@ use Rattle.transaction.specs.Table.{pick}
 use Rattle.transaction.specs.declared.Transaction.{Transaction}
 use Rattle.group.specs.declared.Effect.{Effect}
 use Rattle.group.specs.declared.Effect.the-variants.{NoEffect, NewDevice, Request, PendingData, IndexData}
-use Rattle.rules.specs.Rows.{Row, TransactionRow, naming, transactionWords, DeviceRow, RequestRow, asking, D, log}
+use Rattle.rules.specs.Rows.{Row, TransactionRow, naming, transactionWords, DeviceRow, D, log}
 use Rattle.rules.specs.World.{World, push, change, changeDevice, withTransaction, withPending, withTotal}
 use Rattle.rules.specs.Endpoints.{addDevice, pushEndpoint, typed}
-use Rattle.rules.specs.Groups.{becomes, effectStep}
+use Rattle.rules.specs.Groups.{becomes, decodeRequest, effectStep}
 use Rattle.rules.specs.Transactions.{pushTransaction}
 use Rattle.update.specs.Update.{when, act}
 use Rattle.update.specs.declared.Update.{Update}
@@ -79,7 +79,6 @@ module _ {k₀ k : Desk} {w : World} (h : HoldsAll k₀ w k) where
         devices = keep (h .devices) _ (b .devices);
         endpoints = keep (h .endpoints) _ (b .endpoints);
         transactions = keep (h .transactions) _ (b .transactions);
-        requests = keep (h .requests) _ (b .requests);
         deviceCount = h .deviceCount ∙ sym (b .deviceCount);
         count = h .count ∙ sym (b .count);
         table = subst (λ (c : ℕ). Tabled c (k₀ .table) (m .table)) (sym (b .count)) t;
@@ -101,16 +100,16 @@ module _ {k₀ k : Desk} {w : World} (h : HoldsAll k₀ w k) where
       held-memory (change x f w) (altered x f (memoryOf k)) (beside-change x f w) (holds-altered (h .memory) x f there few fits)
       (tabled-alter (h .table) few x f there fits)
 
--- ---- rows of the other four logs
+-- ---- rows of the other three logs
 
--- a world with other devices, counts and rows
-abbrev others : (ℕ → Device) → ℕ → ℕ → List Row → World → World
-others d c t js w = record { endpoints = w .endpoints; count = w .count; devices = d; deviceCount = c; slot = w .slot; transaction = w .transaction; lastItem = w .lastItem; eventState = w .eventState; keepalive = w .keepalive; context = w .context; bytes = w .bytes; packets = w .packets; transactions = t; groups = w .groups; stateBytes = w .stateBytes; items = w .items; journal = js }
+-- a world with other devices, counts, shelf and rows
+abbrev others : (ℕ → Device) → ℕ → ℕ → List ℕ → List Row → World → World
+others d c t h js w = record { endpoints = w .endpoints; count = w .count; devices = d; deviceCount = c; slot = w .slot; transaction = w .transaction; lastItem = w .lastItem; eventState = w .eventState; keepalive = w .keepalive; context = w .context; shelf = h; bytes = w .bytes; packets = w .packets; transactions = t; groups = w .groups; stateBytes = w .stateBytes; items = w .items; journal = js }
 
-holds-others : {n id pid : ℕ} {m₀ m : Memory} {w : World} → Holds n id pid m₀ w m → (d : ℕ → Device) (c t : ℕ) (js : List Row)
+holds-others : {n id pid : ℕ} {m₀ m : Memory} {w : World} → Holds n id pid m₀ w m → (d : ℕ → Device) (c t : ℕ) (l : List ℕ) (js : List Row)
     → log 6 js ≡ log 6 (w .journal) → log 7 js ≡ log 7 (w .journal) → log 8 js ≡ log 8 (w .journal) → log 9 js ≡ log 9 (w .journal) → log 10 js ≡ log 10 (w .journal)
-    → Holds n id pid m₀ (others d c t js w) m
-holds-others h d c t js e6 e7 e8 e9 e10 =
+    → Holds n id pid m₀ (others d c t l js w) m
+holds-others h d c t l js e6 e7 e8 e9 e10 =
     record {
       sized = h .sized;
       stamp = h .stamp;
@@ -134,35 +133,34 @@ holds-others h d c t js e6 e7 e8 e9 e10 =
 
 abbrev transactionIf : Bool → ℕ → Desk → Desk
 transactionIf b id k =
-    desk (record { written = k .hand .written; transactions = plus b (k .hand .transactions); devices = k .hand .devices; endpoints = k .hand .endpoints; requests = k .hand .requests })
-    (k .table) (k .devices) (k .endpoints) (sets (k .transactions) (k .hand .transactions * transactionWidth) (opt b (transactionWords (naming id)))) (k .groups) (k .statebytes) (k .states) (k .items) (k .links) (k .requests)
+    desk (record { written = k .hand .written; transactions = plus b (k .hand .transactions); devices = k .hand .devices; endpoints = k .hand .endpoints })
+    (k .table) (k .devices) (k .endpoints) (sets (k .transactions) (k .hand .transactions * transactionWidth) (opt b (transactionWords (naming id)))) (k .groups) (k .statebytes) (k .states) (k .items) (k .links)
 
 abbrev deviceIf : Bool → ℕ → Desk → Desk
 deviceIf b a k =
-    desk (record { written = k .hand .written; transactions = k .hand .transactions; devices = plus b (k .hand .devices); endpoints = k .hand .endpoints; requests = k .hand .requests })
-    (k .table) (sets (k .devices) (k .hand .devices) (opt b (a ∷ []))) (k .endpoints) (k .transactions) (k .groups) (k .statebytes) (k .states) (k .items) (k .links) (k .requests)
+    desk (record { written = k .hand .written; transactions = k .hand .transactions; devices = plus b (k .hand .devices); endpoints = k .hand .endpoints })
+    (k .table) (sets (k .devices) (k .hand .devices) (opt b (a ∷ []))) (k .endpoints) (k .transactions) (k .groups) (k .statebytes) (k .states) (k .items) (k .links)
 
 abbrev endpointIf : Bool → ℕ → ℕ → Desk → Desk
 endpointIf b p a k =
-    desk (record { written = k .hand .written; transactions = k .hand .transactions; devices = k .hand .devices; endpoints = plus b (k .hand .endpoints); requests = k .hand .requests })
-    (when b (newEntry (k .hand .endpoints) p a) (k .table)) (k .devices) (sets (k .endpoints) (k .hand .endpoints * endpointWidth) (opt b (p ∷ numberOf a ∷ a / 128 ∷ []))) (k .transactions) (k .groups) (k .statebytes) (k .states) (k .items) (k .links) (k .requests)
+    desk (record { written = k .hand .written; transactions = k .hand .transactions; devices = k .hand .devices; endpoints = plus b (k .hand .endpoints) })
+    (when b (newEntry (k .hand .endpoints) p a) (k .table)) (k .devices) (sets (k .endpoints) (k .hand .endpoints * endpointWidth) (opt b (p ∷ numberOf a ∷ a / 128 ∷ []))) (k .transactions) (k .groups) (k .statebytes) (k .states) (k .items) (k .links)
 
 abbrev toldDesk : Bool → ℕ → Desk → Desk
 toldDesk linked link k =
     let d = k .hand .written in
-    desk (record { written = record { stamp = d .stamp; firsts = d .firsts; groups = d .groups; states = d .states; statebytes = d .statebytes; items = d .items; links = d .links; last = d .last; linked = linked; link = link }; transactions = k .hand .transactions; devices = k .hand .devices; endpoints = k .hand .endpoints; requests = k .hand .requests })
-    (k .table) (k .devices) (k .endpoints) (k .transactions) (k .groups) (k .statebytes) (k .states) (k .items) (k .links) (k .requests)
+    desk (record { written = record { stamp = d .stamp; firsts = d .firsts; groups = d .groups; states = d .states; statebytes = d .statebytes; items = d .items; links = d .links; last = d .last; linked = linked; link = link }; transactions = k .hand .transactions; devices = k .hand .devices; endpoints = k .hand .endpoints })
+    (k .table) (k .devices) (k .endpoints) (k .transactions) (k .groups) (k .statebytes) (k .states) (k .items) (k .links)
 
 module _ {k₀ k : Desk} {w : World} (h : HoldsAll k₀ w k) where
   held-transaction : (b : Bool) (id : ℕ) → HoldsAll k₀ (when b (pushTransaction id) w) (transactionIf b id k)
   held-transaction false id = h
   held-transaction true id =
       record {
-        memory = holds-others (h .memory) (w .devices) (w .deviceCount) (suc (w .transactions)) (TransactionRow (naming id) ∷ w .journal) (append-nil _) (append-nil _) (append-nil _) (append-nil _) (append-nil _);
+        memory = holds-others (h .memory) (w .devices) (w .deviceCount) (suc (w .transactions)) (w .shelf) (TransactionRow (naming id) ∷ w .journal) (append-nil _) (append-nil _) (append-nil _) (append-nil _) (append-nil _);
         devices = keep (h .devices) _ (append-nil _);
         endpoints = keep (h .endpoints) _ (append-nil _);
         transactions = append (h .transactions) _ (id ∷ []) refl refl (omega arith);
-        requests = keep (h .requests) _ (append-nil _);
         deviceCount = h .deviceCount;
         count = h .count;
         table = h .table;
@@ -172,11 +170,10 @@ module _ {k₀ k : Desk} {w : World} (h : HoldsAll k₀ w k) where
   held-device false a = h
   held-device true a =
       record {
-        memory = holds-others (h .memory) (addDevice a w .devices) (suc (w .deviceCount)) (w .transactions) (DeviceRow a ∷ w .journal) (append-nil _) (append-nil _) (append-nil _) (append-nil _) (append-nil _);
+        memory = holds-others (h .memory) (addDevice a w .devices) (suc (w .deviceCount)) (w .transactions) (w .shelf) (DeviceRow a ∷ w .journal) (append-nil _) (append-nil _) (append-nil _) (append-nil _) (append-nil _);
         devices = append (h .devices) _ (a ∷ []) refl refl refl;
         endpoints = keep (h .endpoints) _ (append-nil _);
         transactions = keep (h .transactions) _ (append-nil _);
-        requests = keep (h .requests) _ (append-nil _);
         deviceCount = omega (arith, h .deviceCount);
         count = h .count;
         table = h .table;
@@ -187,27 +184,10 @@ module _ {k₀ k : Desk} {w : World} (h : HoldsAll k₀ w k) where
   held-types false p f = h
   held-types true p f =
       record {
-        memory = holds-others (h .memory) (changeDevice p f w .devices) (w .deviceCount) (w .transactions) (w .journal) refl refl refl refl refl;
+        memory = holds-others (h .memory) (changeDevice p f w .devices) (w .deviceCount) (w .transactions) (w .shelf) (w .journal) refl refl refl refl refl;
         devices = h .devices;
         endpoints = h .endpoints;
         transactions = h .transactions;
-        requests = h .requests;
-        deviceCount = h .deviceCount;
-        count = h .count;
-        table = h .table;
-      }
-
-  -- a request row
-  held-request : (x s n : ℕ) → HoldsAll k₀ (push (RequestRow (asking x s n)) w)
-      (desk (record { written = k .hand .written; transactions = k .hand .transactions; devices = k .hand .devices; endpoints = k .hand .endpoints; requests = k .hand .requests + 1 })
-      (k .table) (k .devices) (k .endpoints) (k .transactions) (k .groups) (k .statebytes) (k .states) (k .items) (k .links) (sets (k .requests) (k .hand .requests * requestWidth) (x ∷ s ∷ n ∷ [])))
-  held-request x s n =
-      record {
-        memory = holds-others (h .memory) (w .devices) (w .deviceCount) (w .transactions) (RequestRow (asking x s n) ∷ w .journal) (append-nil _) (append-nil _) (append-nil _) (append-nil _) (append-nil _);
-        devices = keep (h .devices) _ (append-nil _);
-        endpoints = keep (h .endpoints) _ (append-nil _);
-        transactions = keep (h .transactions) _ (append-nil _);
-        requests = append (h .requests) _ (x ∷ s ∷ n ∷ []) refl refl (omega arith);
         deviceCount = h .deviceCount;
         count = h .count;
         table = h .table;
@@ -259,7 +239,6 @@ module _ {k₀ k : Desk} {w : World} (h : HoldsAll k₀ w k) where
         devices = keep (h .devices) _ (append-nil _);
         endpoints = append (h .endpoints) _ (p ∷ numberOf a ∷ a / 128 ∷ []) refl refl (omega arith);
         transactions = keep (h .transactions) _ (append-nil _);
-        requests = keep (h .requests) _ (append-nil _);
         deviceCount = h .deviceCount;
         count = omega (arith, h .count);
         table =
@@ -298,7 +277,6 @@ module _ {k₀ k : Desk} {w : World} (h : HoldsAll k₀ w k) where
         devices = h .devices;
         endpoints = h .endpoints;
         transactions = h .transactions;
-        requests = h .requests;
         deviceCount = h .deviceCount;
         count = h .count;
         table = h .table;
@@ -352,7 +330,7 @@ module _ {k₀ k : Desk} {w : World} (h : HoldsAll k₀ w k) (x : ℕ) (few : w 
   -- a D row
   held-total-row : (a b : ℕ) → HoldsAll k₀ (push (D x a b) w) (withMemory (linkRow kind.D x a b (memoryOf k)) k)
   held-total-row a b =
-      held-memory h (push (D x a b) w) (linkRow kind.D x a b (memoryOf k)) (beside-push (D x a b) refl refl refl refl w)
+      held-memory h (push (D x a b) w) (linkRow kind.D x a b (memoryOf k)) (beside-push (D x a b) refl refl refl w)
       (holds-link-row (h .memory) (D x a b) kind.D x a b refl) (h .table)
 
 module _ {k₀ k : Desk} {w : World} (h : HoldsAll k₀ w k) (x : ℕ) (few : w .count ≤ 128) (there : x < w .count) where
@@ -369,12 +347,24 @@ module _ {k₀ k : Desk} {w : World} (h : HoldsAll k₀ w k) (x : ℕ) (few : w 
       counted : ℕ → ℕ → Desk
       counted l t = withMemory (altered x (withTotal (t + n)) (linkRow kind.D x (pick waited i l) t (memoryOf k))) k
 
+  -- a request: the row is not on the desk, and neither are the devices nor the shelf
+  held-request : (n : ℕ) → HoldsAll k₀ (decodeRequest n x w) k
+  held-request n =
+      let v = decodeRequest n x w in
+      record {
+        memory = holds-others (h .memory) (v .devices) (w .deviceCount) (w .transactions) (v .shelf) (v .journal) (append-nil _) (append-nil _) (append-nil _) (append-nil _) (append-nil _);
+        devices = keep (h .devices) _ (append-nil _);
+        endpoints = keep (h .endpoints) _ (append-nil _);
+        transactions = keep (h .transactions) _ (append-nil _);
+        deviceCount = h .deviceCount;
+        count = h .count;
+        table = h .table;
+      }
+
   held-effect : (f : Effect) → HoldsAll k₀ (effectStep f x w) (effectDesk f x k)
   held-effect NoEffect = h
   held-effect (NewDevice a) = held-device h true a
-  held-effect (Request n) =
-      subst (λ (s : ℕ). HoldsAll k₀ (push (RequestRow (asking x s n)) w) (effectDesk (Request n) x k)) (ap (λ (e : Endpoint). e .setup) (h .memory .endpoints x there))
-      (held-request h x (entryAt (k .table) x .setup) n)
+  held-effect (Request n) = held-request n
   held-effect (PendingData n) = held-pending h x few there n
   held-effect (IndexData n waited i) = held-index n waited i
 

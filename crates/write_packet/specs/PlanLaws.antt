@@ -6,7 +6,7 @@ use mathlib.Core.List.{List, [], _∷_, append-nil}
 use mathlib.Core.Path.{_≡_, refl, sym, ap}
 use lib.Dec.{eqb}
 use lib.ListN.{length}
-use Rattle.rows.specs.Widths.{endpointWidth, requestWidth, transactionWidth}
+use Rattle.rows.specs.Widths.{endpointWidth, transactionWidth}
 use Rattle.transaction.specs.Payload.{startPid}
 use Rattle.rules.specs.Rows.{Row, BytesRow, PacketRow, log}
 use Rattle.rules.specs.World.{World, _▷_, withTransaction, stamp, stamped}
@@ -40,7 +40,6 @@ holds-entry w k e c m =
       devices = unwritten 1 (k .devices) (k .hand .devices) (w .journal) e;
       endpoints = unwritten 2 (k .endpoints) (k .hand .endpoints * endpointWidth) (w .journal) e;
       transactions = unwritten 5 (k .transactions) (k .hand .transactions * transactionWidth) (w .journal) e;
-      requests = unwritten 11 (k .requests) (k .hand .requests * requestWidth) (w .journal) e;
       deviceCount = m .devices;
       count = m .endpoints;
       table = tabled-start (w .count) (k .table) (m .sized) (m .stored);
@@ -52,7 +51,7 @@ abbrev pub SameLogs : List Row → List Row → Type 0
 SameLogs js js′ = (k : ℕ) → eqb 0 k ≡ false → eqb 3 k ≡ false → log k js′ ≡ log k js
 
 abbrev pub aside : Slot → EventState → Bool → ℕ → ℕ → List Row → World → World
-aside s e b n p js w = record { endpoints = w .endpoints; count = w .count; devices = w .devices; deviceCount = w .deviceCount; slot = s; transaction = w .transaction; lastItem = w .lastItem; eventState = e; keepalive = b; context = w .context; bytes = n; packets = p; transactions = w .transactions; groups = w .groups; stateBytes = w .stateBytes; items = w .items; journal = js }
+aside s e b n p js w = record { endpoints = w .endpoints; count = w .count; devices = w .devices; deviceCount = w .deviceCount; slot = s; transaction = w .transaction; lastItem = w .lastItem; eventState = e; keepalive = b; context = w .context; shelf = w .shelf; bytes = n; packets = p; transactions = w .transactions; groups = w .groups; stateBytes = w .stateBytes; items = w .items; journal = js }
 
 pub holds-aside : {k₀ k : Desk} {w : World} → HoldsAll k₀ w k → (s : Slot) (e : EventState) (b : Bool) (n p : ℕ) (js : List Row) → SameLogs (w .journal) js → HoldsAll k₀ (aside s e b n p js w) k
 holds-aside h s e b n p js l =
@@ -82,7 +81,6 @@ holds-aside h s e b n p js l =
       devices = keep (h .devices) js (l 1 refl refl);
       endpoints = keep (h .endpoints) js (l 2 refl refl);
       transactions = keep (h .transactions) js (l 5 refl refl);
-      requests = keep (h .requests) js (l 11 refl refl);
       deviceCount = h .deviceCount;
       count = h .count;
       table = h .table;
@@ -101,7 +99,6 @@ room-all h r z =
       devices = appended-fits (h .devices) (r .devices);
       endpoints = appended-fits (h .endpoints) (r .endpoints);
       transactions = appended-fits (h .transactions) (r .transactions);
-      requests = appended-fits (h .requests) (r .requests);
     }
 
 -- ---- the four steps

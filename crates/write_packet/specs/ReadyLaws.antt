@@ -72,7 +72,7 @@ when-on true f k e r = r
 when-on false f k e r = absurd (false≢true e)
 
 begin-ready : (s : Begin) (k : Desk) → RoomAll (begunDesk s k) → BeginAsks s k
-    → BeginReady s (desk (k .hand) (k .table) (k .devices) (k .endpoints) (k .transactions) (k .groups) (k .statebytes) (k .states) (k .items) (k .links) [])
+    → BeginReady s (desk (k .hand) (k .table) (k .devices) (k .endpoints) (k .transactions) (k .groups) (k .statebytes) (k .states) (k .items) (k .links))
 unfolding begunDesk
 begin-ready s k r a =
     record {
@@ -82,25 +82,25 @@ begin-ready s k r a =
     }
 
 end-ready : (x id pid : ℕ) (s : End) (k : Desk) → RoomAll (endedDesk x id pid s k) → EndAsks x id pid s k
-    → EndReady x id pid s (desk (k .hand) (k .table) (k .devices) [] [] (k .groups) (k .statebytes) (k .states) (k .items) (k .links) (k .requests))
+    → EndReady x id pid s (desk (k .hand) (k .table) (k .devices) [] [] (k .groups) (k .statebytes) (k .states) (k .items) (k .links))
 unfolding endedDesk
 end-ready x id pid s k r a =
     record {
       asks = record { few = a .few; there = a .there; transactions = a .transactions; groups = a .groups; total = a .total };
       memory = r .memory;
-      effect = record { devices = r .devices; links = r .memory .links; requests = r .requests };
+      effect = record { devices = r .devices; links = r .memory .links };
     }
 
 -- what begin_if and end_if require, of the desk k₁ that is k
 pub begins-if : (on : Bool) (s : Begin) (k k₁ : Desk) → k₁ ≡ k → RoomAll (when on (begunDesk s) k) → (on ≡ true → BeginAsks s k)
-    → BeginsIf on s (desk (k₁ .hand) (k₁ .table) (k₁ .devices) (k₁ .endpoints) (k₁ .transactions) (k₁ .groups) (k₁ .statebytes) (k₁ .states) (k₁ .items) (k₁ .links) [])
+    → BeginsIf on s (desk (k₁ .hand) (k₁ .table) (k₁ .devices) (k₁ .endpoints) (k₁ .transactions) (k₁ .groups) (k₁ .statebytes) (k₁ .states) (k₁ .items) (k₁ .links))
 begins-if on s k k₁ e r a =
-    subst (λ (y : Desk). BeginsIf on s (desk (y .hand) (y .table) (y .devices) (y .endpoints) (y .transactions) (y .groups) (y .statebytes) (y .states) (y .items) (y .links) [])) (sym e)
+    subst (λ (y : Desk). BeginsIf on s (desk (y .hand) (y .table) (y .devices) (y .endpoints) (y .transactions) (y .groups) (y .statebytes) (y .states) (y .items) (y .links))) (sym e)
     (λ t. begin-ready s k (when-on on (begunDesk s) k t r) (a t))
 
 pub ends-if : (on : Bool) (x id pid pid₁ : ℕ) (s : End) (k k₁ : Desk) → k₁ ≡ k → pid₁ ≡ pid → RoomAll (when on (endedDesk x id pid s) k) → (on ≡ true → EndAsks x id pid s k)
-    → EndsIf on x id pid₁ s (desk (k₁ .hand) (k₁ .table) (k₁ .devices) [] [] (k₁ .groups) (k₁ .statebytes) (k₁ .states) (k₁ .items) (k₁ .links) (k₁ .requests))
+    → EndsIf on x id pid₁ s (desk (k₁ .hand) (k₁ .table) (k₁ .devices) [] [] (k₁ .groups) (k₁ .statebytes) (k₁ .states) (k₁ .items) (k₁ .links))
 ends-if on x id pid pid₁ s k k₁ e f r a =
-    subst (λ (y : Desk). EndsIf on x id pid₁ s (desk (y .hand) (y .table) (y .devices) [] [] (y .groups) (y .statebytes) (y .states) (y .items) (y .links) (y .requests))) (sym e)
-    (subst (λ (p : ℕ). EndsIf on x id p s (desk (k .hand) (k .table) (k .devices) [] [] (k .groups) (k .statebytes) (k .states) (k .items) (k .links) (k .requests))) (sym f)
+    subst (λ (y : Desk). EndsIf on x id pid₁ s (desk (y .hand) (y .table) (y .devices) [] [] (y .groups) (y .statebytes) (y .states) (y .items) (y .links))) (sym e)
+    (subst (λ (p : ℕ). EndsIf on x id p s (desk (k .hand) (k .table) (k .devices) [] [] (k .groups) (k .statebytes) (k .states) (k .items) (k .links))) (sym f)
     (λ t. end-ready x id pid s k (when-on on (endedDesk x id pid s) k t r) (a t)))

@@ -18,10 +18,9 @@ ghost use mathlib.Core.Path.{_≡_};
 ghost use Prim.Native.Nat.{_+_, _*_, _^_, _<_, _≤_};
 ghost use lib.ListN.{length};
 ghost use lib.Seq.{sets};
-ghost use Rattle.rows.specs.Widths.{linkWidth, requestWidth};
+ghost use Rattle.rows.specs.Widths.{linkWidth};
 ghost use Rattle.endpoints.specs.Table.{entryAt, storeAt};
-ghost use Rattle.group.specs.declared.Effect.the-variants.{NewDevice, Request, IndexData};
-ghost use Rattle.rules.specs.Rows.{asking, requestWords};
+ghost use Rattle.group.specs.declared.Effect.the-variants.{NewDevice, IndexData};
 ghost use Rattle.transaction.specs.Table.{pick};
 ghost use Rattle.update.specs.Effect.{passes, effectEntry};
 ghost use Rattle.update.specs.Update.{when};
@@ -54,7 +53,6 @@ pub fn with_written(h: Hand, d: Written) -> Hand
         transactions: h.transactions,
         devices: h.devices,
         endpoints: h.endpoints,
-        requests: h.requests,
     }
 }
 
@@ -70,7 +68,6 @@ fn opened_hand(s: Begin, h: Hand) -> Hand
         transactions: more(s.row, h.transactions),
         devices: more(s.device, h.devices),
         endpoints: more(s.endpoint, h.endpoints),
-        requests: h.requests,
     }
 }
 
@@ -94,7 +91,7 @@ pub fn open_rows(
     transactions: &mut [u64],
 ) -> Hand
     requires { ⌜ plus (s .endpoint) (h .endpoints) ≤ 128 ⌝ }
-    requires { ⌜ RoomRows (openedDesk s (desk h (now table) (now devices) (now endpoints) (now transactions) [] [] [] [] [] [])) ⌝ }
+    requires { ⌜ RoomRows (openedDesk s (desk h (now table) (now devices) (now endpoints) (now transactions) [] [] [] [] [])) ⌝ }
     ensures { λ r. ⌜ OnRows (openedDesk s) h (now (table .entry)) (now (devices .entry)) (now (endpoints .entry)) (now (transactions .entry)) r (now (table .exit)) (now (devices .exit)) (now (endpoints .exit)) (now (transactions .exit)) ⌝ }
 {
     let r = opened_hand(s, h);
@@ -124,21 +121,6 @@ fn device_row(address: u8, h: Hand, devices: &mut [u64]) -> Hand
     rows::put1(devices, n, address as u64);
     let mut h = h;
     h.devices = n + 1;
-    h
-}
-
-// A request row of endpoint x: its setup bytes, and a payload of n bytes.
-fn request_row(n: u64, x: usize, h: Hand, table: &Table, requests: &mut [u64]) -> Hand
-    requires { ⌜ x < 128 ⌝ }
-    requires { ⌜ (h .requests + 1) * requestWidth ≤ length (now requests) ⌝ }
-    ensures { λ r. ⌜ r ≡ effectHand (Request n) h ⌝ }
-    ensures { λ r. ⌜ now (requests .exit) ≡ sets (now (requests .entry)) (h .requests * requestWidth) (requestWords (asking x (entryAt (now (table .entry)) x .setup) n)) ⌝ }
-{
-    let q = h.requests;
-    let e = entry::load(table, x);
-    rows::put3(requests, q * width::REQUEST, x as u64, e.setup, n);
-    let mut h = h;
-    h.requests = q + 1;
     h
 }
 
@@ -183,7 +165,7 @@ fn total_row(
     with_written(h, link_row(d, link::D, x, row, e.total, links))
 }
 
-// The effect of a transaction's end on endpoint x.
+// The effect of a transaction's end on endpoint x. A request that completes is read by the caller, who has the shelf and the devices (shelving).
 pub fn take_effect(
     effect: Effect,
     x: usize,
@@ -191,17 +173,16 @@ pub fn take_effect(
     table: &mut Table,
     devices: &mut [u64],
     links: &mut [u64],
-    requests: &mut [u64],
 ) -> Hand
     requires { ⌜ x < 128 ⌝ }
     requires { ⌜ passes effect (entryAt (now table) x .total) ≡ false ⌝ }
-    requires { ⌜ RoomEffect (effectDesk effect x (desk h (now table) (now devices) [] [] [] [] [] [] (now links) (now requests))) ⌝ }
-    ensures { λ r. ⌜ OnEffect (effectDesk effect x) h (now (table .entry)) (now (devices .entry)) (now (links .entry)) (now (requests .entry)) r (now (table .exit)) (now (devices .exit)) (now (links .exit)) (now (requests .exit)) ⌝ }
+    requires { ⌜ RoomEffect (effectDesk effect x (desk h (now table) (now devices) [] [] [] [] [] [] (now links))) ⌝ }
+    ensures { λ r. ⌜ OnEffect (effectDesk effect x) h (now (table .entry)) (now (devices .entry)) (now (links .entry)) r (now (table .exit)) (now (devices .exit)) (now (links .exit)) ⌝ }
 {
     match effect {
         Effect::NoEffect => h,
         Effect::NewDevice(address) => device_row(address, h, devices),
-        Effect::Request(n) => request_row(n, x, h, table, requests),
+        Effect::Request(_) => h,
         Effect::PendingData(n) => {
             note(Effect::PendingData(n), x, h.written.link, table);
             h

@@ -15,15 +15,14 @@ ghost use mathlib.Core.List.{[]};
 ghost use mathlib.Core.Path.{_≡_};
 ghost use Rattle.update.specs.Update.{when};
 ghost use Rattle.write_packet.specs.Desk.{desk, begunDesk, endedDesk, performed};
-ghost use Rattle.write_packet.specs.Asked.{BeginsIf, EndsIf, PlanAsks, OnBegin, OnEnd};
+ghost use Rattle.write_packet.specs.Asked.{BeginsIf, EndsIf, PlanAsks, OnEnd};
 
-// How far a call has written: the rows of the logs that groups go to (write), and those of the other four that steps go to.
+// How far a call has written: the rows of the logs that groups go to (write), and those of the other three that steps go to. The row of a request that completes is its caller's (shelving).
 pub struct Hand {
     pub written: Written,
     pub transactions: usize,
     pub devices: usize,
     pub endpoints: usize,
-    pub requests: usize,
 }
 
 // Where on, a transaction begins, is resumed or goes on, by the call's own packet. The array of devices is its caller's.
@@ -41,8 +40,8 @@ pub fn begin_if(
     items: &mut [u64],
     links: &mut [u64],
 ) -> Hand
-    requires { ⌜ BeginsIf on s (desk h (now table) (now devices) (now endpoints) (now transactions) (now groups) (now statebytes) (now states) (now items) (now links) []) ⌝ }
-    ensures { λ r. ⌜ OnBegin (when on (begunDesk s)) h (now (table .entry)) (now (devices .entry)) (now (endpoints .entry)) (now (transactions .entry)) (now (groups .entry)) (now (statebytes .entry)) (now (states .entry)) (now (items .entry)) (now (links .entry)) r (now (table .exit)) (now (devices .exit)) (now (endpoints .exit)) (now (transactions .exit)) (now (groups .exit)) (now (statebytes .exit)) (now (states .exit)) (now (items .exit)) (now (links .exit)) ⌝ }
+    requires { ⌜ BeginsIf on s (desk h (now table) (now devices) (now endpoints) (now transactions) (now groups) (now statebytes) (now states) (now items) (now links)) ⌝ }
+    ensures { λ r. ⌜ desk r (now (table .exit)) (now (devices .exit)) (now (endpoints .exit)) (now (transactions .exit)) (now (groups .exit)) (now (statebytes .exit)) (now (states .exit)) (now (items .exit)) (now (links .exit)) ≡ when on (begunDesk s) (desk h (now (table .entry)) (now (devices .entry)) (now (endpoints .entry)) (now (transactions .entry)) (now (groups .entry)) (now (statebytes .entry)) (now (states .entry)) (now (items .entry)) (now (links .entry))) ⌝ }
 {
     if on {
         let t = s.transaction;
@@ -84,10 +83,9 @@ pub fn end_if(
     states: &mut [u64],
     items: &mut [u64],
     links: &mut [u64],
-    requests: &mut [u64],
 ) -> Hand
-    requires { ⌜ EndsIf on x id pid s (desk h (now table) (now devices) [] [] (now groups) (now statebytes) (now states) (now items) (now links) (now requests)) ⌝ }
-    ensures { λ r. ⌜ OnEnd (when on (endedDesk x id pid s)) h (now (table .entry)) (now (devices .entry)) (now (groups .entry)) (now (statebytes .entry)) (now (states .entry)) (now (items .entry)) (now (links .entry)) (now (requests .entry)) r (now (table .exit)) (now (devices .exit)) (now (groups .exit)) (now (statebytes .exit)) (now (states .exit)) (now (items .exit)) (now (links .exit)) (now (requests .exit)) ⌝ }
+    requires { ⌜ EndsIf on x id pid s (desk h (now table) (now devices) [] [] (now groups) (now statebytes) (now states) (now items) (now links)) ⌝ }
+    ensures { λ r. ⌜ OnEnd (when on (endedDesk x id pid s)) h (now (table .entry)) (now (devices .entry)) (now (groups .entry)) (now (statebytes .entry)) (now (states .entry)) (now (items .entry)) (now (links .entry)) r (now (table .exit)) (now (devices .exit)) (now (groups .exit)) (now (statebytes .exit)) (now (states .exit)) (now (items .exit)) (now (links .exit)) ⌝ }
 {
     if on {
         let effect = s.effect;
@@ -107,7 +105,7 @@ pub fn end_if(
             links,
         );
         let h = with_written(h, d);
-        take_effect(effect, x, h, table, devices, links, requests)
+        take_effect(effect, x, h, table, devices, links)
     } else {
         h
     }
@@ -126,10 +124,9 @@ pub fn perform(
     states: &mut [u64],
     items: &mut [u64],
     links: &mut [u64],
-    requests: &mut [u64],
 ) -> Hand
-    requires { ⌜ PlanAsks p (desk h (now table) (now devices) (now endpoints) (now transactions) (now groups) (now statebytes) (now states) (now items) (now links) (now requests)) ⌝ }
-    ensures { λ r. ⌜ desk r (now (table .exit)) (now (devices .exit)) (now (endpoints .exit)) (now (transactions .exit)) (now (groups .exit)) (now (statebytes .exit)) (now (states .exit)) (now (items .exit)) (now (links .exit)) (now (requests .exit)) ≡ performed p (desk h (now (table .entry)) (now (devices .entry)) (now (endpoints .entry)) (now (transactions .entry)) (now (groups .entry)) (now (statebytes .entry)) (now (states .entry)) (now (items .entry)) (now (links .entry)) (now (requests .entry))) ⌝ }
+    requires { ⌜ PlanAsks p (desk h (now table) (now devices) (now endpoints) (now transactions) (now groups) (now statebytes) (now states) (now items) (now links)) ⌝ }
+    ensures { λ r. ⌜ desk r (now (table .exit)) (now (devices .exit)) (now (endpoints .exit)) (now (transactions .exit)) (now (groups .exit)) (now (statebytes .exit)) (now (states .exit)) (now (items .exit)) (now (links .exit)) ≡ performed p (desk h (now (table .entry)) (now (devices .entry)) (now (endpoints .entry)) (now (transactions .entry)) (now (groups .entry)) (now (statebytes .entry)) (now (states .entry)) (now (items .entry)) (now (links .entry))) ⌝ }
 {
     let b = p.brought;
     let old = b.style;
@@ -165,7 +162,6 @@ pub fn perform(
         states,
         items,
         links,
-        requests,
     );
     let h = begin_if(
         true,
@@ -195,6 +191,5 @@ pub fn perform(
         states,
         items,
         links,
-        requests,
     )
 }

@@ -6,7 +6,8 @@ use borrow.Author.Needs.{needs}
 use borrow.Author.Tests.{not-true, not-false}
 use lib.ListN.{length}
 use Rattle.rows.specs.WidthsLaws.{each-log, log-number}
-use Rattle.call.specs.State.{State, state, Logs, logs}
+use Rattle.call.specs.State.{state, Logs, logs}
+use Rattle.step.specs.Block.{Stand, stand}
 use Rattle.call.specs.StateLaws.{SameSizes}
 use Rattle.stream.proofs.Leading.{eight-small}
 use Rattle.block.proofs.Taking.{Taking, fits-by, taking-start, taking-counts, taking-stops, taking-ends, taking-further, taking-more-counts, taking-more}
@@ -16,17 +17,17 @@ mod Places
 use Places.*
 
 abbrev Inv-loop : tie.InvT-loop
-Inv-loop records start table₀ bytes₀ device-rows₀ endpoint-rows₀ packets₀ events₀ transactions₀ groups₀ statebytes₀ states₀ items₀ links₀ requests₀ sound ready decoder₀ devices₀ clock₀ at₀ taken₀ eights₀ table bytes device-rows endpoint-rows packets events transactions groups statebytes states items links requests decoder devices clock at taken eights =
-    Taking ready records at₀ clock₀ (state decoder₀ devices₀ table₀ (logs bytes₀ device-rows₀ endpoint-rows₀ packets₀ events₀ transactions₀ groups₀ statebytes₀ states₀ items₀ links₀ requests₀)) taken eights at clock
-    (state decoder devices table (logs bytes device-rows endpoint-rows packets events transactions groups statebytes states items links requests))
+Inv-loop records start table₀ bytes₀ device-rows₀ endpoint-rows₀ packets₀ events₀ transactions₀ groups₀ statebytes₀ states₀ items₀ links₀ requests₀ shelf₀ sound ready decoder₀ devices₀ clock₀ at₀ taken₀ eights₀ table bytes device-rows endpoint-rows packets events transactions groups statebytes states items links requests shelf decoder devices clock at taken eights =
+    Taking ready records at₀ clock₀ (stand (state decoder₀ devices₀ table₀ (logs bytes₀ device-rows₀ endpoint-rows₀ packets₀ events₀ transactions₀ groups₀ statebytes₀ states₀ items₀ links₀ requests₀)) shelf₀) taken eights at clock
+    (stand (state decoder devices table (logs bytes device-rows endpoint-rows packets events transactions groups statebytes states items links requests)) shelf)
 
 abbrev μ-loop : tie.MeasureT-loop
-μ-loop records start table₀ bytes₀ device-rows₀ endpoint-rows₀ packets₀ events₀ transactions₀ groups₀ statebytes₀ states₀ items₀ links₀ requests₀ sound ready decoder₀ devices₀ clock₀ at₀ taken₀ eights₀ table bytes device-rows endpoint-rows packets events transactions groups statebytes states items links requests decoder devices clock at taken eights =
+μ-loop records start table₀ bytes₀ device-rows₀ endpoint-rows₀ packets₀ events₀ transactions₀ groups₀ statebytes₀ states₀ items₀ links₀ requests₀ shelf₀ sound ready decoder₀ devices₀ clock₀ at₀ taken₀ eights₀ table bytes device-rows endpoint-rows packets events transactions groups statebytes states items links requests shelf decoder devices clock at taken eights =
     length records - at
 
 -- the state that the block begins with
-abbrev begun : tie.Start Inv-loop μ-loop → State
-begun s = state (s .args .d) (s .args .devices) (s .args .table .now) (logs (s .args .bytes .now) (s .args .device-rows .now) (s .args .endpoint-rows .now) (s .args .packets .now) (s .args .events .now) (s .args .transactions .now) (s .args .groups .now) (s .args .statebytes .now) (s .args .states .now) (s .args .items .now) (s .args .links .now) (s .args .requests .now))
+abbrev begun : tie.Start Inv-loop μ-loop → Stand
+begun s = stand (state (s .args .d) (s .args .devices) (s .args .table .now) (logs (s .args .bytes .now) (s .args .device-rows .now) (s .args .endpoint-rows .now) (s .args .packets .now) (s .args .events .now) (s .args .transactions .now) (s .args .groups .now) (s .args .statebytes .now) (s .args .states .now) (s .args .items .now) (s .args .links .now) (s .args .requests .now))) (s .args .shelf .now)
 
 long : (c : tie.Start Inv-loop μ-loop) → length (c .args .records .now) < 2 ^ 64
 long c = search needs
@@ -73,13 +74,13 @@ left-sizes c =
     (c .single-step .kept .1 .1 .1 .1 .1 .1 .1 .1 .1 .1 .1 .1 .1 .1 .1 .1 .1 .0)
     (c .single-step .kept .1 .1 .1 .1 .1 .1 .1 .1 .1 .1 .1 .1 .1 .1 .1 .1 .1 .1 .0)
 
-sizes : (c : tie.After-single-step Inv-loop μ-loop) → SameSizes (begun (single-step·Start c) .logs) (left c)
+sizes : (c : tie.After-single-step Inv-loop μ-loop) → SameSizes (begun (single-step·Start c) .state .logs) (left c)
 sizes c k u = left-sizes c k u ∙ (ran-sizes (single-step·run-packets c) k u ∙ single-step·At-loop c .loop .inv .sizes k u)
 
 loop-holds : tie.Need-loop-holds Inv-loop μ-loop
 loop-holds c =
     let s = loop-holds·Start c in
-    taking-start (s .args .records .now) (s .args .at) (s .args .clock) (begun s) (fits-by (begun s) (loop-holds·room-of c .room-of .ensures) (loop-holds·is-sound c .is-sound .ensures))
+    taking-start (s .args .records .now) (s .args .at) (s .args .clock) (begun s) (fits-by (begun s .state) (loop-holds·room-of c .room-of .ensures) (loop-holds·is-sound c .is-sound .ensures))
 
 -- ---- behind the packets
 

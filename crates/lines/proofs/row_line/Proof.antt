@@ -140,6 +140,9 @@ shared-slice-read-request-line-2 c = omega (arith, wide (shared-slice-read-reque
 shared-slice-read-request-line-3 : tie.Need-shared-slice-read-request-line-3
 shared-slice-read-request-line-3 c = omega (arith, wide (shared-slice-read-request-line-3·Start c) (shared-slice-read-request-line-3·enum-told9 c .enum-told9 .given .1))
 
+shared-slice-read-request-line-4 : tie.Need-shared-slice-read-request-line-4
+shared-slice-read-request-line-4 c = omega (arith, wide (shared-slice-read-request-line-4·Start c) (shared-slice-read-request-line-4·enum-told9 c .enum-told9 .given .1))
+
 request-line-requires : tie.Need-request-line-requires
 unfolding requestLine
 request-line-requires c κs = as-told (request-line-requires·Start c) (request-line-requires·enum-told9 c .enum-told9 .given .1)
@@ -243,6 +246,7 @@ row-line-spec =
     shared-slice-read-request-line
     shared-slice-read-request-line-2
     shared-slice-read-request-line-3
+    shared-slice-read-request-line-4
     request-line-requires
     same-length
     returns

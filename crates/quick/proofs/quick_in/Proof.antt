@@ -19,7 +19,7 @@ use Rattle.quick.proofs.BeginOnly.{begin-asks, begin-rows, begin-more, 
 use Rattle.quick.proofs.Rest.{begins-plan}
 use Rattle.quick.proofs.CloseOnly.{close-small, close-only-call, close-only-asks, close-only-rows, close-counted}
 use Rattle.quick.proofs.LightCall.{there, light-count, light-room, light-by}
-use Rattle.quick.proofs.Quick.{Meets, begin-lent, close-lent, light-lent, BeginTaken, begin-taken, CloseTaken, close-taken, LightTaken, light-taken, kept-devices}
+use Rattle.quick.proofs.Quick.{Meets, begin-lent, close-lent, light-lent, BeginTaken, begin-taken, CloseTaken, close-taken, LightTaken, light-taken, kept-parts}
 use Rattle.quick.proofs.quick_in.Statement.{statement}
 use Rattle.quick.proofs.quick_in.Tie as tie
 mod Places
@@ -77,7 +77,7 @@ begin-only-requires c κs =
     let a = begin-only-requires·Start c in
     let v = a .pre .0 .devices in
     let b = begun (begin-only-requires·Then1 c) v (a .pre .0 .lent) in
-    let p = begins-plan (a .args .packet .now) (a .args .time) (lent a v) (b .enters) (b .plan) (b .fits) in
+    let p = begins-plan (a .args .packet .now) (a .args .time) (lent a v) (b .enters) (b .plan) (b .kept) (b .fits) in
     let q = Then1·shape-of (begin-only-requires·Then1 c) .shape-of .result in
     let x = begin-asks (a .args .packet .now) (a .args .time) (lent a v) (b .enters) p in
     let r = begin-rows (a .args .packet .now) (a .args .time) (lent a v) (b .enters) p in
@@ -92,12 +92,11 @@ returns c =
     let a = returns·Start c in
     let e = returns·no-change c .no-change .ensures in
     let w = returns·begin-only c .begin-only .ensures in
-    let n = returns·held-of c .held-of .ensures in
-    let q = returns·shape-of c .shape-of .result in (
-      none-placed e,
-      λ v h. let b = begun (returns·Then1 c) v h in
-          kept-devices (a .args .packet .now) (a .args .time) (lent a v) e
-          (begin-by (a .args .packet .now) (a .args .time) (lent a v) (b .enters) (begins-plan (a .args .packet .now) (a .args .time) (lent a v) (b .enters) (b .plan) (b .fits)) n (w .0) (w .1 .0) (w .1 .1 .0) (w .1 .1 .1 .0) (w .1 .1 .1 .1 .0) (w .1 .1 .1 .1 .1)),
+    let n = returns·held-of c .held-of .ensures in (
+      none-placed (a .args .packet .now) (a .args .requests .now) e,
+      λ v h shelf. let b = begun (returns·Then1 c) v h in
+          kept-parts (a .args .packet .now) (a .args .time) (lent a v) shelf e
+          (begin-by (a .args .packet .now) (a .args .time) (lent a v) (b .enters) (begins-plan (a .args .packet .now) (a .args .time) (lent a v) (b .enters) (b .plan) (b .kept) (b .fits)) n (w .0) (w .1 .0) (w .1 .1 .0) (w .1 .1 .1 .0) (w .1 .1 .1 .1 .0) (w .1 .1 .1 .1 .1) shelf) refl refl,
     )
 
 -- ---- close-only with a light end
@@ -144,11 +143,11 @@ returns-2 c =
     let a = returns-2·Start c in
     let e = returns-2·no-change c .no-change .ensures in
     let w = returns-2·light-only c .light-only .ensures in (
-      none-placed e,
-      λ v h. let b = lightly (returns-2·Then2 c) v h in
-          kept-devices (a .args .packet .now) (a .args .time) (lent a v) e
-          (light-by (a .args .packet .now) (a .args .time) (lent a v) (b .enters) (b .plan) (b .fits) (b .light) (b .entry) (w .1 .1 .1 .1 .1)
-          (returns-2·held-of c .held-of .ensures) (w .0) (w .1 .0) (w .1 .1 .0) (w .1 .1 .1 .0) (w .1 .1 .1 .1 .0)),
+      none-placed (a .args .packet .now) (a .args .requests .now) e,
+      λ v h shelf. let b = lightly (returns-2·Then2 c) v h in
+          kept-parts (a .args .packet .now) (a .args .time) (lent a v) shelf e
+          (light-by (a .args .packet .now) (a .args .time) (lent a v) (b .enters) (b .plan) (b .fits) (b .light) (b .entry) (b .kept) (w .1 .1 .1 .1 .1)
+          (returns-2·held-of c .held-of .ensures) (w .0) (w .1 .0) (w .1 .1 .0) (w .1 .1 .1 .0) (w .1 .1 .1 .1 .0) shelf) refl refl,
     )
 
 -- ---- close-only
@@ -185,12 +184,13 @@ returns-3 c =
     let e = returns-3·no-change c .no-change .ensures in
     let q = returns-3·shape-of c .shape-of .result in
     let end = returns-3·end-by c .end-by .result in (
-      none-placed e,
-      λ v h. let b = closed (returns-3·Then3 c) v h in
-          kept-devices (a .args .packet .now) (a .args .time) (lent a v) e
-          (close-only-call (a .args .packet .now) (a .args .time) (lent a v) (b .enters) (b .plan) (b .fits)
-          (returns-3·close-only c .close-only .ensures v (a .args .endpoint-rows .now) (a .args .events .now) (a .args .transactions .now) (returns-3·held-of c .held-of .ensures)
-          ∙ close-counted (q .transaction) end (a .args .packet .now) (a .args .time) (lent a v) (q .closes) (returns-3·held-of c .held-of .result) (returns-3·room-of c .room-of .result) (returns-3·close-of c .close-of .ensures))),
+      none-placed (a .args .packet .now) (a .args .requests .now) e,
+      λ v h shelf. let b = closed (returns-3·Then3 c) v h in
+          kept-parts (a .args .packet .now) (a .args .time) (lent a v) shelf e
+          (close-only-call (a .args .packet .now) (a .args .time) (lent a v) (b .enters) (b .plan) (b .fits) (b .kept)
+          (returns-3·close-only c .close-only .ensures v (a .args .endpoint-rows .now) (a .args .events .now) (a .args .transactions .now) (a .args .requests .now) (returns-3·held-of c .held-of .ensures)
+          ∙ close-counted (q .transaction) end (a .args .packet .now) (a .args .time) (lent a v) (q .closes) (returns-3·held-of c .held-of .result) (returns-3·room-of c .room-of .result) (returns-3·close-of c .close-of .ensures))
+          shelf) refl refl,
     )
 
 pub quick-in-spec : {M : Type 1} → statement M
@@ -228,7 +228,6 @@ quick-in-spec =
     (λ c. returns-3·close-only c .close-only .kept .1 .1 .1 .1 .1 .1 .1 .1 .1 .1 .1 .1 .1 .0)
     (λ c. returns-3·close-only c .close-only .kept .1 .1 .1 .1 .1 .1 .1 .1 .1 .1 .1 .1 .1 .1 .0)
     (λ c. returns-3·close-only c .close-only .kept .1 .1 .1 .1 .1 .1 .1 .1 .1 .1 .1 .1 .1 .1 .1 .0)
-    (λ c. returns-3·close-only c .close-only .kept .1 .1 .1 .1 .1 .1 .1 .1 .1 .1 .1 .1 .1 .1 .1 .1 .0)
     returns-3
     (λ c κs. packet-in-requires·Start c .pre)
     (λ c. returns-4·packet-in c .packet-in .kept .1 .1 .1 .1 .1 .0)
@@ -241,5 +240,4 @@ quick-in-spec =
     (λ c. returns-4·packet-in c .packet-in .kept .1 .1 .1 .1 .1 .1 .1 .1 .1 .1 .1 .1 .1 .0)
     (λ c. returns-4·packet-in c .packet-in .kept .1 .1 .1 .1 .1 .1 .1 .1 .1 .1 .1 .1 .1 .1 .0)
     (λ c. returns-4·packet-in c .packet-in .kept .1 .1 .1 .1 .1 .1 .1 .1 .1 .1 .1 .1 .1 .1 .1 .0)
-    (λ c. returns-4·packet-in c .packet-in .kept .1 .1 .1 .1 .1 .1 .1 .1 .1 .1 .1 .1 .1 .1 .1 .1 .0)
     (λ c. returns-4·packet-in c .packet-in .ensures))

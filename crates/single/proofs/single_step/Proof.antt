@@ -20,10 +20,10 @@ returns : tie.Need-returns
 returns c = packet-step (sym (returns·Start c .pre) ∙ returns·found c .found .given .1) (returns·tick c .tick .ensures) (returns·packet c .packet .ensures) (c .went .ensures)
 
 returns-2 : tie.Need-returns-2
-returns-2 c = event-step (sym (returns-2·Start c .pre) ∙ returns-2·found2 c .found2 .given .1) (returns-2·tick2 c .tick2 .ensures) (returns-2·event c .event .ensures) (c .went2 .ensures)
+returns-2 c = event-step (sym (returns-2·Start c .pre) ∙ returns-2·found2 c .found2 .given .1) (returns-2·tick2 c .tick2 .ensures) (returns-2·event c .event .ensures) refl (c .went2 .ensures)
 
 returns-3 : tie.Need-returns-3
-returns-3 c = detail-step (sym (returns-3·Start c .pre) ∙ returns-3·found3 c .found3 .given .1) (returns-3·detail c .detail .ensures) (c .went3 .ensures)
+returns-3 c = detail-step (sym (returns-3·Start c .pre) ∙ returns-3·found3 c .found3 .given .1) (returns-3·detail c .detail .ensures) refl (c .went3 .ensures)
 
 returns-4 : tie.Need-returns-4
 returns-4 c =

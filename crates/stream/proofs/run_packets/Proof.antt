@@ -1,7 +1,8 @@
 -- `run_packets` meets its contract: the loop's invariant is that the packets so far lead to a state that is sound, with the addresses of its devices.
-use Prim.Native.Nat.{_+_, _-_, _^_, _<_, _≤_}
+use Prim.Native.Nat.{ℕ, _+_, _-_, _^_, _<_, _≤_}
 use native.Mathlib.Omega.{arith}
-use mathlib.Core.Path.{_≡_, refl, sym, subst, _∙_}
+use mathlib.Core.List.{List}
+use mathlib.Core.Path.{_≡_, refl, sym, _∙_}
 use borrow.Author.Needs.{needs}
 use borrow.Author.Tests.{not-true, not-false}
 use lib.ListN.{length}
@@ -10,35 +11,35 @@ use Rattle.trace.specs.Trace.{nextAt}
 use Rattle.call.specs.State.{State, state, Logs, logs}
 use Rattle.call.specs.StateLaws.{SameSizes}
 use Rattle.packet.specs.Lent.{Lent}
-use Rattle.packet.proofs.Changes.{changed-by, changed-none}
-use Rattle.stream.specs.Addresses.{Addressed}
-use Rattle.stream.proofs.Addresses.{addressed-changed}
+use Rattle.packet.proofs.Answers.{withRequests, with-parts}
+use Rattle.packet.proofs.Changes.{changed-none, shelved-none, requested-none}
+use Rattle.step.specs.Block.{Stand, stand}
 use Rattle.stream.proofs.Leading.{eight-small}
-use Rattle.stream.proofs.Streaming.{Streaming, IsPart, bytesOf, part-is, streaming-start, streaming-ends, streaming-unfinished, streaming-ready, streaming-bounds, streaming-further, streaming-counts, streaming-short, streaming-place, streaming-owner, streaming-number, streaming-lent, streaming-stops, streaming-more, streaming-with}
+use Rattle.stream.proofs.Streaming.{Streaming, IsPart, bytesOf, part-is, streaming-start, streaming-ends, streaming-unfinished, streaming-ready, streaming-bounds, streaming-further, streaming-counts, streaming-short, streaming-place, streaming-owner, streaming-number, streaming-lent, streaming-stops, streaming-more}
 use Rattle.stream.proofs.run_packets.Statement.{statement}
 use Rattle.stream.proofs.run_packets.Tie as tie
 mod Places
 use Places.*
 
 abbrev Inv-loop : tie.InvT-loop
-Inv-loop ready records start table₀ bytes₀ device-rows₀ endpoint-rows₀ packets₀ events transactions₀ groups₀ statebytes₀ states₀ items₀ links₀ requests₀ decoder₀ addresses₀ devices₀ clock₀ at₀ taken₀ eights₀ table bytes device-rows endpoint-rows packets transactions groups statebytes states items links requests decoder addresses devices clock at taken eights =
-    Streaming ready records at₀ clock₀ (state decoder₀ devices₀ table₀ (logs bytes₀ device-rows₀ endpoint-rows₀ packets₀ events transactions₀ groups₀ statebytes₀ states₀ items₀ links₀ requests₀)) taken eights at clock
-    (state decoder devices table (logs bytes device-rows endpoint-rows packets events transactions groups statebytes states items links requests)) addresses
+Inv-loop ready records start table₀ bytes₀ device-rows₀ endpoint-rows₀ packets₀ events transactions₀ groups₀ statebytes₀ states₀ items₀ links₀ requests₀ shelf₀ decoder₀ addresses₀ devices₀ clock₀ at₀ taken₀ eights₀ table bytes device-rows endpoint-rows packets transactions groups statebytes states items links requests shelf decoder addresses devices clock at taken eights =
+    Streaming ready records at₀ clock₀ (stand (state decoder₀ devices₀ table₀ (logs bytes₀ device-rows₀ endpoint-rows₀ packets₀ events transactions₀ groups₀ statebytes₀ states₀ items₀ links₀ requests₀)) shelf₀) taken eights at clock
+    (stand (state decoder devices table (logs bytes device-rows endpoint-rows packets events transactions groups statebytes states items links requests)) shelf) addresses
 
 abbrev μ-loop : tie.MeasureT-loop
-μ-loop ready records start table₀ bytes₀ device-rows₀ endpoint-rows₀ packets₀ events transactions₀ groups₀ statebytes₀ states₀ items₀ links₀ requests₀ decoder₀ addresses₀ devices₀ clock₀ at₀ taken₀ eights₀ table bytes device-rows endpoint-rows packets transactions groups statebytes states items links requests decoder addresses devices clock at taken eights =
+μ-loop ready records start table₀ bytes₀ device-rows₀ endpoint-rows₀ packets₀ events transactions₀ groups₀ statebytes₀ states₀ items₀ links₀ requests₀ shelf₀ decoder₀ addresses₀ devices₀ clock₀ at₀ taken₀ eights₀ table bytes device-rows endpoint-rows packets transactions groups statebytes states items links requests shelf decoder addresses devices clock at taken eights =
     length records - at
 
 -- the state that the loop begins with
-abbrev begun : tie.Start Inv-loop μ-loop → State
-begun s = state (s .args .d) (s .args .devices) (s .args .table .now) (logs (s .args .bytes .now) (s .args .device-rows .now) (s .args .endpoint-rows .now) (s .args .packets .now) (s .args .events .now) (s .args .transactions .now) (s .args .groups .now) (s .args .statebytes .now) (s .args .states .now) (s .args .items .now) (s .args .links .now) (s .args .requests .now))
+abbrev begun : tie.Start Inv-loop μ-loop → Stand
+begun s = stand (state (s .args .d) (s .args .devices) (s .args .table .now) (logs (s .args .bytes .now) (s .args .device-rows .now) (s .args .endpoint-rows .now) (s .args .packets .now) (s .args .events .now) (s .args .transactions .now) (s .args .groups .now) (s .args .statebytes .now) (s .args .states .now) (s .args .items .now) (s .args .links .now) (s .args .requests .now))) (s .args .shelf .now)
 
 -- the state before a packet, and the logs behind it
 abbrev held : tie.At-loop Inv-loop μ-loop → State
 held c = state (c .loop .decoder) (c .loop .devices) (c .loop .table) (logs (c .loop .bytes) (c .loop .device-rows) (c .loop .endpoint-rows) (c .loop .packets) (At-loop·Start c .args .events .now) (c .loop .transactions) (c .loop .groups) (c .loop .statebytes) (c .loop .states) (c .loop .items) (c .loop .links) (c .loop .requests))
 
 abbrev left : tie.After-quick-in Inv-loop μ-loop → Logs
-left c = logs (c .quick-in .last .1 .1 .1 .1 .1 .0) (c .quick-in .last .1 .1 .1 .1 .1 .1 .0) (c .quick-in .last .1 .1 .1 .1 .1 .1 .1 .0) (c .quick-in .last .1 .1 .1 .1 .1 .1 .1 .1 .0) (quick-in·Start c .args .events .now) (c .quick-in .last .1 .1 .1 .1 .1 .1 .1 .1 .1 .1 .0) (c .quick-in .last .1 .1 .1 .1 .1 .1 .1 .1 .1 .1 .1 .0) (c .quick-in .last .1 .1 .1 .1 .1 .1 .1 .1 .1 .1 .1 .1 .0) (c .quick-in .last .1 .1 .1 .1 .1 .1 .1 .1 .1 .1 .1 .1 .1 .0) (c .quick-in .last .1 .1 .1 .1 .1 .1 .1 .1 .1 .1 .1 .1 .1 .1 .0) (c .quick-in .last .1 .1 .1 .1 .1 .1 .1 .1 .1 .1 .1 .1 .1 .1 .1 .0) (c .quick-in .last .1 .1 .1 .1 .1 .1 .1 .1 .1 .1 .1 .1 .1 .1 .1 .1 .0)
+left c = logs (c .quick-in .last .1 .1 .1 .1 .1 .0) (c .quick-in .last .1 .1 .1 .1 .1 .1 .0) (c .quick-in .last .1 .1 .1 .1 .1 .1 .1 .0) (c .quick-in .last .1 .1 .1 .1 .1 .1 .1 .1 .0) (quick-in·Start c .args .events .now) (c .quick-in .last .1 .1 .1 .1 .1 .1 .1 .1 .1 .1 .0) (c .quick-in .last .1 .1 .1 .1 .1 .1 .1 .1 .1 .1 .1 .0) (c .quick-in .last .1 .1 .1 .1 .1 .1 .1 .1 .1 .1 .1 .1 .0) (c .quick-in .last .1 .1 .1 .1 .1 .1 .1 .1 .1 .1 .1 .1 .1 .0) (c .quick-in .last .1 .1 .1 .1 .1 .1 .1 .1 .1 .1 .1 .1 .1 .1 .0) (c .quick-in .last .1 .1 .1 .1 .1 .1 .1 .1 .1 .1 .1 .1 .1 .1 .1 .0) (quick-in·At-loop c .loop .requests)
 
 sizes : (c : tie.After-quick-in Inv-loop μ-loop) → SameSizes (held (quick-in·At-loop c) .logs) (left c)
 sizes c =
@@ -54,7 +55,14 @@ sizes c =
     (c .quick-in .kept .1 .1 .1 .1 .1 .1 .1 .1 .1 .1 .1 .1 .1 .0)
     (c .quick-in .kept .1 .1 .1 .1 .1 .1 .1 .1 .1 .1 .1 .1 .1 .1 .0)
     (c .quick-in .kept .1 .1 .1 .1 .1 .1 .1 .1 .1 .1 .1 .1 .1 .1 .1 .0)
-    (c .quick-in .kept .1 .1 .1 .1 .1 .1 .1 .1 .1 .1 .1 .1 .1 .1 .1 .1 .0)
+    refl
+
+-- with a log of requests as long as it was
+sizes-with : (c : tie.After-quick-in Inv-loop μ-loop) (q : List ℕ) → length q ≡ length (quick-in·At-loop c .loop .requests) → SameSizes (held (quick-in·At-loop c) .logs) (withRequests q (left c))
+sizes-with c q h =
+    let k = sizes c in
+    each-log _
+    (k 0 (log-number 0 refl)) (k 1 (log-number 1 refl)) (k 2 (log-number 2 refl)) (k 3 (log-number 3 refl)) (k 4 (log-number 4 refl)) (k 5 (log-number 5 refl)) (k 6 (log-number 6 refl)) (k 7 (log-number 7 refl)) (k 8 (log-number 8 refl)) (k 9 (log-number 9 refl)) (k 10 (log-number 10 refl)) h
 
 many : (c : tie.Start Inv-loop μ-loop) → length (c .args .devices) ≡ 64
 many c = search needs
@@ -117,10 +125,19 @@ quick-in-requires c κs =
 
 -- ---- behind it
 
+sub-make-change : tie.Need-sub-make-change Inv-loop μ-loop
+sub-make-change c = streaming-bounds (sub-make-change·At-loop c .loop .inv) (part (sub-make-change·Else1 c)) .0
+
+part-make-change-start : tie.Need-part-make-change-start Inv-loop μ-loop
+part-make-change-start c = streaming-bounds (part-make-change-start·At-loop c .loop .inv) (part (part-make-change-start·Else1 c)) .0
+
+part-make-change-end : tie.Need-part-make-change-end Inv-loop μ-loop
+part-make-change-end c = streaming-bounds (part-make-change-end·At-loop c .loop .inv) (part (part-make-change-end·Else1 c)) .1
+
 returns-2 : tie.Need-returns-2 Inv-loop μ-loop
 returns-2 c =
     let g = returns-2·At-loop c .loop in
-    streaming-stops (g .inv) (part (returns-2·Else1 c)) (returns-2·tick c .tick .ensures) (returns-2·quick-in c .quick-in .ensures .1 (g .devices) (lends (returns-2·near-by c)))
+    streaming-stops (g .inv) (part (returns-2·Else1 c)) (returns-2·tick c .tick .ensures) (returns-2·quick-in c .quick-in .ensures .1 (g .devices) (lends (returns-2·near-by c)) (g .shelf))
     (sym (returns-2·goes-on c .goes-on .ensures) ∙ not-true _ (c .if2 .taken))
 
 -- a packet's number is below its byte
@@ -149,15 +166,14 @@ loop-again : tie.Need-loop-again Inv-loop μ-loop
 loop-again c =
     let g = loop-again·At-loop c .loop in
     let m = loop-again·quick-in c in
-    let e = loop-again·row-by c .row-by .ensures in
-    let f = c .added-by .ensures in
-    streaming-with
-    (streaming-more (g .inv) (part (loop-again·Else1 c)) (loop-again·tick c .tick .ensures) (m .quick-in .ensures .1 (g .devices) (lends (loop-again·near-by c)))
+    let x = loop-again·make-change c .make-change in
+    let e = x .ensures in
+    streaming-more (g .inv) (part (loop-again·Else1 c)) (loop-again·tick c .tick .ensures)
+    (with-parts _ _ _ _ (e .0) (e .1 .1) (e .1 .0) (m .quick-in .ensures .1 (g .devices) (lends (loop-again·near-by c)) (g .shelf)))
     (sym (loop-again·goes-on c .goes-on .ensures) ∙ not-false _ (loop-again·Else2 c .if2 .left))
     (loop-again·eight c .eight .ensures)
-    (addressed-changed (g .inv .addressed) (g .inv .many) (m .quick-in .result .change) (m .quick-in .ensures .0) e f)
-    (sizes m))
-    _ (changed-by (m .quick-in .result .change) (g .devices) e f)
+    (c .addresses-of2 .ensures)
+    (sizes-with m (x .last .1 .1 .1 .1 .0) (x .kept .1 .1 .1 .1 .0))
 
 loop-less-2 : tie.Need-loop-less-2 Inv-loop μ-loop
 loop-less-2 c =
@@ -168,14 +184,15 @@ loop-again-2 : tie.Need-loop-again-2 Inv-loop μ-loop
 loop-again-2 c =
     let g = loop-again-2·At-loop c .loop in
     let m = loop-again-2·quick-in c in
-    let same = changed-none (m .quick-in .result .change) (g .devices) (sym (loop-again-2·is-change c .is-change .ensures) ∙ c .if3 .left) in
-    streaming-with
-    (streaming-more (g .inv) (part (loop-again-2·Else1 c)) (loop-again-2·tick c .tick .ensures) (m .quick-in .ensures .1 (g .devices) (lends (loop-again-2·near-by c)))
+    let k = m .quick-in .result .change in
+    let q = bytesOf (loop-again-2·Start c .args .records .now) (loop-again-2·part-of c .part-of .result) in
+    let e = sym (loop-again-2·is-change c .is-change .ensures) ∙ c .if3 .left in
+    streaming-more (g .inv) (part (loop-again-2·Else1 c)) (loop-again-2·tick c .tick .ensures)
+    (with-parts _ _ _ _ (sym (changed-none k q (g .shelf) (g .devices) e)) (sym (requested-none k q (g .shelf) (g .devices) e (g .requests))) (sym (shelved-none k q (g .shelf) (g .devices) e)) (m .quick-in .ensures .1 (g .devices) (lends (loop-again-2·near-by c)) (g .shelf)))
     (sym (loop-again-2·goes-on c .goes-on .ensures) ∙ not-false _ (loop-again-2·Else2 c .if2 .left))
     (loop-again-2·eight c .eight .ensures)
-    (subst (Addressed 64 (g .addresses)) (sym same) (g .inv .addressed))
-    (sizes m))
-    (g .devices) (sym same)
+    (g .inv .addressed)
+    (sizes m)
 
 pub run-packets-spec : {M : Type 1} → statement M
 run-packets-spec =
@@ -230,18 +247,11 @@ run-packets-spec =
     (λ c κs. tt)
     add-eights
     (λ c κs. tt)
-    (λ c. let h = mul-row-by·quick-in c .quick-in .ensures .0 .place in omega arith)
-    (λ c. array-copy-out-row-by·quick-in c .quick-in .ensures .0 .place)
+    sub-make-change
+    part-make-change-start
+    part-make-change-end
+    (λ c κs. make-change-requires·quick-in c .quick-in .ensures .0)
     (λ c κs. tt)
-    (λ c. let h = mul-devices·quick-in c .quick-in .ensures .0 .place in omega arith)
-    (λ c. array-set-from-devices·quick-in c .quick-in .ensures .0 .place)
-    (λ c. array-write-addresses·quick-in c .quick-in .ensures .0 .place)
-    (λ c. let h = mul-added-by·quick-in c .quick-in .ensures .0 .at in omega arith)
-    (λ c. array-copy-out-added-by·quick-in c .quick-in .ensures .0 .at)
-    (λ c κs. tt)
-    (λ c. let h = mul-devices-2·quick-in c .quick-in .ensures .0 .at in omega arith)
-    (λ c. array-set-from-devices-2·quick-in c .quick-in .ensures .0 .at)
-    (λ c. array-write-addresses-2·quick-in c .quick-in .ensures .0 .at)
     loop-less
     loop-again
     loop-less-2

@@ -11,6 +11,7 @@ use std::process::{Command, ExitCode};
 use oracle::bench::{packets_of, run as decode};
 use oracle::calls::{BYTES, ENDPOINTS, LOGS, Mechanism, Rows, STATE_BYTES, WIDTHS, count, log_words};
 use oracle::decoder::machine::Machine;
+use oracle::descriptors::Descriptors;
 use oracle::generate::download;
 use oracle::library;
 use oracle::mixed::mixed;
@@ -125,7 +126,7 @@ impl Case {
         let room = room(trace.len(), records);
         let mut again = Logs::new(&room);
         let rows = again.run(&trace).map_err(|e| format!("{name}: {e}"))?;
-        if let Some(text) = difference(&decode::<Machine>(&trace)?, &again, &rows) {
+        if let Some(text) = difference(&decode::<Machine>(Descriptors::DEFAULT, &trace)?, &again, &rows) {
             return Err(format!("{name}: {text}"));
         }
         Ok(Case { name, file, trace, turns: plan.turns, packets, room, rows, again, least: [f64::MAX; 6] })
@@ -141,7 +142,7 @@ impl Case {
                 left.push(fresh.run(trace));
                 fresh
             }),
-            time(|| decode::<Machine>(trace)),
+            time(|| decode::<Machine>(Descriptors::Off, trace)),
             time(|| left.push(self.again.run(trace))),
             time(|| packets().map(|packet| library::check(packet) as u64).sum::<u64>()),
             time(|| packets().map(|packet| validate_packet(packet).map_or(0, |pid| pid as u64)).sum::<u64>()),
@@ -201,7 +202,7 @@ fn peak_here(side: &str, file: &str) -> Result<(), String> {
     let trace = std::fs::read(file).map_err(|e| format!("{file}: {e}"))?;
     match side {
         "port" => drop(black_box(Logs::new(&room(trace.len(), read(&trace))).run(&trace)?)),
-        _ => drop(black_box(decode::<Machine>(&trace)?)),
+        _ => drop(black_box(decode::<Machine>(Descriptors::Off, &trace)?)),
     }
     let status = std::fs::read_to_string("/proc/self/status").map_err(|e| e.to_string())?;
     let line = status.lines().find_map(|line| line.strip_prefix("VmHWM:")).ok_or("no VmHWM in /proc/self/status")?;

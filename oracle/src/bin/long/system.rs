@@ -1,8 +1,10 @@
-//! What the benchmark asks of the system: the processor time, and the twelve logs and the table in fresh memory, on which the port runs a trace.
+//! What the benchmark asks of the system: the processor time, and the twelve logs, the table and the shelf in fresh memory, on which the port
+//! runs a trace.
 
 use std::ffi::c_void;
 
 use oracle::calls::{BYTES, Rows, STATE_BYTES, WIDTHS};
+use oracle::descriptors::SHELF;
 use oracle::library::{self, Lent, TABLE};
 
 unsafe extern "C" {
@@ -46,6 +48,7 @@ impl Drop for Pages {
 
 pub struct Logs {
     table: Pages,
+    shelf: Pages,
     logs: [Pages; 12],
     /// Of each log, in its own elements.
     lengths: [usize; 12],
@@ -59,7 +62,7 @@ impl Logs {
     pub fn new(room: &Rows) -> Logs {
         let lengths: [usize; 12] = std::array::from_fn(|log| room.0[log] as usize * WIDTHS[log]);
         let logs = std::array::from_fn(|log| Pages::new(lengths[log] * if is_bytes(log) { 1 } else { 8 }));
-        Logs { table: Pages::new(TABLE * 8), logs, lengths }
+        Logs { table: Pages::new(TABLE * 8), shelf: Pages::new(SHELF), logs, lengths }
     }
 
     /// A whole trace, which must end with 0; the rows that it leaves in each log.
@@ -69,6 +72,7 @@ impl Logs {
             (0..12).filter(|log| !is_bytes(*log)).map(|log| (self.logs[log].place.cast(), self.lengths[log])).collect();
         let lent = Lent {
             table: self.table.place.cast(),
+            shelf: self.shelf.place.cast(),
             bytes: bytes(BYTES),
             statebytes: bytes(STATE_BYTES),
             words: words.try_into().expect("ten logs of words"),

@@ -2,16 +2,16 @@
 use Rattle.block.proofs.records.Tie as tie
 
 abbrev pub run-packets·At-loop : {Inv : tie.InvT-loop} {μ : tie.MeasureT-loop} → tie.After-run-packets Inv μ → tie.At-loop Inv μ
-run-packets·At-loop c = c .before .before .before .before .before .before .before .before .before .before .before .before .before .before
+run-packets·At-loop c = c .before .before .before .before .before .before .before .before .before .before .before .before .before .before .before
 
 abbrev pub single-step·run-packets : {Inv : tie.InvT-loop} {μ : tie.MeasureT-loop} → tie.After-single-step Inv μ → tie.After-run-packets Inv μ
-single-step·run-packets c = c .before .before .before .before .before .before .before .before .before .before .before .before .before .before .before .before .before .before .before .before .before .before .before .before .before .before .before .before .before .before .before .before .before .before .before .before .before .before .before .before .before .before .before .before
+single-step·run-packets c = c .before .before .before .before .before .before .before .before .before .before .before .before .before .before .before .before .before .before .before .before .before .before .before .before .before .before .before .before .before .before .before .before .before .before .before .before .before .before .before .before .before .before .before .before .before
 
 abbrev pub single-step·Start : {Inv : tie.InvT-loop} {μ : tie.MeasureT-loop} → tie.After-single-step Inv μ → tie.Start Inv μ
-single-step·Start c = c .before .before .before .before .before .before .before .before .before .before .before .before .before .before .before .before .before .before .before .before .before .before .before .before .before .before .before .before .before .before .before .before .before .before .before .before .before .before .before .before .before .before .before .before .before .before .before .before .before .before .before .before .before .before .before .before .before .before .before .before .before .before .before .before .before .before .before .before .before .before .before .before .before .before .before .before
+single-step·Start c = c .before .before .before .before .before .before .before .before .before .before .before .before .before .before .before .before .before .before .before .before .before .before .before .before .before .before .before .before .before .before .before .before .before .before .before .before .before .before .before .before .before .before .before .before .before .before .before .before .before .before .before .before .before .before .before .before .before .before .before .before .before .before .before .before .before .before .before .before .before .before .before .before .before .before .before .before .before .before
 
 abbrev pub single-step·At-loop : {Inv : tie.InvT-loop} {μ : tie.MeasureT-loop} → tie.After-single-step Inv μ → tie.At-loop Inv μ
-single-step·At-loop c = c .before .before .before .before .before .before .before .before .before .before .before .before .before .before .before .before .before .before .before .before .before .before .before .before .before .before .before .before .before .before .before .before .before .before .before .before .before .before .before .before .before .before .before .before .before .before .before .before .before .before .before .before .before .before .before .before .before .before
+single-step·At-loop c = c .before .before .before .before .before .before .before .before .before .before .before .before .before .before .before .before .before .before .before .before .before .before .before .before .before .before .before .before .before .before .before .before .before .before .before .before .before .before .before .before .before .before .before .before .before .before .before .before .before .before .before .before .before .before .before .before .before .before .before .before
 
 abbrev pub loop-holds·Start : {Inv : tie.InvT-loop} {μ : tie.MeasureT-loop} → tie.After-struct-known Inv μ → tie.Start Inv μ
 loop-holds·Start c = c .before .before .before .before .before .before .before .before .before .before .before .before .before .before .before .before .before
@@ -23,43 +23,43 @@ abbrev pub loop-holds·is-sound : {Inv : tie.InvT-loop} {μ : tie.MeasureT-loop}
 loop-holds·is-sound c = c .before
 
 abbrev pub add-taken·At-loop : {Inv : tie.InvT-loop} {μ : tie.MeasureT-loop} → tie.After-struct-known2 Inv μ → tie.At-loop Inv μ
-add-taken·At-loop c = c .before .before .before .before .before .before .before .before .before .before .before .before .before .before .before .before .before .before .before .before .before .before .before .before .before .before .before .before .before .before .before .before .before .before .before .before .before
+add-taken·At-loop c = c .before .before .before .before .before .before .before .before .before .before .before .before .before .before .before .before .before .before .before .before .before .before .before .before .before .before .before .before .before .before .before .before .before .before .before .before .before .before
 
 abbrev pub add-taken·run-packets : {Inv : tie.InvT-loop} {μ : tie.MeasureT-loop} → tie.After-struct-known2 Inv μ → tie.After-run-packets Inv μ
 add-taken·run-packets c = c .before .before .before .before .before .before .before .before .before .before .before .before .before .before .before .before .before .before .before .before .before .before .before
 
 abbrev pub add-eights·At-loop : {Inv : tie.InvT-loop} {μ : tie.MeasureT-loop} → tie.After-struct-known3 Inv μ → tie.At-loop Inv μ
-add-eights·At-loop c = c .before .before .before .before .before .before .before .before .before .before .before .before .before .before .before .before .before .before .before .before .before .before .before .before .before .before .before .before .before .before .before .before .before .before .before .before .before .before
+add-eights·At-loop c = c .before .before .before .before .before .before .before .before .before .before .before .before .before .before .before .before .before .before .before .before .before .before .before .before .before .before .before .before .before .before .before .before .before .before .before .before .before .before .before
 
 abbrev pub add-eights·run-packets : {Inv : tie.InvT-loop} {μ : tie.MeasureT-loop} → tie.After-struct-known3 Inv μ → tie.After-run-packets Inv μ
 add-eights·run-packets c = c .before .before .before .before .before .before .before .before .before .before .before .before .before .before .before .before .before .before .before .before .before .before .before .before
 
 abbrev pub returns·At-loop : {Inv : tie.InvT-loop} {μ : tie.MeasureT-loop} → tie.Then1 Inv μ → tie.At-loop Inv μ
-returns·At-loop c = c .before .before .before .before .before .before .before .before .before .before .before .before .before .before .before .before .before .before .before .before .before .before .before .before .before .before .before .before .before .before .before .before .before .before .before .before .before .before .before .before .before .before .before
+returns·At-loop c = c .before .before .before .before .before .before .before .before .before .before .before .before .before .before .before .before .before .before .before .before .before .before .before .before .before .before .before .before .before .before .before .before .before .before .before .before .before .before .before .before .before .before .before .before
 
 abbrev pub returns·run-packets : {Inv : tie.InvT-loop} {μ : tie.MeasureT-loop} → tie.Then1 Inv μ → tie.After-run-packets Inv μ
 returns·run-packets c = c .before .before .before .before .before .before .before .before .before .before .before .before .before .before .before .before .before .before .before .before .before .before .before .before .before .before .before .before .before
 
 abbrev pub returns-2·At-loop : {Inv : tie.InvT-loop} {μ : tie.MeasureT-loop} → tie.Then2 Inv μ → tie.At-loop Inv μ
-returns-2·At-loop c = c .before .before .before .before .before .before .before .before .before .before .before .before .before .before .before .before .before .before .before .before .before .before .before .before .before .before .before .before .before .before .before .before .before .before .before .before .before .before .before .before .before .before .before .before .before .before .before .before .before .before .before .before .before .before .before .before .before .before .before .before .before .before .before .before .before .before .before .before .before .before .before .before .before .before .before .before .before .before .before .before .before .before .before .before .before .before
+returns-2·At-loop c = c .before .before .before .before .before .before .before .before .before .before .before .before .before .before .before .before .before .before .before .before .before .before .before .before .before .before .before .before .before .before .before .before .before .before .before .before .before .before .before .before .before .before .before .before .before .before .before .before .before .before .before .before .before .before .before .before .before .before .before .before .before .before .before .before .before .before .before .before .before .before .before .before .before .before .before .before .before .before .before .before .before .before .before .before .before .before .before .before
 
 abbrev pub returns-2·run-packets : {Inv : tie.InvT-loop} {μ : tie.MeasureT-loop} → tie.Then2 Inv μ → tie.After-run-packets Inv μ
-returns-2·run-packets c = c .before .before .before .before .before .before .before .before .before .before .before .before .before .before .before .before .before .before .before .before .before .before .before .before .before .before .before .before .before .before .before .before .before .before .before .before .before .before .before .before .before .before .before .before .before .before .before .before .before .before .before .before .before .before .before .before .before .before .before .before .before .before .before .before .before .before .before .before .before .before .before .before
+returns-2·run-packets c = c .before .before .before .before .before .before .before .before .before .before .before .before .before .before .before .before .before .before .before .before .before .before .before .before .before .before .before .before .before .before .before .before .before .before .before .before .before .before .before .before .before .before .before .before .before .before .before .before .before .before .before .before .before .before .before .before .before .before .before .before .before .before .before .before .before .before .before .before .before .before .before .before .before
 
 abbrev pub returns-2·Else1 : {Inv : tie.InvT-loop} {μ : tie.MeasureT-loop} → tie.Then2 Inv μ → tie.Else1 Inv μ
-returns-2·Else1 c = c .before .before .before .before .before .before .before .before .before .before .before .before .before .before .before .before .before .before .before .before .before .before .before .before .before .before .before .before .before .before .before .before .before .before .before .before .before .before .before .before .before .before .before
+returns-2·Else1 c = c .before .before .before .before .before .before .before .before .before .before .before .before .before .before .before .before .before .before .before .before .before .before .before .before .before .before .before .before .before .before .before .before .before .before .before .before .before .before .before .before .before .before .before .before
 
 abbrev pub returns-2·single-step : {Inv : tie.InvT-loop} {μ : tie.MeasureT-loop} → tie.Then2 Inv μ → tie.After-single-step Inv μ
 returns-2·single-step c = c .before .before .before .before .before .before .before .before .before .before .before .before .before .before .before .before .before .before .before .before .before .before .before .before .before .before .before .before
 
 abbrev pub add-taken-2·At-loop : {Inv : tie.InvT-loop} {μ : tie.MeasureT-loop} → tie.After-clock Inv μ → tie.At-loop Inv μ
-add-taken-2·At-loop c = c .before .before .before .before .before .before .before .before .before .before .before .before .before .before .before .before .before .before .before .before .before .before .before .before .before .before .before .before .before .before .before .before .before .before .before .before .before .before .before .before .before .before .before .before .before .before .before .before .before .before .before .before .before .before .before .before .before .before .before .before .before .before .before .before .before .before .before .before .before .before .before .before .before .before .before .before .before .before .before .before .before .before .before .before .before .before .before
+add-taken-2·At-loop c = c .before .before .before .before .before .before .before .before .before .before .before .before .before .before .before .before .before .before .before .before .before .before .before .before .before .before .before .before .before .before .before .before .before .before .before .before .before .before .before .before .before .before .before .before .before .before .before .before .before .before .before .before .before .before .before .before .before .before .before .before .before .before .before .before .before .before .before .before .before .before .before .before .before .before .before .before .before .before .before .before .before .before .before .before .before .before .before .before .before
 
 abbrev pub add-taken-2·run-packets : {Inv : tie.InvT-loop} {μ : tie.MeasureT-loop} → tie.After-clock Inv μ → tie.After-run-packets Inv μ
-add-taken-2·run-packets c = c .before .before .before .before .before .before .before .before .before .before .before .before .before .before .before .before .before .before .before .before .before .before .before .before .before .before .before .before .before .before .before .before .before .before .before .before .before .before .before .before .before .before .before .before .before .before .before .before .before .before .before .before .before .before .before .before .before .before .before .before .before .before .before .before .before .before .before .before .before .before .before .before .before
+add-taken-2·run-packets c = c .before .before .before .before .before .before .before .before .before .before .before .before .before .before .before .before .before .before .before .before .before .before .before .before .before .before .before .before .before .before .before .before .before .before .before .before .before .before .before .before .before .before .before .before .before .before .before .before .before .before .before .before .before .before .before .before .before .before .before .before .before .before .before .before .before .before .before .before .before .before .before .before .before .before
 
 abbrev pub add-taken-2·Else1 : {Inv : tie.InvT-loop} {μ : tie.MeasureT-loop} → tie.After-clock Inv μ → tie.Else1 Inv μ
-add-taken-2·Else1 c = c .before .before .before .before .before .before .before .before .before .before .before .before .before .before .before .before .before .before .before .before .before .before .before .before .before .before .before .before .before .before .before .before .before .before .before .before .before .before .before .before .before .before .before .before
+add-taken-2·Else1 c = c .before .before .before .before .before .before .before .before .before .before .before .before .before .before .before .before .before .before .before .before .before .before .before .before .before .before .before .before .before .before .before .before .before .before .before .before .before .before .before .before .before .before .before .before .before
 
 abbrev pub add-taken-2·single-step : {Inv : tie.InvT-loop} {μ : tie.MeasureT-loop} → tie.After-clock Inv μ → tie.After-single-step Inv μ
 add-taken-2·single-step c = c .before .before .before .before .before .before .before .before .before .before .before .before .before .before .before .before .before .before .before .before .before .before .before .before .before .before .before .before .before
@@ -68,16 +68,16 @@ abbrev pub add-taken-2·Else2 : {Inv : tie.InvT-loop} {μ : tie.MeasureT-loop} �
 add-taken-2·Else2 c = c .before
 
 abbrev pub add-taken-2·Start : {Inv : tie.InvT-loop} {μ : tie.MeasureT-loop} → tie.After-clock Inv μ → tie.Start Inv μ
-add-taken-2·Start c = c .before .before .before .before .before .before .before .before .before .before .before .before .before .before .before .before .before .before .before .before .before .before .before .before .before .before .before .before .before .before .before .before .before .before .before .before .before .before .before .before .before .before .before .before .before .before .before .before .before .before .before .before .before .before .before .before .before .before .before .before .before .before .before .before .before .before .before .before .before .before .before .before .before .before .before .before .before .before .before .before .before .before .before .before .before .before .before .before .before .before .before .before .before .before .before .before .before .before .before .before .before .before .before .before .before
+add-taken-2·Start c = c .before .before .before .before .before .before .before .before .before .before .before .before .before .before .before .before .before .before .before .before .before .before .before .before .before .before .before .before .before .before .before .before .before .before .before .before .before .before .before .before .before .before .before .before .before .before .before .before .before .before .before .before .before .before .before .before .before .before .before .before .before .before .before .before .before .before .before .before .before .before .before .before .before .before .before .before .before .before .before .before .before .before .before .before .before .before .before .before .before .before .before .before .before .before .before .before .before .before .before .before .before .before .before .before .before .before .before
 
 abbrev pub add-eights-2·At-loop : {Inv : tie.InvT-loop} {μ : tie.MeasureT-loop} → tie.After-eight Inv μ → tie.At-loop Inv μ
-add-eights-2·At-loop c = c .before .before .before .before .before .before .before .before .before .before .before .before .before .before .before .before .before .before .before .before .before .before .before .before .before .before .before .before .before .before .before .before .before .before .before .before .before .before .before .before .before .before .before .before .before .before .before .before .before .before .before .before .before .before .before .before .before .before .before .before .before .before .before .before .before .before .before .before .before .before .before .before .before .before .before .before .before .before .before .before .before .before .before .before .before .before .before .before
+add-eights-2·At-loop c = c .before .before .before .before .before .before .before .before .before .before .before .before .before .before .before .before .before .before .before .before .before .before .before .before .before .before .before .before .before .before .before .before .before .before .before .before .before .before .before .before .before .before .before .before .before .before .before .before .before .before .before .before .before .before .before .before .before .before .before .before .before .before .before .before .before .before .before .before .before .before .before .before .before .before .before .before .before .before .before .before .before .before .before .before .before .before .before .before .before .before
 
 abbrev pub add-eights-2·run-packets : {Inv : tie.InvT-loop} {μ : tie.MeasureT-loop} → tie.After-eight Inv μ → tie.After-run-packets Inv μ
-add-eights-2·run-packets c = c .before .before .before .before .before .before .before .before .before .before .before .before .before .before .before .before .before .before .before .before .before .before .before .before .before .before .before .before .before .before .before .before .before .before .before .before .before .before .before .before .before .before .before .before .before .before .before .before .before .before .before .before .before .before .before .before .before .before .before .before .before .before .before .before .before .before .before .before .before .before .before .before .before .before
+add-eights-2·run-packets c = c .before .before .before .before .before .before .before .before .before .before .before .before .before .before .before .before .before .before .before .before .before .before .before .before .before .before .before .before .before .before .before .before .before .before .before .before .before .before .before .before .before .before .before .before .before .before .before .before .before .before .before .before .before .before .before .before .before .before .before .before .before .before .before .before .before .before .before .before .before .before .before .before .before .before .before
 
 abbrev pub add-eights-2·Else1 : {Inv : tie.InvT-loop} {μ : tie.MeasureT-loop} → tie.After-eight Inv μ → tie.Else1 Inv μ
-add-eights-2·Else1 c = c .before .before .before .before .before .before .before .before .before .before .before .before .before .before .before .before .before .before .before .before .before .before .before .before .before .before .before .before .before .before .before .before .before .before .before .before .before .before .before .before .before .before .before .before .before
+add-eights-2·Else1 c = c .before .before .before .before .before .before .before .before .before .before .before .before .before .before .before .before .before .before .before .before .before .before .before .before .before .before .before .before .before .before .before .before .before .before .before .before .before .before .before .before .before .before .before .before .before .before
 
 abbrev pub add-eights-2·single-step : {Inv : tie.InvT-loop} {μ : tie.MeasureT-loop} → tie.After-eight Inv μ → tie.After-single-step Inv μ
 add-eights-2·single-step c = c .before .before .before .before .before .before .before .before .before .before .before .before .before .before .before .before .before .before .before .before .before .before .before .before .before .before .before .before .before .before
@@ -86,16 +86,16 @@ abbrev pub add-eights-2·Else2 : {Inv : tie.InvT-loop} {μ : tie.MeasureT-loop} 
 add-eights-2·Else2 c = c .before .before
 
 abbrev pub add-eights-2·Start : {Inv : tie.InvT-loop} {μ : tie.MeasureT-loop} → tie.After-eight Inv μ → tie.Start Inv μ
-add-eights-2·Start c = c .before .before .before .before .before .before .before .before .before .before .before .before .before .before .before .before .before .before .before .before .before .before .before .before .before .before .before .before .before .before .before .before .before .before .before .before .before .before .before .before .before .before .before .before .before .before .before .before .before .before .before .before .before .before .before .before .before .before .before .before .before .before .before .before .before .before .before .before .before .before .before .before .before .before .before .before .before .before .before .before .before .before .before .before .before .before .before .before .before .before .before .before .before .before .before .before .before .before .before .before .before .before .before .before .before .before
+add-eights-2·Start c = c .before .before .before .before .before .before .before .before .before .before .before .before .before .before .before .before .before .before .before .before .before .before .before .before .before .before .before .before .before .before .before .before .before .before .before .before .before .before .before .before .before .before .before .before .before .before .before .before .before .before .before .before .before .before .before .before .before .before .before .before .before .before .before .before .before .before .before .before .before .before .before .before .before .before .before .before .before .before .before .before .before .before .before .before .before .before .before .before .before .before .before .before .before .before .before .before .before .before .before .before .before .before .before .before .before .before .before .before
 
 abbrev pub loop-less·At-loop : {Inv : tie.InvT-loop} {μ : tie.MeasureT-loop} → tie.After-eight Inv μ → tie.At-loop Inv μ
-loop-less·At-loop c = c .before .before .before .before .before .before .before .before .before .before .before .before .before .before .before .before .before .before .before .before .before .before .before .before .before .before .before .before .before .before .before .before .before .before .before .before .before .before .before .before .before .before .before .before .before .before .before .before .before .before .before .before .before .before .before .before .before .before .before .before .before .before .before .before .before .before .before .before .before .before .before .before .before .before .before .before .before .before .before .before .before .before .before .before .before .before .before .before
+loop-less·At-loop c = c .before .before .before .before .before .before .before .before .before .before .before .before .before .before .before .before .before .before .before .before .before .before .before .before .before .before .before .before .before .before .before .before .before .before .before .before .before .before .before .before .before .before .before .before .before .before .before .before .before .before .before .before .before .before .before .before .before .before .before .before .before .before .before .before .before .before .before .before .before .before .before .before .before .before .before .before .before .before .before .before .before .before .before .before .before .before .before .before .before .before
 
 abbrev pub loop-less·run-packets : {Inv : tie.InvT-loop} {μ : tie.MeasureT-loop} → tie.After-eight Inv μ → tie.After-run-packets Inv μ
-loop-less·run-packets c = c .before .before .before .before .before .before .before .before .before .before .before .before .before .before .before .before .before .before .before .before .before .before .before .before .before .before .before .before .before .before .before .before .before .before .before .before .before .before .before .before .before .before .before .before .before .before .before .before .before .before .before .before .before .before .before .before .before .before .before .before .before .before .before .before .before .before .before .before .before .before .before .before .before .before
+loop-less·run-packets c = c .before .before .before .before .before .before .before .before .before .before .before .before .before .before .before .before .before .before .before .before .before .before .before .before .before .before .before .before .before .before .before .before .before .before .before .before .before .before .before .before .before .before .before .before .before .before .before .before .before .before .before .before .before .before .before .before .before .before .before .before .before .before .before .before .before .before .before .before .before .before .before .before .before .before .before
 
 abbrev pub loop-less·Else1 : {Inv : tie.InvT-loop} {μ : tie.MeasureT-loop} → tie.After-eight Inv μ → tie.Else1 Inv μ
-loop-less·Else1 c = c .before .before .before .before .before .before .before .before .before .before .before .before .before .before .before .before .before .before .before .before .before .before .before .before .before .before .before .before .before .before .before .before .before .before .before .before .before .before .before .before .before .before .before .before .before
+loop-less·Else1 c = c .before .before .before .before .before .before .before .before .before .before .before .before .before .before .before .before .before .before .before .before .before .before .before .before .before .before .before .before .before .before .before .before .before .before .before .before .before .before .before .before .before .before .before .before .before .before
 
 abbrev pub loop-less·single-step : {Inv : tie.InvT-loop} {μ : tie.MeasureT-loop} → tie.After-eight Inv μ → tie.After-single-step Inv μ
 loop-less·single-step c = c .before .before .before .before .before .before .before .before .before .before .before .before .before .before .before .before .before .before .before .before .before .before .before .before .before .before .before .before .before .before
@@ -104,13 +104,13 @@ abbrev pub loop-less·Else2 : {Inv : tie.InvT-loop} {μ : tie.MeasureT-loop} →
 loop-less·Else2 c = c .before .before
 
 abbrev pub loop-again·At-loop : {Inv : tie.InvT-loop} {μ : tie.MeasureT-loop} → tie.After-eight Inv μ → tie.At-loop Inv μ
-loop-again·At-loop c = c .before .before .before .before .before .before .before .before .before .before .before .before .before .before .before .before .before .before .before .before .before .before .before .before .before .before .before .before .before .before .before .before .before .before .before .before .before .before .before .before .before .before .before .before .before .before .before .before .before .before .before .before .before .before .before .before .before .before .before .before .before .before .before .before .before .before .before .before .before .before .before .before .before .before .before .before .before .before .before .before .before .before .before .before .before .before .before .before
+loop-again·At-loop c = c .before .before .before .before .before .before .before .before .before .before .before .before .before .before .before .before .before .before .before .before .before .before .before .before .before .before .before .before .before .before .before .before .before .before .before .before .before .before .before .before .before .before .before .before .before .before .before .before .before .before .before .before .before .before .before .before .before .before .before .before .before .before .before .before .before .before .before .before .before .before .before .before .before .before .before .before .before .before .before .before .before .before .before .before .before .before .before .before .before .before
 
 abbrev pub loop-again·run-packets : {Inv : tie.InvT-loop} {μ : tie.MeasureT-loop} → tie.After-eight Inv μ → tie.After-run-packets Inv μ
-loop-again·run-packets c = c .before .before .before .before .before .before .before .before .before .before .before .before .before .before .before .before .before .before .before .before .before .before .before .before .before .before .before .before .before .before .before .before .before .before .before .before .before .before .before .before .before .before .before .before .before .before .before .before .before .before .before .before .before .before .before .before .before .before .before .before .before .before .before .before .before .before .before .before .before .before .before .before .before .before
+loop-again·run-packets c = c .before .before .before .before .before .before .before .before .before .before .before .before .before .before .before .before .before .before .before .before .before .before .before .before .before .before .before .before .before .before .before .before .before .before .before .before .before .before .before .before .before .before .before .before .before .before .before .before .before .before .before .before .before .before .before .before .before .before .before .before .before .before .before .before .before .before .before .before .before .before .before .before .before .before .before
 
 abbrev pub loop-again·Else1 : {Inv : tie.InvT-loop} {μ : tie.MeasureT-loop} → tie.After-eight Inv μ → tie.Else1 Inv μ
-loop-again·Else1 c = c .before .before .before .before .before .before .before .before .before .before .before .before .before .before .before .before .before .before .before .before .before .before .before .before .before .before .before .before .before .before .before .before .before .before .before .before .before .before .before .before .before .before .before .before .before
+loop-again·Else1 c = c .before .before .before .before .before .before .before .before .before .before .before .before .before .before .before .before .before .before .before .before .before .before .before .before .before .before .before .before .before .before .before .before .before .before .before .before .before .before .before .before .before .before .before .before .before .before
 
 abbrev pub loop-again·single-step : {Inv : tie.InvT-loop} {μ : tie.MeasureT-loop} → tie.After-eight Inv μ → tie.After-single-step Inv μ
 loop-again·single-step c = c .before .before .before .before .before .before .before .before .before .before .before .before .before .before .before .before .before .before .before .before .before .before .before .before .before .before .before .before .before .before
@@ -118,8 +118,8 @@ loop-again·single-step c = c .before .before .before .before .before .before .b
 abbrev pub loop-again·Else2 : {Inv : tie.InvT-loop} {μ : tie.MeasureT-loop} → tie.After-eight Inv μ → tie.Else2 Inv μ
 loop-again·Else2 c = c .before .before
 
-abbrev pub run-packets-requires·At-loop : {Inv : tie.InvT-loop} {μ : tie.MeasureT-loop} → tie.After-run-packets-arg13 Inv μ → tie.At-loop Inv μ
-run-packets-requires·At-loop c = c .before .before .before .before .before .before .before .before .before .before .before .before .before
+abbrev pub run-packets-requires·At-loop : {Inv : tie.InvT-loop} {μ : tie.MeasureT-loop} → tie.After-run-packets-arg14 Inv μ → tie.At-loop Inv μ
+run-packets-requires·At-loop c = c .before .before .before .before .before .before .before .before .before .before .before .before .before .before
 
-abbrev pub single-step-requires·record-at : {Inv : tie.InvT-loop} {μ : tie.MeasureT-loop} → tie.After-single-step-arg13 Inv μ → tie.After-record-at Inv μ
-single-step-requires·record-at c = c .before .before .before .before .before .before .before .before .before .before .before .before .before
+abbrev pub single-step-requires·record-at : {Inv : tie.InvT-loop} {μ : tie.MeasureT-loop} → tie.After-single-step-arg14 Inv μ → tie.After-record-at Inv μ
+single-step-requires·record-at c = c .before .before .before .before .before .before .before .before .before .before .before .before .before .before

@@ -32,14 +32,14 @@ read-max-requires c κs = search needs
 returns : tie.Need-returns
 returns c = let a = returns·Start c .args in let r = returns·read-max c .«read-max» in max-unset (payloadFor (a .a) (a .shelf .now)) (r .result) (r .ensures ∙ ap maxOf (part-is (a .a .start) (a .a .length) _ (a .shelf .now) (returns·least c .least .ensures))) (a .device) (not-true _ (c .if1 .taken))
 
-cast-set-detail : tie.Need-cast-set-detail
-cast-set-detail c = search needs
+cast-set-given : tie.Need-cast-set-given
+cast-set-given c = search needs
 
-set-detail-requires : tie.Need-set-detail-requires
-set-detail-requires c κs = search needs
+set-given-requires : tie.Need-set-given-requires
+set-given-requires c κs = search needs
 
 returns-2 : tie.Need-returns-2
-returns-2 c = let a = returns-2·Start c .args in let r = returns-2·read-max c .«read-max» in c .«set-detail» .ensures ∙ max-set (payloadFor (a .a) (a .shelf .now)) (r .result) (r .ensures ∙ ap maxOf (part-is (a .a .start) (a .a .length) _ (a .shelf .now) (returns-2·least c .least .ensures))) (a .device) (not-false _ (returns-2·Else1 c .if1 .left))
+returns-2 c = let a = returns-2·Start c .args in let r = returns-2·read-max c .«read-max» in c .«set-given» .ensures ∙ max-set (payloadFor (a .a) (a .shelf .now)) (r .result) (r .ensures ∙ ap maxOf (part-is (a .a .start) (a .a .length) _ (a .shelf .now) (returns-2·least c .least .ensures))) (a .device) (not-false _ (returns-2·Else1 c .if1 .left))
 
 pub set-max-spec : {M : Type 1} → statement M
 set-max-spec =
@@ -52,6 +52,6 @@ set-max-spec =
     part-read-max-end
     read-max-requires
     returns
-    cast-set-detail
-    set-detail-requires
+    cast-set-given
+    set-given-requires
     returns-2)

@@ -109,11 +109,17 @@ shared-slice-read-request-line-3·Start c = c .before .before .before .before .b
 abbrev pub shared-slice-read-request-line-3·enum-told9 : tie.After-shared-slice-known21 → tie.After-enum-told9
 shared-slice-read-request-line-3·enum-told9 c = c .before .before .before .before
 
-abbrev pub request-line-requires·Start : tie.After-shared-slice-known21 → tie.Start
-request-line-requires·Start c = c .before .before .before .before .before .before .before .before
+abbrev pub shared-slice-read-request-line-4·Start : tie.After-shared-slice-known22 → tie.Start
+shared-slice-read-request-line-4·Start c = c .before .before .before .before .before .before .before .before .before
 
-abbrev pub request-line-requires·enum-told9 : tie.After-shared-slice-known21 → tie.After-enum-told9
-request-line-requires·enum-told9 c = c .before .before .before .before
+abbrev pub shared-slice-read-request-line-4·enum-told9 : tie.After-shared-slice-known22 → tie.After-enum-told9
+shared-slice-read-request-line-4·enum-told9 c = c .before .before .before .before .before
+
+abbrev pub request-line-requires·Start : tie.After-shared-slice-known22 → tie.Start
+request-line-requires·Start c = c .before .before .before .before .before .before .before .before .before
+
+abbrev pub request-line-requires·enum-told9 : tie.After-shared-slice-known22 → tie.After-enum-told9
+request-line-requires·enum-told9 c = c .before .before .before .before .before
 
 abbrev pub returns·Start : tie.After-slice-known2 → tie.Start
 returns·Start c = c .before .before .before .before .before .before .before .before .before
@@ -164,7 +170,7 @@ abbrev pub returns-8·enum-told8 : tie.After-slice-known9 → tie.After-enum-tol
 returns-8·enum-told8 c = c .before .before .before .before .before .before .before .before
 
 abbrev pub returns-9·Start : tie.After-slice-known10 → tie.Start
-returns-9·Start c = c .before .before .before .before .before .before .before .before .before .before .before
+returns-9·Start c = c .before .before .before .before .before .before .before .before .before .before .before .before
 
 abbrev pub returns-9·enum-told9 : tie.After-slice-known10 → tie.After-enum-told9
-returns-9·enum-told9 c = c .before .before .before .before .before .before .before
+returns-9·enum-told9 c = c .before .before .before .before .before .before .before .before

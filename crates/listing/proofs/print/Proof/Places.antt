@@ -14,10 +14,10 @@ abbrev pub returns·Start : tie.After-slice-known2 → tie.Start
 returns·Start c = c .before .before .before .before .before .before .before
 
 abbrev pub show-requires·Start : tie.After-show-arg → tie.Start
-show-requires·Start c = c .before .before .before .before .before .before .before .before .before .before .before .before .before .before .before .before .before
+show-requires·Start c = c .before .before .before .before .before .before .before .before .before .before .before .before .before .before .before .before .before .before
 
 abbrev pub returns-2·show : tie.After-slice-known3 → tie.After-show
 returns-2·show c = c .before .before .before .before .before .before .before .before .before .before .before .before .before .before
 
 abbrev pub returns-2·Else1 : tie.After-slice-known3 → tie.Else1
-returns-2·Else1 c = c .before .before .before .before .before .before .before .before .before .before .before .before .before .before .before .before .before .before .before .before .before .before .before .before .before .before .before .before .before
+returns-2·Else1 c = c .before .before .before .before .before .before .before .before .before .before .before .before .before .before .before .before .before .before .before .before .before .before .before .before .before .before .before .before .before .before

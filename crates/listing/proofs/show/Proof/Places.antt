@@ -2,7 +2,7 @@
 use Rattle.listing.proofs.show.Tie as tie
 
 abbrev pub run·Start : tie.After-run → tie.Start
-run·Start c = c .before .before .before .before .before .before .before .before .before .before .before .before .before .before .before .before .before .before .before .before .before .before .before .before .before .before .before .before
+run·Start c = c .before .before .before .before .before .before .before .before .before .before .before .before .before .before .before .before .before .before .before .before .before .before .before .before .before .before .before .before .before
 
 abbrev pub report-requires·run : tie.After-report-arg12 → tie.After-run
 report-requires·run c = c .before .before .before .before .before .before .before .before .before .before .before .before .before .before .before .before .before .before .before .before .before .before .before .before .before .before .before .before .before .before .before .before .before .before .before .before .before .before

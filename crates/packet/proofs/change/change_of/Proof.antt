@@ -16,7 +16,7 @@ add-behind c =
     omega (arith, e, n, one-small (s .args .plan .begin .device))
 
 returns : tie.Need-returns
-returns c = simp (c .address-of .ensures, returns·row-if2 c .row-if2 .ensures, returns·row-if c .row-if .ensures, returns·flag-word c .flag-word .ensures, returns·adds-device c .adds-device .ensures)
+returns c = simp (c .reading-of .ensures, returns·address-of c .address-of .ensures, returns·row-if2 c .row-if2 .ensures, returns·row-if c .row-if .ensures, returns·flag-word c .flag-word .ensures, returns·adds-device c .adds-device .ensures)
 
 pub change-of-spec : {M : Type 1} → statement M
 change-of-spec =
@@ -25,6 +25,7 @@ change-of-spec =
     (λ c κs. tt)
     (λ c κs. tt)
     add-behind
+    (λ c κs. tt)
     (λ c κs. tt)
     (λ c κs. tt)
     (λ c κs. tt)

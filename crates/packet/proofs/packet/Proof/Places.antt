@@ -41,43 +41,22 @@ abbrev pub packet-in-requires·Start : tie.After-packet-in-arg12 → tie.Start
 packet-in-requires·Start c = c .before .before .before .before .before .before .before .before .before .before .before .before .before .before .before .before .before .before .before .before .before .before .before .before .before .before .before .before .before .before .before
 
 abbrev pub returns-2·look : tie.Then2 → tie.After-look
-returns-2·look c = c .before .before .before .before .before .before .before .before .before .before .before .before .before .before .before .before .before .before .before .before .before .before .before .before .before .before .before .before .before .before .before .before .before .before .before .before .before .before .before
+returns-2·look c = c .before .before .before .before .before .before .before .before .before .before .before .before .before .before .before .before .before .before .before .before .before .before .before .before .before .before .before .before .before .before .before .before .before .before .before .before .before
 
 abbrev pub returns-2·packet-in : tie.Then2 → tie.After-packet-in
-returns-2·packet-in c = c .before .before .before .before .before .before .before .before .before .before .before .before .before .before .before .before .before .before .before .before .before .before .before .before .before .before
+returns-2·packet-in c = c .before .before .before .before .before .before .before .before .before .before .before .before .before .before .before .before .before .before .before .before .before .before .before .before
 
 abbrev pub returns-2·is-change : tie.Then2 → tie.After-is-change
 returns-2·is-change c = c .before
 
-abbrev pub returns-3·look : tie.After-added-by → tie.After-look
-returns-3·look c = c .before .before .before .before .before .before .before .before .before .before .before .before .before .before .before .before .before .before .before .before .before .before .before .before .before .before .before .before .before .before .before .before .before .before .before .before .before .before .before .before .before .before .before
+abbrev pub returns-3·look : tie.After-slice-known22 → tie.After-look
+returns-3·look c = c .before .before .before .before .before .before .before .before .before .before .before .before .before .before .before .before .before .before .before .before .before .before .before .before .before .before .before .before .before .before .before .before .before .before .before .before .before .before .before .before .before .before
 
-abbrev pub returns-3·packet-in : tie.After-added-by → tie.After-packet-in
-returns-3·packet-in c = c .before .before .before .before .before .before .before .before .before .before .before .before .before .before .before .before .before .before .before .before .before .before .before .before .before .before .before .before .before .before
+abbrev pub returns-3·make-change : tie.After-slice-known22 → tie.After-make-change
+returns-3·make-change c = c .before .before
 
-abbrev pub returns-3·row-by : tie.After-added-by → tie.After-row-by
-returns-3·row-by c = c .before .before
+abbrev pub returns-3·packet-in : tie.After-slice-known22 → tie.After-packet-in
+returns-3·packet-in c = c .before .before .before .before .before .before .before .before .before .before .before .before .before .before .before .before .before .before .before .before .before .before .before .before .before .before .before .before .before
 
-abbrev pub mul-row·packet-in : tie.Else2 → tie.After-packet-in
-mul-row·packet-in c = c .before .before .before .before .before .before .before .before .before .before .before .before .before .before .before .before .before .before .before .before .before .before .before .before .before .before
-
-abbrev pub array-copy-out-row·packet-in : tie.Else2 → tie.After-packet-in
-array-copy-out-row·packet-in c = c .before .before .before .before .before .before .before .before .before .before .before .before .before .before .before .before .before .before .before .before .before .before .before .before .before .before
-
-abbrev pub mul-devices·packet-in : tie.After-row-by → tie.After-packet-in
-mul-devices·packet-in c = c .before .before .before .before .before .before .before .before .before .before .before .before .before .before .before .before .before .before .before .before .before .before .before .before .before .before .before .before
-
-abbrev pub array-set-from-devices·packet-in : tie.After-row-by → tie.After-packet-in
-array-set-from-devices·packet-in c = c .before .before .before .before .before .before .before .before .before .before .before .before .before .before .before .before .before .before .before .before .before .before .before .before .before .before .before .before
-
-abbrev pub mul-row-2·packet-in : tie.After-row-by → tie.After-packet-in
-mul-row-2·packet-in c = c .before .before .before .before .before .before .before .before .before .before .before .before .before .before .before .before .before .before .before .before .before .before .before .before .before .before .before .before
-
-abbrev pub array-copy-out-row-2·packet-in : tie.After-row-by → tie.After-packet-in
-array-copy-out-row-2·packet-in c = c .before .before .before .before .before .before .before .before .before .before .before .before .before .before .before .before .before .before .before .before .before .before .before .before .before .before .before .before
-
-abbrev pub mul-devices-2·packet-in : tie.After-added-by → tie.After-packet-in
-mul-devices-2·packet-in c = c .before .before .before .before .before .before .before .before .before .before .before .before .before .before .before .before .before .before .before .before .before .before .before .before .before .before .before .before .before .before
-
-abbrev pub array-set-from-devices-2·packet-in : tie.After-added-by → tie.After-packet-in
-array-set-from-devices-2·packet-in c = c .before .before .before .before .before .before .before .before .before .before .before .before .before .before .before .before .before .before .before .before .before .before .before .before .before .before .before .before .before .before
+abbrev pub make-change-requires·packet-in : tie.After-make-change-arg2 → tie.After-packet-in
+make-change-requires·packet-in c = c .before .before .before .before .before .before .before .before .before .before .before .before .before .before .before .before .before .before .before .before .before .before .before .before .before .before

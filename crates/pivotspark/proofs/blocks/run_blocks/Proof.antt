@@ -6,7 +6,8 @@ use borrow.Author.Needs.{needs}
 use borrow.Author.Tests.{not-true, not-false}
 use lib.ListN.{length}
 use Rattle.rows.specs.WidthsLaws.{each-log, log-number}
-use Rattle.call.specs.State.{State, state, Logs, logs}
+use Rattle.call.specs.State.{state, Logs, logs}
+use Rattle.step.specs.Block.{Stand, stand}
 use Rattle.call.specs.StateLaws.{SameSizes}
 use Rattle.pivotspark.proofs.Blocking.{Doing, doing-start, doing-between, doing-roomy, doing-inside, doing-stops, doing-further, doing-more}
 use Rattle.pivotspark.proofs.blocks.run_blocks.Statement.{statement}
@@ -15,17 +16,17 @@ mod Places
 use Places.*
 
 abbrev Inv-loop : tie.InvT-loop
-Inv-loop records cuts out₀ table₀ bytes₀ device-rows₀ endpoint-rows₀ packets₀ events₀ transactions₀ groups₀ statebytes₀ states₀ items₀ links₀ requests₀ roomy decoder₀ devices₀ clock₀ at₀ i₀ out table bytes device-rows endpoint-rows packets events transactions groups statebytes states items links requests decoder devices clock at i =
-    Doing records cuts clock₀ (state decoder₀ devices₀ table₀ (logs bytes₀ device-rows₀ endpoint-rows₀ packets₀ events₀ transactions₀ groups₀ statebytes₀ states₀ items₀ links₀ requests₀)) out₀ i at clock
-    (state decoder devices table (logs bytes device-rows endpoint-rows packets events transactions groups statebytes states items links requests)) out
+Inv-loop records cuts out₀ table₀ bytes₀ device-rows₀ endpoint-rows₀ packets₀ events₀ transactions₀ groups₀ statebytes₀ states₀ items₀ links₀ requests₀ shelf₀ roomy decoder₀ devices₀ clock₀ at₀ i₀ out table bytes device-rows endpoint-rows packets events transactions groups statebytes states items links requests shelf decoder devices clock at i =
+    Doing records cuts clock₀ (stand (state decoder₀ devices₀ table₀ (logs bytes₀ device-rows₀ endpoint-rows₀ packets₀ events₀ transactions₀ groups₀ statebytes₀ states₀ items₀ links₀ requests₀)) shelf₀) out₀ i at clock
+    (stand (state decoder devices table (logs bytes device-rows endpoint-rows packets events transactions groups statebytes states items links requests)) shelf) out
 
 abbrev μ-loop : tie.MeasureT-loop
-μ-loop records cuts out₀ table₀ bytes₀ device-rows₀ endpoint-rows₀ packets₀ events₀ transactions₀ groups₀ statebytes₀ states₀ items₀ links₀ requests₀ roomy decoder₀ devices₀ clock₀ at₀ i₀ out table bytes device-rows endpoint-rows packets events transactions groups statebytes states items links requests decoder devices clock at i =
+μ-loop records cuts out₀ table₀ bytes₀ device-rows₀ endpoint-rows₀ packets₀ events₀ transactions₀ groups₀ statebytes₀ states₀ items₀ links₀ requests₀ shelf₀ roomy decoder₀ devices₀ clock₀ at₀ i₀ out table bytes device-rows endpoint-rows packets events transactions groups statebytes states items links requests shelf decoder devices clock at i =
     length cuts - i
 
 -- the state that the blocks begin with
-abbrev begun : tie.Start Inv-loop μ-loop → State
-begun s = state (s .args .d) (s .args .devices) (s .args .table .now) (logs (s .args .bytes .now) (s .args .device-rows .now) (s .args .endpoint-rows .now) (s .args .packets .now) (s .args .events .now) (s .args .transactions .now) (s .args .groups .now) (s .args .statebytes .now) (s .args .states .now) (s .args .items .now) (s .args .links .now) (s .args .requests .now))
+abbrev begun : tie.Start Inv-loop μ-loop → Stand
+begun s = stand (state (s .args .d) (s .args .devices) (s .args .table .now) (logs (s .args .bytes .now) (s .args .device-rows .now) (s .args .endpoint-rows .now) (s .args .packets .now) (s .args .events .now) (s .args .transactions .now) (s .args .groups .now) (s .args .statebytes .now) (s .args .states .now) (s .args .items .now) (s .args .links .now) (s .args .requests .now))) (s .args .shelf .now)
 
 -- the logs before a block, and behind it
 abbrev lent : tie.At-loop Inv-loop μ-loop → Logs

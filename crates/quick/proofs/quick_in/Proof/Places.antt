@@ -46,22 +46,19 @@ begin-only-requires·Start c = c .before .before .before .before .before .before
 abbrev pub begin-only-requires·Then1 : tie.After-begin-only-arg5 → tie.Then1
 begin-only-requires·Then1 c = c .before .before .before .before .before
 
-abbrev pub returns·Start : tie.After-slice-known15 → tie.Start
+abbrev pub returns·Start : tie.After-slice-known14 → tie.Start
 returns·Start c = c .before .before .before .before .before .before .before .before .before .before .before .before .before .before .before .before .before .before .before .before .before .before .before .before .before .before .before .before .before .before .before .before .before .before .before .before .before .before .before .before .before
 
-abbrev pub returns·no-change : tie.After-slice-known15 → tie.After-no-change
+abbrev pub returns·no-change : tie.After-slice-known14 → tie.After-no-change
 returns·no-change c = c .before .before .before .before .before .before .before .before .before .before .before .before .before .before .before .before .before .before .before .before .before
 
-abbrev pub returns·begin-only : tie.After-slice-known15 → tie.After-begin-only
+abbrev pub returns·begin-only : tie.After-slice-known14 → tie.After-begin-only
 returns·begin-only c = c .before .before .before .before .before .before .before .before
 
-abbrev pub returns·held-of : tie.After-slice-known15 → tie.After-held-of
+abbrev pub returns·held-of : tie.After-slice-known14 → tie.After-held-of
 returns·held-of c = c .before .before .before .before .before .before .before .before .before .before .before .before .before .before .before .before .before .before .before
 
-abbrev pub returns·shape-of : tie.After-slice-known15 → tie.After-shape-of
-returns·shape-of c = c .before .before .before .before .before .before .before .before .before .before .before .before .before .before .before .before .before
-
-abbrev pub returns·Then1 : tie.After-slice-known15 → tie.Then1
+abbrev pub returns·Then1 : tie.After-slice-known14 → tie.Then1
 returns·Then1 c = c .before .before .before .before .before .before .before .before .before .before .before .before .before .before
 
 abbrev pub light-fits-requires·Start : tie.After-end-by → tie.Start
@@ -94,19 +91,19 @@ light-only-requires·Start c = c .before .before .before .before .before .before
 abbrev pub light-only-requires·Then2 : tie.After-light-only-arg4 → tie.Then2
 light-only-requires·Then2 c = c .before .before .before .before
 
-abbrev pub returns-2·Start : tie.After-slice-known18 → tie.Start
+abbrev pub returns-2·Start : tie.After-slice-known17 → tie.Start
 returns-2·Start c = c .before .before .before .before .before .before .before .before .before .before .before .before .before .before .before .before .before .before .before .before .before .before .before .before .before .before .before .before .before .before .before .before .before .before .before .before .before .before .before .before .before .before .before
 
-abbrev pub returns-2·no-change : tie.After-slice-known18 → tie.After-no-change
+abbrev pub returns-2·no-change : tie.After-slice-known17 → tie.After-no-change
 returns-2·no-change c = c .before .before .before .before .before .before .before .before .before .before .before .before .before .before .before .before .before .before .before .before .before .before .before
 
-abbrev pub returns-2·light-only : tie.After-slice-known18 → tie.After-light-only
+abbrev pub returns-2·light-only : tie.After-slice-known17 → tie.After-light-only
 returns-2·light-only c = c .before .before .before .before .before .before
 
-abbrev pub returns-2·Then2 : tie.After-slice-known18 → tie.Then2
+abbrev pub returns-2·Then2 : tie.After-slice-known17 → tie.Then2
 returns-2·Then2 c = c .before .before .before .before .before .before .before .before .before .before .before
 
-abbrev pub returns-2·held-of : tie.After-slice-known18 → tie.After-held-of
+abbrev pub returns-2·held-of : tie.After-slice-known17 → tie.After-held-of
 returns-2·held-of c = c .before .before .before .before .before .before .before .before .before .before .before .before .before .before .before .before .before .before .before .before .before
 
 abbrev pub close-of-requires·Start : tie.Else2 → tie.Start
@@ -133,38 +130,38 @@ Then3·room-of c = c .before .before .before .before .before .before .before .be
 abbrev pub Then3·close-of : tie.Then3 → tie.After-close-of
 Then3·close-of c = c .before
 
-abbrev pub close-only-requires·Start : tie.After-close-only-arg10 → tie.Start
-close-only-requires·Start c = c .before .before .before .before .before .before .before .before .before .before .before .before .before .before .before .before .before .before .before .before .before .before .before .before .before .before .before .before .before .before .before .before .before .before .before .before .before .before .before .before .before .before .before .before
+abbrev pub close-only-requires·Start : tie.After-close-only-arg9 → tie.Start
+close-only-requires·Start c = c .before .before .before .before .before .before .before .before .before .before .before .before .before .before .before .before .before .before .before .before .before .before .before .before .before .before .before .before .before .before .before .before .before .before .before .before .before .before .before .before .before .before .before
 
-abbrev pub close-only-requires·Then3 : tie.After-close-only-arg10 → tie.Then3
-close-only-requires·Then3 c = c .before .before .before .before .before .before .before .before .before .before
+abbrev pub close-only-requires·Then3 : tie.After-close-only-arg9 → tie.Then3
+close-only-requires·Then3 c = c .before .before .before .before .before .before .before .before .before
 
-abbrev pub returns-3·Start : tie.After-slice-known27 → tie.Start
-returns-3·Start c = c .before .before .before .before .before .before .before .before .before .before .before .before .before .before .before .before .before .before .before .before .before .before .before .before .before .before .before .before .before .before .before .before .before .before .before .before .before .before .before .before .before .before .before .before .before .before .before .before .before .before .before .before .before .before .before .before .before .before .before .before .before .before .before
+abbrev pub returns-3·Start : tie.After-slice-known25 → tie.Start
+returns-3·Start c = c .before .before .before .before .before .before .before .before .before .before .before .before .before .before .before .before .before .before .before .before .before .before .before .before .before .before .before .before .before .before .before .before .before .before .before .before .before .before .before .before .before .before .before .before .before .before .before .before .before .before .before .before .before .before .before .before .before .before .before .before
 
-abbrev pub returns-3·no-change : tie.After-slice-known27 → tie.After-no-change
-returns-3·no-change c = c .before .before .before .before .before .before .before .before .before .before .before .before .before .before .before .before .before .before .before .before .before .before .before .before .before .before .before .before .before .before .before .before .before .before .before .before .before .before .before .before .before .before .before
+abbrev pub returns-3·no-change : tie.After-slice-known25 → tie.After-no-change
+returns-3·no-change c = c .before .before .before .before .before .before .before .before .before .before .before .before .before .before .before .before .before .before .before .before .before .before .before .before .before .before .before .before .before .before .before .before .before .before .before .before .before .before .before .before
 
-abbrev pub returns-3·shape-of : tie.After-slice-known27 → tie.After-shape-of
-returns-3·shape-of c = c .before .before .before .before .before .before .before .before .before .before .before .before .before .before .before .before .before .before .before .before .before .before .before .before .before .before .before .before .before .before .before .before .before .before .before .before .before .before .before
+abbrev pub returns-3·shape-of : tie.After-slice-known25 → tie.After-shape-of
+returns-3·shape-of c = c .before .before .before .before .before .before .before .before .before .before .before .before .before .before .before .before .before .before .before .before .before .before .before .before .before .before .before .before .before .before .before .before .before .before .before .before
 
-abbrev pub returns-3·end-by : tie.After-slice-known27 → tie.After-end-by
-returns-3·end-by c = c .before .before .before .before .before .before .before .before .before .before .before .before .before .before .before .before .before .before .before .before .before .before .before .before .before .before .before .before .before .before .before .before .before .before
+abbrev pub returns-3·end-by : tie.After-slice-known25 → tie.After-end-by
+returns-3·end-by c = c .before .before .before .before .before .before .before .before .before .before .before .before .before .before .before .before .before .before .before .before .before .before .before .before .before .before .before .before .before .before .before
 
-abbrev pub returns-3·Then3 : tie.After-slice-known27 → tie.Then3
-returns-3·Then3 c = c .before .before .before .before .before .before .before .before .before .before .before .before .before .before .before .before .before .before .before .before .before .before .before .before .before .before .before .before .before
+abbrev pub returns-3·Then3 : tie.After-slice-known25 → tie.Then3
+returns-3·Then3 c = c .before .before .before .before .before .before .before .before .before .before .before .before .before .before .before .before .before .before .before .before .before .before .before .before .before .before
 
-abbrev pub returns-3·close-only : tie.After-slice-known27 → tie.After-close-only
-returns-3·close-only c = c .before .before .before .before .before .before .before .before .before .before .before .before .before .before .before .before .before .before
+abbrev pub returns-3·close-only : tie.After-slice-known25 → tie.After-close-only
+returns-3·close-only c = c .before .before .before .before .before .before .before .before .before .before .before .before .before .before .before .before
 
-abbrev pub returns-3·held-of : tie.After-slice-known27 → tie.After-held-of
-returns-3·held-of c = c .before .before .before .before .before .before .before .before .before .before .before .before .before .before .before .before .before .before .before .before .before .before .before .before .before .before .before .before .before .before .before .before .before .before .before .before .before .before .before .before .before
+abbrev pub returns-3·held-of : tie.After-slice-known25 → tie.After-held-of
+returns-3·held-of c = c .before .before .before .before .before .before .before .before .before .before .before .before .before .before .before .before .before .before .before .before .before .before .before .before .before .before .before .before .before .before .before .before .before .before .before .before .before .before
 
-abbrev pub returns-3·room-of : tie.After-slice-known27 → tie.After-room-of
-returns-3·room-of c = c .before .before .before .before .before .before .before .before .before .before .before .before .before .before .before .before .before .before .before .before .before .before .before .before .before .before .before .before .before .before .before .before .before .before .before .before .before .before .before .before .before .before .before .before .before .before .before .before .before
+abbrev pub returns-3·room-of : tie.After-slice-known25 → tie.After-room-of
+returns-3·room-of c = c .before .before .before .before .before .before .before .before .before .before .before .before .before .before .before .before .before .before .before .before .before .before .before .before .before .before .before .before .before .before .before .before .before .before .before .before .before .before .before .before .before .before .before .before .before .before
 
-abbrev pub returns-3·close-of : tie.After-slice-known27 → tie.After-close-of
-returns-3·close-of c = c .before .before .before .before .before .before .before .before .before .before .before .before .before .before .before .before .before .before .before .before .before .before .before .before .before .before .before .before .before .before
+abbrev pub returns-3·close-of : tie.After-slice-known25 → tie.After-close-of
+returns-3·close-of c = c .before .before .before .before .before .before .before .before .before .before .before .before .before .before .before .before .before .before .before .before .before .before .before .before .before .before .before
 
 abbrev pub shape-of-requires·Start : tie.After-shape-of-arg → tie.Start
 shape-of-requires·Start c = c .before .before .before .before .before .before .before .before .before .before .before .before .before .before .before .before .before .before .before .before .before .before .before
@@ -172,8 +169,8 @@ shape-of-requires·Start c = c .before .before .before .before .before .before .
 abbrev pub end-by-requires·Start : tie.After-end-by-arg → tie.Start
 end-by-requires·Start c = c .before .before .before .before .before .before .before .before .before .before .before .before .before .before .before .before .before .before .before .before .before .before .before .before .before .before .before .before
 
-abbrev pub packet-in-requires·Start : tie.After-packet-in-arg12 → tie.Start
-packet-in-requires·Start c = c .before .before .before .before .before .before .before .before .before .before .before .before .before .before .before .before .before .before .before .before .before .before .before .before .before .before .before .before .before .before .before .before .before .before .before .before .before .before .before .before .before .before .before .before .before .before
+abbrev pub packet-in-requires·Start : tie.After-packet-in-arg11 → tie.Start
+packet-in-requires·Start c = c .before .before .before .before .before .before .before .before .before .before .before .before .before .before .before .before .before .before .before .before .before .before .before .before .before .before .before .before .before .before .before .before .before .before .before .before .before .before .before .before .before .before .before .before .before
 
 abbrev pub returns-4·packet-in : tie.After-change → tie.After-packet-in
-returns-4·packet-in c = c .before .before .before .before .before .before .before .before .before .before .before .before .before .before .before .before .before .before .before .before .before .before .before .before
+returns-4·packet-in c = c .before .before .before .before .before .before .before .before .before .before .before .before .before .before .before .before .before .before .before .before .before .before

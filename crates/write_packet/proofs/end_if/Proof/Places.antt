@@ -2,13 +2,13 @@
 use Rattle.write_packet.proofs.end_if.Tie as tie
 
 abbrev pub store-requires·Start : tie.After-store-arg → tie.Start
-store-requires·Start c = c .before .before .before .before .before .before .before .before .before
+store-requires·Start c = c .before .before .before .before .before .before .before .before
 
 abbrev pub store-requires·Then1 : tie.After-store-arg → tie.Then1
 store-requires·Then1 c = c .before
 
 abbrev pub carry-out-requires·Start : tie.After-carry-out-arg6 → tie.Start
-carry-out-requires·Start c = c .before .before .before .before .before .before .before .before .before .before .before .before .before .before .before .before
+carry-out-requires·Start c = c .before .before .before .before .before .before .before .before .before .before .before .before .before .before .before
 
 abbrev pub carry-out-requires·Then1 : tie.After-carry-out-arg6 → tie.Then1
 carry-out-requires·Then1 c = c .before .before .before .before .before .before .before .before
@@ -16,35 +16,35 @@ carry-out-requires·Then1 c = c .before .before .before .before .before .before 
 abbrev pub carry-out-requires·store : tie.After-carry-out-arg6 → tie.After-store
 carry-out-requires·store c = c .before .before .before .before .before .before
 
-abbrev pub take-effect-requires·Start : tie.After-take-effect-arg4 → tie.Start
-take-effect-requires·Start c = c .before .before .before .before .before .before .before .before .before .before .before .before .before .before .before .before .before .before .before .before .before .before .before .before .before .before .before .before .before .before .before .before
+abbrev pub take-effect-requires·Start : tie.After-take-effect-arg3 → tie.Start
+take-effect-requires·Start c = c .before .before .before .before .before .before .before .before .before .before .before .before .before .before .before .before .before .before .before .before .before .before .before .before .before .before .before .before .before .before
 
-abbrev pub take-effect-requires·Then1 : tie.After-take-effect-arg4 → tie.Then1
-take-effect-requires·Then1 c = c .before .before .before .before .before .before .before .before .before .before .before .before .before .before .before .before .before .before .before .before .before .before .before .before
+abbrev pub take-effect-requires·Then1 : tie.After-take-effect-arg3 → tie.Then1
+take-effect-requires·Then1 c = c .before .before .before .before .before .before .before .before .before .before .before .before .before .before .before .before .before .before .before .before .before .before .before
 
-abbrev pub take-effect-requires·with-written : tie.After-take-effect-arg4 → tie.After-with-written
-take-effect-requires·with-written c = c .before .before .before .before
+abbrev pub take-effect-requires·with-written : tie.After-take-effect-arg3 → tie.After-with-written
+take-effect-requires·with-written c = c .before .before .before
 
-abbrev pub take-effect-requires·carry-out : tie.After-take-effect-arg4 → tie.After-carry-out
-take-effect-requires·carry-out c = c .before .before .before .before .before .before .before .before .before .before .before .before .before .before .before
+abbrev pub take-effect-requires·carry-out : tie.After-take-effect-arg3 → tie.After-carry-out
+take-effect-requires·carry-out c = c .before .before .before .before .before .before .before .before .before .before .before .before .before .before
 
-abbrev pub take-effect-requires·store : tie.After-take-effect-arg4 → tie.After-store
-take-effect-requires·store c = c .before .before .before .before .before .before .before .before .before .before .before .before .before .before .before .before .before .before .before .before .before .before
+abbrev pub take-effect-requires·store : tie.After-take-effect-arg3 → tie.After-store
+take-effect-requires·store c = c .before .before .before .before .before .before .before .before .before .before .before .before .before .before .before .before .before .before .before .before .before
 
-abbrev pub returns·take-effect : tie.After-slice-known15 → tie.After-take-effect
-returns·take-effect c = c .before .before .before .before .before .before
+abbrev pub returns·take-effect : tie.After-slice-known13 → tie.After-take-effect
+returns·take-effect c = c .before .before .before .before
 
-abbrev pub returns·carry-out : tie.After-slice-known15 → tie.After-carry-out
-returns·carry-out c = c .before .before .before .before .before .before .before .before .before .before .before .before .before .before .before .before .before .before .before .before .before .before
+abbrev pub returns·carry-out : tie.After-slice-known13 → tie.After-carry-out
+returns·carry-out c = c .before .before .before .before .before .before .before .before .before .before .before .before .before .before .before .before .before .before .before
 
-abbrev pub returns·Then1 : tie.After-slice-known15 → tie.Then1
-returns·Then1 c = c .before .before .before .before .before .before .before .before .before .before .before .before .before .before .before .before .before .before .before .before .before .before .before .before .before .before .before .before .before .before .before
+abbrev pub returns·Then1 : tie.After-slice-known13 → tie.Then1
+returns·Then1 c = c .before .before .before .before .before .before .before .before .before .before .before .before .before .before .before .before .before .before .before .before .before .before .before .before .before .before .before .before
 
-abbrev pub returns·Start : tie.After-slice-known15 → tie.Start
-returns·Start c = c .before .before .before .before .before .before .before .before .before .before .before .before .before .before .before .before .before .before .before .before .before .before .before .before .before .before .before .before .before .before .before .before .before .before .before .before .before .before .before
+abbrev pub returns·Start : tie.After-slice-known13 → tie.Start
+returns·Start c = c .before .before .before .before .before .before .before .before .before .before .before .before .before .before .before .before .before .before .before .before .before .before .before .before .before .before .before .before .before .before .before .before .before .before .before
 
-abbrev pub returns·with-written : tie.After-slice-known15 → tie.After-with-written
-returns·with-written c = c .before .before .before .before .before .before .before .before .before .before .before
+abbrev pub returns·with-written : tie.After-slice-known13 → tie.After-with-written
+returns·with-written c = c .before .before .before .before .before .before .before .before
 
-abbrev pub returns·store : tie.After-slice-known15 → tie.After-store
-returns·store c = c .before .before .before .before .before .before .before .before .before .before .before .before .before .before .before .before .before .before .before .before .before .before .before .before .before .before .before .before .before
+abbrev pub returns·store : tie.After-slice-known13 → tie.After-store
+returns·store c = c .before .before .before .before .before .before .before .before .before .before .before .before .before .before .before .before .before .before .before .before .before .before .before .before .before .before

@@ -48,7 +48,7 @@ same-length-3 : tie.Need-same-length-3
 same-length-3 c = search needs
 
 returns : tie.Need-returns
-returns c = λ g m s i l q. desks (c .before .before .before .before .before .before .before .before .before .before .before .before .before .before .before .opened-hand .ensures) (c .entry-if .ensures) (c .before .before .before .before .before .before .before .before .put1-if .ensures) (c .before .before .before .before .put3-if .ensures) (c .before .before .before .before .before .before .before .before .before .before .before .before .before .put-transaction .ensures) refl refl refl refl refl refl
+returns c = λ g m s i l. desks (c .before .before .before .before .before .before .before .before .before .before .before .before .before .before .before .opened-hand .ensures) (c .entry-if .ensures) (c .before .before .before .before .before .before .before .before .put1-if .ensures) (c .before .before .before .before .put3-if .ensures) (c .before .before .before .before .before .before .before .before .before .before .before .before .before .put-transaction .ensures) refl refl refl refl refl
 
 pub open-rows-spec : {M : Type 1} → statement M
 open-rows-spec =

@@ -17,7 +17,7 @@ more-requires-3 : tie.Need-more-requires-3
 more-requires-3 c κs = c .before .before .before .pre .1 .1
 
 returns : tie.Need-returns
-returns c = hands (c .before .before .before .tied-to .ensures) (c .before .before .more .ensures) (c .before .more2 .ensures) (c .more3 .ensures) refl
+returns c = hands (c .before .before .before .tied-to .ensures) (c .before .before .more .ensures) (c .before .more2 .ensures) (c .more3 .ensures)
 
 pub opened-hand-spec : {M : Type 1} → statement M
 opened-hand-spec =

@@ -10,14 +10,14 @@ returns·read-max c = c .before .before
 abbrev pub returns·least : tie.Then1 → tie.After-least
 returns·least c = c .before .before .before .before
 
-abbrev pub returns-2·Start : tie.After-set-detail → tie.Start
+abbrev pub returns-2·Start : tie.After-set-given → tie.Start
 returns-2·Start c = c .before .before .before .before .before .before .before .before
 
-abbrev pub returns-2·read-max : tie.After-set-detail → tie.After-read-max
+abbrev pub returns-2·read-max : tie.After-set-given → tie.After-read-max
 returns-2·read-max c = c .before .before .before .before
 
-abbrev pub returns-2·least : tie.After-set-detail → tie.After-least
+abbrev pub returns-2·least : tie.After-set-given → tie.After-least
 returns-2·least c = c .before .before .before .before .before .before
 
-abbrev pub returns-2·Else1 : tie.After-set-detail → tie.Else1
+abbrev pub returns-2·Else1 : tie.After-set-given → tie.Else1
 returns-2·Else1 c = c .before .before

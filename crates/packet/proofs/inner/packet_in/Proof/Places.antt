@@ -43,29 +43,29 @@ drop-packet-requires·room-of c = c .before .before .before .before .before .bef
 abbrev pub drop-packet-requires·held-of : tie.After-drop-packet-arg2 → tie.After-held-of
 drop-packet-requires·held-of c = c .before .before .before .before
 
-abbrev pub returns·Start : tie.After-slice-known13 → tie.Start
+abbrev pub returns·Start : tie.After-slice-known12 → tie.Start
 returns·Start c = c .before .before .before .before .before .before .before .before .before .before .before .before .before .before .before .before .before .before .before .before .before .before .before .before .before .before .before .before .before .before .before .before
 
-abbrev pub returns·known : tie.After-slice-known13 → tie.After-known
-returns·known c = c .before .before .before .before .before .before .before .before .before .before .before .before .before .before
-
-abbrev pub returns·is-dropped : tie.After-slice-known13 → tie.After-is-dropped
-returns·is-dropped c = c .before .before .before .before .before .before .before .before
-
-abbrev pub returns·Then1 : tie.After-slice-known13 → tie.Then1
-returns·Then1 c = c .before .before .before .before .before .before .before
-
-abbrev pub returns·no-change : tie.After-slice-known13 → tie.After-no-change
+abbrev pub returns·no-change : tie.After-slice-known12 → tie.After-no-change
 returns·no-change c = c .before .before .before .before .before .before .before .before .before .before .before
 
-abbrev pub returns·held-of : tie.After-slice-known13 → tie.After-held-of
+abbrev pub returns·drop-packet : tie.After-slice-known12 → tie.After-drop-packet
+returns·drop-packet c = c .before .before .before .before
+
+abbrev pub returns·known : tie.After-slice-known12 → tie.After-known
+returns·known c = c .before .before .before .before .before .before .before .before .before .before .before .before .before .before
+
+abbrev pub returns·is-dropped : tie.After-slice-known12 → tie.After-is-dropped
+returns·is-dropped c = c .before .before .before .before .before .before .before .before
+
+abbrev pub returns·Then1 : tie.After-slice-known12 → tie.Then1
+returns·Then1 c = c .before .before .before .before .before .before .before
+
+abbrev pub returns·held-of : tie.After-slice-known12 → tie.After-held-of
 returns·held-of c = c .before .before .before .before .before .before .before .before .before
 
-abbrev pub returns·room-of : tie.After-slice-known13 → tie.After-room-of
+abbrev pub returns·room-of : tie.After-slice-known12 → tie.After-room-of
 returns·room-of c = c .before .before .before .before .before .before .before .before .before .before .before .before .before .before .before .before .before .before
-
-abbrev pub returns·drop-packet : tie.After-slice-known13 → tie.After-drop-packet
-returns·drop-packet c = c .before .before .before .before
 
 abbrev pub plan-near-requires·Start : tie.After-plan-near-arg → tie.Start
 plan-near-requires·Start c = c .before .before .before .before .before .before .before .before .before .before .before .before .before .before .before .before .before .before .before .before .before .before .before .before .before .before
@@ -79,11 +79,11 @@ sum-plan-requires·held-of c = c .before .before .before .before
 abbrev pub returns-2·Start : tie.Then2 → tie.Start
 returns-2·Start c = c .before .before .before .before .before .before .before .before .before .before .before .before .before .before .before .before .before .before .before .before .before .before .before .before .before .before .before .before .before .before
 
-abbrev pub returns-2·sum-plan : tie.Then2 → tie.After-sum-plan
-returns-2·sum-plan c = c .before .before
-
 abbrev pub returns-2·no-change : tie.Then2 → tie.After-no-change
 returns-2·no-change c = c .before .before .before .before .before .before .before .before .before
+
+abbrev pub returns-2·sum-plan : tie.Then2 → tie.After-sum-plan
+returns-2·sum-plan c = c .before .before
 
 abbrev pub change-of-requires·Start : tie.Else2 → tie.Start
 change-of-requires·Start c = c .before .before .before .before .before .before .before .before .before .before .before .before .before .before .before .before .before .before .before .before .before .before .before .before .before .before .before .before .before .before
@@ -100,35 +100,35 @@ put-packet-requires·sum-plan c = c .before .before .before .before .before
 abbrev pub put-packet-requires·Else2 : tie.After-put-packet-arg2 → tie.Else2
 put-packet-requires·Else2 c = c .before .before .before
 
-abbrev pub perform-requires·Start : tie.After-perform-arg10 → tie.Start
-perform-requires·Start c = c .before .before .before .before .before .before .before .before .before .before .before .before .before .before .before .before .before .before .before .before .before .before .before .before .before .before .before .before .before .before .before .before .before .before .before .before .before .before .before .before .before .before .before .before .before .before .before .before .before .before
+abbrev pub perform-requires·Start : tie.After-perform-arg9 → tie.Start
+perform-requires·Start c = c .before .before .before .before .before .before .before .before .before .before .before .before .before .before .before .before .before .before .before .before .before .before .before .before .before .before .before .before .before .before .before .before .before .before .before .before .before .before .before .before .before .before .before .before .before .before .before .before .before
 
-abbrev pub perform-requires·sum-plan : tie.After-perform-arg10 → tie.After-sum-plan
-perform-requires·sum-plan c = c .before .before .before .before .before .before .before .before .before .before .before .before .before .before .before .before .before .before .before .before .before .before
+abbrev pub perform-requires·sum-plan : tie.After-perform-arg9 → tie.After-sum-plan
+perform-requires·sum-plan c = c .before .before .before .before .before .before .before .before .before .before .before .before .before .before .before .before .before .before .before .before .before
 
-abbrev pub perform-requires·Else2 : tie.After-perform-arg10 → tie.Else2
-perform-requires·Else2 c = c .before .before .before .before .before .before .before .before .before .before .before .before .before .before .before .before .before .before .before .before
+abbrev pub perform-requires·Else2 : tie.After-perform-arg9 → tie.Else2
+perform-requires·Else2 c = c .before .before .before .before .before .before .before .before .before .before .before .before .before .before .before .before .before .before .before
 
-abbrev pub perform-requires·hand-of : tie.After-perform-arg10 → tie.After-hand-of
-perform-requires·hand-of c = c .before .before .before .before .before .before .before .before .before .before
+abbrev pub perform-requires·hand-of : tie.After-perform-arg9 → tie.After-hand-of
+perform-requires·hand-of c = c .before .before .before .before .before .before .before .before .before
 
 abbrev pub returns-3·Start : tie.After-decoder-by → tie.Start
-returns-3·Start c = c .before .before .before .before .before .before .before .before .before .before .before .before .before .before .before .before .before .before .before .before .before .before .before .before .before .before .before .before .before .before .before .before .before .before .before .before .before .before .before .before .before .before .before .before .before .before .before .before .before .before .before .before .before .before .before .before .before .before .before .before .before .before .before .before .before .before .before .before .before .before
+returns-3·Start c = c .before .before .before .before .before .before .before .before .before .before .before .before .before .before .before .before .before .before .before .before .before .before .before .before .before .before .before .before .before .before .before .before .before .before .before .before .before .before .before .before .before .before .before .before .before .before .before .before .before .before .before .before .before .before .before .before .before .before .before .before .before .before .before .before .before .before .before
 
 abbrev pub returns-3·sum-plan : tie.After-decoder-by → tie.After-sum-plan
-returns-3·sum-plan c = c .before .before .before .before .before .before .before .before .before .before .before .before .before .before .before .before .before .before .before .before .before .before .before .before .before .before .before .before .before .before .before .before .before .before .before .before .before .before .before .before .before .before
+returns-3·sum-plan c = c .before .before .before .before .before .before .before .before .before .before .before .before .before .before .before .before .before .before .before .before .before .before .before .before .before .before .before .before .before .before .before .before .before .before .before .before .before .before .before
 
 abbrev pub returns-3·Else2 : tie.After-decoder-by → tie.Else2
-returns-3·Else2 c = c .before .before .before .before .before .before .before .before .before .before .before .before .before .before .before .before .before .before .before .before .before .before .before .before .before .before .before .before .before .before .before .before .before .before .before .before .before .before .before .before
+returns-3·Else2 c = c .before .before .before .before .before .before .before .before .before .before .before .before .before .before .before .before .before .before .before .before .before .before .before .before .before .before .before .before .before .before .before .before .before .before .before .before .before
 
 abbrev pub returns-3·change-of : tie.After-decoder-by → tie.After-change-of
-returns-3·change-of c = c .before .before .before .before .before .before .before .before .before .before .before .before .before .before .before .before .before .before .before .before .before .before .before .before .before .before .before .before .before .before .before .before .before .before .before .before .before .before .before
+returns-3·change-of c = c .before .before .before .before .before .before .before .before .before .before .before .before .before .before .before .before .before .before .before .before .before .before .before .before .before .before .before .before .before .before .before .before .before .before .before .before
 
 abbrev pub returns-3·hand-of : tie.After-decoder-by → tie.After-hand-of
-returns-3·hand-of c = c .before .before .before .before .before .before .before .before .before .before .before .before .before .before .before .before .before .before .before .before .before .before .before .before .before .before .before .before .before .before
+returns-3·hand-of c = c .before .before .before .before .before .before .before .before .before .before .before .before .before .before .before .before .before .before .before .before .before .before .before .before .before .before .before
 
 abbrev pub returns-3·perform : tie.After-decoder-by → tie.After-perform
-returns-3·perform c = c .before .before .before .before .before .before .before .before .before .before .before .before .before .before .before .before .before .before .before
+returns-3·perform c = c .before .before .before .before .before .before .before .before .before .before .before .before .before .before .before .before .before
 
 abbrev pub returns-3·put-packet : tie.After-decoder-by → tie.After-put-packet
-returns-3·put-packet c = c .before .before .before .before .before .before .before .before .before .before .before .before .before .before .before .before .before .before .before .before .before .before .before .before .before .before .before .before .before .before .before .before .before .before .before .before
+returns-3·put-packet c = c .before .before .before .before .before .before .before .before .before .before .before .before .before .before .before .before .before .before .before .before .before .before .before .before .before .before .before .before .before .before .before .before .before

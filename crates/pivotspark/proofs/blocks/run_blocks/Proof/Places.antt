@@ -2,7 +2,7 @@
 use Rattle.pivotspark.proofs.blocks.run_blocks.Tie as tie
 
 abbrev pub block·At-loop : {Inv : tie.InvT-loop} {μ : tie.MeasureT-loop} → tie.After-block Inv μ → tie.At-loop Inv μ
-block·At-loop c = c .before .before .before .before .before .before .before .before .before .before .before .before .before .before .before .before
+block·At-loop c = c .before .before .before .before .before .before .before .before .before .before .before .before .before .before .before .before .before
 
 abbrev pub loop-holds·Start : {Inv : tie.InvT-loop} {μ : tie.MeasureT-loop} → tie.After-slice-known13 Inv μ → tie.Start Inv μ
 loop-holds·Start c = c .before .before .before .before .before .before .before .before .before .before .before .before .before .before .before
@@ -17,19 +17,19 @@ abbrev pub part-block-end·At-loop : {Inv : tie.InvT-loop} {μ : tie.MeasureT-lo
 part-block-end·At-loop c = c .before
 
 abbrev pub put-block-requires·At-loop : {Inv : tie.InvT-loop} {μ : tie.MeasureT-loop} → tie.After-put-block-arg Inv μ → tie.At-loop Inv μ
-put-block-requires·At-loop c = c .before .before .before .before .before .before .before .before .before .before .before .before .before .before .before .before .before .before .before .before .before .before .before .before .before .before .before .before .before .before .before .before .before .before .before .before .before .before .before .before .before .before .before .before
+put-block-requires·At-loop c = c .before .before .before .before .before .before .before .before .before .before .before .before .before .before .before .before .before .before .before .before .before .before .before .before .before .before .before .before .before .before .before .before .before .before .before .before .before .before .before .before .before .before .before .before .before
 
 abbrev pub add-i·At-loop : {Inv : tie.InvT-loop} {μ : tie.MeasureT-loop} → tie.After-goes-on Inv μ → tie.At-loop Inv μ
-add-i·At-loop c = c .before .before .before .before .before .before .before .before .before .before .before .before .before .before .before .before .before .before .before .before .before .before .before .before .before .before .before .before .before .before .before .before .before .before .before .before .before .before .before .before .before .before .before .before .before .before .before .before
+add-i·At-loop c = c .before .before .before .before .before .before .before .before .before .before .before .before .before .before .before .before .before .before .before .before .before .before .before .before .before .before .before .before .before .before .before .before .before .before .before .before .before .before .before .before .before .before .before .before .before .before .before .before .before
 
 abbrev pub add-i·Start : {Inv : tie.InvT-loop} {μ : tie.MeasureT-loop} → tie.After-goes-on Inv μ → tie.Start Inv μ
-add-i·Start c = c .before .before .before .before .before .before .before .before .before .before .before .before .before .before .before .before .before .before .before .before .before .before .before .before .before .before .before .before .before .before .before .before .before .before .before .before .before .before .before .before .before .before .before .before .before .before .before .before .before .before .before .before .before .before .before .before .before .before .before .before .before .before .before .before
+add-i·Start c = c .before .before .before .before .before .before .before .before .before .before .before .before .before .before .before .before .before .before .before .before .before .before .before .before .before .before .before .before .before .before .before .before .before .before .before .before .before .before .before .before .before .before .before .before .before .before .before .before .before .before .before .before .before .before .before .before .before .before .before .before .before .before .before .before .before
 
 abbrev pub returns·At-loop : {Inv : tie.InvT-loop} {μ : tie.MeasureT-loop} → tie.Then1 Inv μ → tie.At-loop Inv μ
-returns·At-loop c = c .before .before .before .before .before .before .before .before .before .before .before .before .before .before .before .before .before .before .before .before .before .before .before .before .before .before .before .before .before .before .before .before .before .before .before .before .before .before .before .before .before .before .before .before .before .before .before .before .before
+returns·At-loop c = c .before .before .before .before .before .before .before .before .before .before .before .before .before .before .before .before .before .before .before .before .before .before .before .before .before .before .before .before .before .before .before .before .before .before .before .before .before .before .before .before .before .before .before .before .before .before .before .before .before .before
 
 abbrev pub returns·cut-at : {Inv : tie.InvT-loop} {μ : tie.MeasureT-loop} → tie.Then1 Inv μ → tie.After-cut-at Inv μ
-returns·cut-at c = c .before .before .before .before .before .before .before .before .before .before .before .before .before .before .before .before .before .before .before .before .before .before .before .before .before .before .before .before .before .before .before .before .before .before .before .before .before .before .before .before .before .before .before .before .before .before .before .before
+returns·cut-at c = c .before .before .before .before .before .before .before .before .before .before .before .before .before .before .before .before .before .before .before .before .before .before .before .before .before .before .before .before .before .before .before .before .before .before .before .before .before .before .before .before .before .before .before .before .before .before .before .before .before
 
 abbrev pub returns·block : {Inv : tie.InvT-loop} {μ : tie.MeasureT-loop} → tie.Then1 Inv μ → tie.After-block Inv μ
 returns·block c = c .before .before .before .before .before .before .before .before .before .before .before .before .before .before .before .before .before .before .before .before .before .before .before .before .before .before .before .before .before .before .before .before .before
@@ -41,22 +41,22 @@ abbrev pub returns·goes-on : {Inv : tie.InvT-loop} {μ : tie.MeasureT-loop} →
 returns·goes-on c = c .before
 
 abbrev pub add-at·At-loop : {Inv : tie.InvT-loop} {μ : tie.MeasureT-loop} → tie.Else1 Inv μ → tie.At-loop Inv μ
-add-at·At-loop c = c .before .before .before .before .before .before .before .before .before .before .before .before .before .before .before .before .before .before .before .before .before .before .before .before .before .before .before .before .before .before .before .before .before .before .before .before .before .before .before .before .before .before .before .before .before .before .before .before .before
+add-at·At-loop c = c .before .before .before .before .before .before .before .before .before .before .before .before .before .before .before .before .before .before .before .before .before .before .before .before .before .before .before .before .before .before .before .before .before .before .before .before .before .before .before .before .before .before .before .before .before .before .before .before .before .before
 
 abbrev pub add-at·cut-at : {Inv : tie.InvT-loop} {μ : tie.MeasureT-loop} → tie.Else1 Inv μ → tie.After-cut-at Inv μ
-add-at·cut-at c = c .before .before .before .before .before .before .before .before .before .before .before .before .before .before .before .before .before .before .before .before .before .before .before .before .before .before .before .before .before .before .before .before .before .before .before .before .before .before .before .before .before .before .before .before .before .before .before .before
+add-at·cut-at c = c .before .before .before .before .before .before .before .before .before .before .before .before .before .before .before .before .before .before .before .before .before .before .before .before .before .before .before .before .before .before .before .before .before .before .before .before .before .before .before .before .before .before .before .before .before .before .before .before .before
 
 abbrev pub add-at·block : {Inv : tie.InvT-loop} {μ : tie.MeasureT-loop} → tie.Else1 Inv μ → tie.After-block Inv μ
 add-at·block c = c .before .before .before .before .before .before .before .before .before .before .before .before .before .before .before .before .before .before .before .before .before .before .before .before .before .before .before .before .before .before .before .before .before
 
 abbrev pub add-at·Start : {Inv : tie.InvT-loop} {μ : tie.MeasureT-loop} → tie.Else1 Inv μ → tie.Start Inv μ
-add-at·Start c = c .before .before .before .before .before .before .before .before .before .before .before .before .before .before .before .before .before .before .before .before .before .before .before .before .before .before .before .before .before .before .before .before .before .before .before .before .before .before .before .before .before .before .before .before .before .before .before .before .before .before .before .before .before .before .before .before .before .before .before .before .before .before .before .before .before
+add-at·Start c = c .before .before .before .before .before .before .before .before .before .before .before .before .before .before .before .before .before .before .before .before .before .before .before .before .before .before .before .before .before .before .before .before .before .before .before .before .before .before .before .before .before .before .before .before .before .before .before .before .before .before .before .before .before .before .before .before .before .before .before .before .before .before .before .before .before .before
 
 abbrev pub loop-less·At-loop : {Inv : tie.InvT-loop} {μ : tie.MeasureT-loop} → tie.Else1 Inv μ → tie.At-loop Inv μ
-loop-less·At-loop c = c .before .before .before .before .before .before .before .before .before .before .before .before .before .before .before .before .before .before .before .before .before .before .before .before .before .before .before .before .before .before .before .before .before .before .before .before .before .before .before .before .before .before .before .before .before .before .before .before .before
+loop-less·At-loop c = c .before .before .before .before .before .before .before .before .before .before .before .before .before .before .before .before .before .before .before .before .before .before .before .before .before .before .before .before .before .before .before .before .before .before .before .before .before .before .before .before .before .before .before .before .before .before .before .before .before .before
 
 abbrev pub loop-less·cut-at : {Inv : tie.InvT-loop} {μ : tie.MeasureT-loop} → tie.Else1 Inv μ → tie.After-cut-at Inv μ
-loop-less·cut-at c = c .before .before .before .before .before .before .before .before .before .before .before .before .before .before .before .before .before .before .before .before .before .before .before .before .before .before .before .before .before .before .before .before .before .before .before .before .before .before .before .before .before .before .before .before .before .before .before .before
+loop-less·cut-at c = c .before .before .before .before .before .before .before .before .before .before .before .before .before .before .before .before .before .before .before .before .before .before .before .before .before .before .before .before .before .before .before .before .before .before .before .before .before .before .before .before .before .before .before .before .before .before .before .before .before
 
 abbrev pub loop-less·block : {Inv : tie.InvT-loop} {μ : tie.MeasureT-loop} → tie.Else1 Inv μ → tie.After-block Inv μ
 loop-less·block c = c .before .before .before .before .before .before .before .before .before .before .before .before .before .before .before .before .before .before .before .before .before .before .before .before .before .before .before .before .before .before .before .before .before
@@ -68,10 +68,10 @@ abbrev pub loop-less·goes-on : {Inv : tie.InvT-loop} {μ : tie.MeasureT-loop} �
 loop-less·goes-on c = c .before
 
 abbrev pub loop-again·At-loop : {Inv : tie.InvT-loop} {μ : tie.MeasureT-loop} → tie.Else1 Inv μ → tie.At-loop Inv μ
-loop-again·At-loop c = c .before .before .before .before .before .before .before .before .before .before .before .before .before .before .before .before .before .before .before .before .before .before .before .before .before .before .before .before .before .before .before .before .before .before .before .before .before .before .before .before .before .before .before .before .before .before .before .before .before
+loop-again·At-loop c = c .before .before .before .before .before .before .before .before .before .before .before .before .before .before .before .before .before .before .before .before .before .before .before .before .before .before .before .before .before .before .before .before .before .before .before .before .before .before .before .before .before .before .before .before .before .before .before .before .before .before
 
 abbrev pub loop-again·cut-at : {Inv : tie.InvT-loop} {μ : tie.MeasureT-loop} → tie.Else1 Inv μ → tie.After-cut-at Inv μ
-loop-again·cut-at c = c .before .before .before .before .before .before .before .before .before .before .before .before .before .before .before .before .before .before .before .before .before .before .before .before .before .before .before .before .before .before .before .before .before .before .before .before .before .before .before .before .before .before .before .before .before .before .before .before
+loop-again·cut-at c = c .before .before .before .before .before .before .before .before .before .before .before .before .before .before .before .before .before .before .before .before .before .before .before .before .before .before .before .before .before .before .before .before .before .before .before .before .before .before .before .before .before .before .before .before .before .before .before .before .before
 
 abbrev pub loop-again·block : {Inv : tie.InvT-loop} {μ : tie.MeasureT-loop} → tie.Else1 Inv μ → tie.After-block Inv μ
 loop-again·block c = c .before .before .before .before .before .before .before .before .before .before .before .before .before .before .before .before .before .before .before .before .before .before .before .before .before .before .before .before .before .before .before .before .before

@@ -22,32 +22,41 @@ token-shape-requires·is-free c = c .before
 abbrev pub token-shape-requires·Then1 : tie.Then1 → tie.Then1
 token-shape-requires·Then1 c = c
 
-abbrev pub next-shape-requires·Start : tie.After-brought-to → tie.Start
-next-shape-requires·Start c = c .before .before .before .before .before .before .before .before .before .before .before
+abbrev pub Else2·Start : tie.Else2 → tie.Start
+Else2·Start c = c .before .before .before .before .before .before .before .before .before .before
 
-abbrev pub next-shape-requires·is-plain : tie.After-brought-to → tie.After-is-plain
-next-shape-requires·is-plain c = c .before .before
+abbrev pub Else2·is-plain : tie.Else2 → tie.After-is-plain
+Else2·is-plain c = c .before
 
-abbrev pub next-shape-requires·Then2 : tie.After-brought-to → tie.Then2
-next-shape-requires·Then2 c = c .before
+abbrev pub returns-2·Start : tie.After-no-shape → tie.Start
+returns-2·Start c = c .before .before .before .before .before .before .before .before .before .before .before
 
-abbrev pub returns-2·Start : tie.After-next-shape → tie.Start
-returns-2·Start c = c .before .before .before .before .before .before .before .before .before .before .before .before
+abbrev pub returns-3·Start : tie.After-no-shape2 → tie.Start
+returns-3·Start c = c .before .before .before .before .before .before .before .before .before .before .before .before .before .before
 
-abbrev pub returns-2·is-plain : tie.After-next-shape → tie.After-is-plain
-returns-2·is-plain c = c .before .before .before
+abbrev pub returns-4·Start : tie.After-next-shape → tie.Start
+returns-4·Start c = c .before .before .before .before .before .before .before .before .before .before .before .before .before .before
 
-abbrev pub returns-2·Then2 : tie.After-next-shape → tie.Then2
-returns-2·Then2 c = c .before .before
+abbrev pub returns-4·Else2 : tie.After-next-shape → tie.Else2
+returns-4·Else2 c = c .before .before .before .before
 
-abbrev pub returns-2·state-at : tie.After-next-shape → tie.After-state-at
-returns-2·state-at c = c .before .before .before .before .before .before .before .before .before
+abbrev pub returns-4·state-at : tie.After-next-shape → tie.After-state-at
+returns-4·state-at c = c .before .before .before .before .before .before .before .before .before .before .before
 
-abbrev pub returns-2·transaction-status : tie.After-next-shape → tie.After-transaction-status
-returns-2·transaction-status c = c .before .before .before .before .before .before .before .before
+abbrev pub returns-4·transaction-status : tie.After-next-shape → tie.After-transaction-status
+returns-4·transaction-status c = c .before .before .before .before .before .before .before .before .before .before
 
-abbrev pub returns-2·brought-to : tie.After-next-shape → tie.After-brought-to
-returns-2·brought-to c = c .before
+abbrev pub returns-4·brought-to : tie.After-next-shape → tie.After-brought-to
+returns-4·brought-to c = c .before .before .before
 
-abbrev pub returns-3·Start : tie.After-no-shape → tie.Start
-returns-3·Start c = c .before .before .before .before .before .before .before .before .before .before .before
+abbrev pub returns-4·lays : tie.After-next-shape → tie.After-lays
+returns-4·lays c = c .before .before
+
+abbrev pub returns-4·Else3 : tie.After-next-shape → tie.Else3
+returns-4·Else3 c = c .before
+
+abbrev pub lays-requires·Else2 : tie.After-brought-to → tie.Else2
+lays-requires·Else2 c = c .before
+
+abbrev pub next-shape-requires·Else2 : tie.Else3 → tie.Else2
+next-shape-requires·Else2 c = c .before .before .before
