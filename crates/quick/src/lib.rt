@@ -150,10 +150,15 @@ pub fn quick_in(
             change: none,
         };
     }
+    // Copies for the long way, whose result is taken apart likewise: what is handed to a call, or comes from one, lies in memory on every way, and the record
+    // of the quick ways with it (docs/SPEED.md).
+    let whole = d;
+    let seen = near;
+    let long = packet;
     let r = packet_in(
-        d,
-        near,
-        packet,
+        whole,
+        seen,
+        long,
         time,
         table,
         bytes,
@@ -169,7 +174,6 @@ pub fn quick_in(
         links,
         requests,
     );
-    // Taken apart and put together again: as it is, the result of this call would lie in memory on every way, and the record with it (docs/SPEED.md).
     let decoder = r.decoder;
     let change = r.change;
     Inner {
