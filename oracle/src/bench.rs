@@ -13,7 +13,7 @@ pub fn bench<M: Mechanism>(trace: &[u8]) -> Result<(), String> {
     let mut packets = 0;
     for _ in 0..5 {
         let start = Instant::now();
-        packets = packets_of(&count(run::<M>(Descriptors::Off, trace)?.capture()));
+        packets = packets_of(&count(run::<M>(trace)?.capture()));
         times.push(start.elapsed().as_nanos() as u64);
     }
     times.sort();
@@ -28,11 +28,11 @@ pub fn packets_of(rows: &Rows) -> u64 {
     rows.0[PACKETS] - rows.0[EVENTS]
 }
 
-/// A whole trace and finish: the decoder's own work, and the reading of the records. Where the time is taken descriptors are off, since what
-/// the rules ask besides is no part of the Rust.
-pub fn run<M: Mechanism>(descriptors: Descriptors, trace: &[u8]) -> Result<M, String> {
+/// A whole trace and finish: the decoder's own work, and the reading of the records. Descriptors are off, since what the rules ask besides is no
+/// part of the Rust.
+pub fn run<M: Mechanism>(trace: &[u8]) -> Result<M, String> {
     header(trace).map_err(|r| format!("refused {} at {}", r.answer, r.at))?;
-    let mut machine = M::fresh(false, descriptors);
+    let mut machine = M::fresh(false, Descriptors::Off);
     let mut reader = Reader::new(trace);
     let mut clock = Clock::default();
     while let Some(record) = reader.next() {

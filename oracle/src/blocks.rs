@@ -1,6 +1,6 @@
 //! Blocks of records (change request 3): what a block must answer, by single calls, and the comparison with a port that takes blocks.
 
-use crate::calls::{Calls, LOGS, Mechanism, Rows, words};
+use crate::calls::{Calls, LOGS, Mechanism, Rows};
 use crate::compare::{Left, Rust, Shelves, difference};
 use crate::damage::made;
 use crate::decoder::machine::Machine;
@@ -96,7 +96,7 @@ fn taken<M: Mechanism>(
         }
     }
     calls.write_shelf(shelf);
-    let left = Left { answer: 0, at: blocks.len() as u64, rows: calls.rows().0, words: words(calls.machine.capture()) };
+    let left = Left { answer: 0, at: blocks.len() as u64, rows: calls.rows().0, words: calls.words() };
     Taken { blocks, left }
 }
 

@@ -1,5 +1,6 @@
 //! The calls of document 01 over the Rust decoder: fresh, packet, event, detail and finish, each with its answer.
-//! The Rust knows no room: a call is run, its counts are looked at, and a call that is refused is undone.
+//! The Rust knows no room: a call is run, its counts are looked at, and a call that is refused is undone. Nor does it know what change
+//! requests 1 and 9 add to its rows: that stands here.
 
 use std::cell::Ref;
 use std::sync::Arc;
@@ -9,7 +10,7 @@ use crate::crates::Error;
 use crate::descriptors::{Descriptors, PART};
 use crate::event::{EventType, LineState};
 use crate::storage::{Journal, Mark};
-use crate::usb::{Direction, EndpointAddr, EndpointNum, EndpointType};
+use crate::usb::{Direction, EndpointAddr, EndpointNum, EndpointType, reason_of};
 
 /// An endpoint of the decoder, as far as document 01 speaks of it.
 #[derive(PartialEq, Debug)]
@@ -105,8 +106,8 @@ pub const LOGS: [&str; 12] = [
     "requests",
 ];
 
-/// The words of a row of each log, as the default mode has them.
-pub const WIDTHS: [usize; 12] = [1, 1, 3, 2, 2, 1, 3, 1, 1, 1, 4, Descriptors::DEFAULT.request_words()];
+/// The words of a row of each log, as the default mode has them: with what change requests add to the Rust's.
+pub const WIDTHS: [usize; 12] = [1, 1, 3, 2, 2, 2, 5, 1, 1, 1, 4, Descriptors::DEFAULT.request_words()];
 
 // The logs by number.
 pub const BYTES: usize = 0;
@@ -131,8 +132,8 @@ impl Rows {
         Rows(rows)
     };
 
-    /// The program's logs, 64 KiB together (docs/SIZES.md); the requests have 192 words of them.
-    pub const PROGRAM: Rows = Rows([8192, 64, 128, 512, 128, 384, 256, 8192, 256, 256, 640, 192 / WIDTHS[REQUESTS] as u64]);
+    /// The program's logs, 64 KiB together (docs/SIZES.md); the requests have 256 words of them.
+    pub const PROGRAM: Rows = Rows([8192, 64, 128, 512, 128, 384, 192, 6144, 192, 192, 576, 256 / WIDTHS[REQUESTS] as u64]);
 
     /// The most that one call can add: an item can close every endpoint, and a call has at most three items and five group rows.
     const STEP: Rows = Rows([4096, 2, 4, 2, 2, 4, 8, 8 * 128, 8, 8, 3 * 128 + 16, 2]);
@@ -172,13 +173,8 @@ pub fn count(capture: &CaptureWriter) -> Rows {
     ])
 }
 
-/// The words of each log, in the order of `LOGS`.
-pub fn words(c: &CaptureWriter) -> [Vec<u64>; 12] {
-    std::array::from_fn(|log| log_words(c, log))
-}
-
-/// The words of one log.
-pub fn log_words(c: &CaptureWriter, log: usize) -> Vec<u64> {
+/// The words of one log as the Rust has them: a transaction row is its packet, a group row its endpoint, its number there and whether it starts.
+pub fn rust_words(c: &CaptureWriter, log: usize) -> Vec<u64> {
     let links = |mark: &Mark| match *mark {
         Mark::T(x, transaction) => vec![0, x, transaction, 0],
         Mark::G(x, transaction) => vec![1, x, transaction, 0],
@@ -230,6 +226,19 @@ pub struct Calls<M: Mechanism> {
     total: u64,
     /// With totals every call is run on a copy.
     careful: bool,
+    /// The packet rows by our own count, the time of the last one, what change request 9 adds to each group row, and how many there were before
+    /// finish.
+    packets: u64,
+    time: u64,
+    stamps: Vec<Stamp>,
+    unfinished: usize,
+}
+
+/// The packet number and the time of the call that wrote a group row (change request 9).
+#[derive(Copy, Clone, PartialEq, Default, Debug)]
+pub struct Stamp {
+    pub packet: u64,
+    pub time: u64,
 }
 
 impl<M: Mechanism> Calls<M> {
@@ -247,7 +256,8 @@ impl<M: Mechanism> Calls<M> {
         } else {
             0
         };
-        Calls { machine, room: room.used(), fresh, finished: false, total, careful: total > 0 }
+        let (room, careful) = (room.used(), total > 0);
+        Calls { machine, room, fresh, finished: false, total, careful, packets: 0, time: 0, stamps: Vec::new(), unfinished: 0 }
     }
 
     pub fn finished(&self) -> bool {
@@ -256,6 +266,42 @@ impl<M: Mechanism> Calls<M> {
 
     pub fn rows(&self) -> Rows {
         count(self.machine.capture())
+    }
+
+    /// The words of each log, in the order of `LOGS`.
+    pub fn words(&self) -> [Vec<u64>; 12] {
+        std::array::from_fn(|log| self.log_words(log))
+    }
+
+    /// The words of one log: the Rust's, and what change requests add to its rows.
+    pub fn log_words(&self, log: usize) -> Vec<u64> {
+        let rust = rust_words(self.machine.capture(), log);
+        match log {
+            TRANSACTIONS => rust.into_iter().flat_map(|packet| [packet, self.reason(packet)]).collect(),
+            GROUPS => rust.chunks(3).zip(&self.stamps).flat_map(|(row, s)| [row, &[s.packet, s.time]].concat()).collect(),
+            _ => rust,
+        }
+    }
+
+    /// What change request 9 adds to each group row.
+    pub fn stamps(&self) -> &[Stamp] {
+        &self.stamps
+    }
+
+    /// How many group rows there were before finish.
+    pub fn unfinished(&self) -> usize {
+        self.unfinished
+    }
+
+    /// The reason of the packet of a row, 0 for an event's: what a transaction row that names it carries (change request 1).
+    pub fn reason(&self, packet: u64) -> u64 {
+        let c = self.machine.capture();
+        if c.event_index.stream.rows.binary_search(&packet).is_ok() {
+            return 0;
+        }
+        let (starts, at) = (&c.packet_index.stream.rows, packet as usize);
+        let end = starts.get(at + 1).map_or(c.packet_data.rows.len(), |start| *start as usize);
+        reason_of(&c.packet_data.rows[starts[at] as usize..end]) as u64
     }
 
     /// What the calls write to a lent shelf, of which each device has a part; other bytes stay.
@@ -282,7 +328,7 @@ impl<M: Mechanism> Calls<M> {
         if packet.len() > 4096 {
             return 3;
         }
-        self.run(|m| m.packet(packet, time))
+        self.run(Some(time), |m| m.packet(packet, time))
     }
 
     pub fn event(&mut self, kind: u8, code: u8, time: u64) -> u8 {
@@ -290,7 +336,7 @@ impl<M: Mechanism> Calls<M> {
             return answer;
         }
         let Some(event) = event_type(kind) else { return 4 };
-        self.run(|m| m.event(event, code, time))
+        self.run(Some(time), |m| m.event(event, code, time))
     }
 
     pub fn detail(&mut self, address: u8, number: u8, direction: u8, kind: u8, max: u16) -> u8 {
@@ -310,13 +356,13 @@ impl<M: Mechanism> Calls<M> {
         if let Some(answer) = self.refused() {
             return answer;
         }
-        let answer = self.run(|m| m.finish());
+        let answer = self.run(None, |m| m.finish());
         self.finished = answer == 0;
         answer
     }
 
-    /// A call that passed its own tests: 7, 9, 8 or 0.
-    fn run(&mut self, call: impl FnOnce(&mut M) -> Result<(), Error>) -> u8 {
+    /// A call that passed its own tests, with its time: 7, 9, 8 or 0.
+    fn run(&mut self, time: Option<u64>, call: impl FnOnce(&mut M) -> Result<(), Error>) -> u8 {
         let roomy = !self.careful && self.rows().plus(&Rows::STEP).within(&self.room);
         let saved = if roomy { None } else { Some(self.machine.save()) };
         let before = (self.rows().0[ENDPOINTS], self.machine.journal().marks.len());
@@ -332,10 +378,30 @@ impl<M: Mechanism> Calls<M> {
         match saved {
             Some(saved) if answer == 7 || answer == 9 => self.machine.restore(saved),
             None if answer == 7 || answer == 9 => panic!("a call added more rows than it can"),
-            _ if self.total > 0 && self.machine.view().is_some() => self.machine.start_totals(before.0.max(3), self.total),
-            _ => {}
+            _ => {
+                if self.total > 0 && self.machine.view().is_some() {
+                    self.machine.start_totals(before.0.max(3), self.total);
+                }
+                self.stamp(time);
+            }
         }
         answer
+    }
+
+    /// The group rows that a call left get the number of the packet row that it appended, which is that of the packet rows before it, and its
+    /// time. Finish appends none: its rows get those of the last packet row, 0 and 0 where there is none.
+    fn stamp(&mut self, time: Option<u64>) {
+        let stamp = match time {
+            Some(time) => Stamp { packet: self.packets, time },
+            None if self.packets == 0 => Stamp::default(),
+            None => Stamp { packet: self.packets - 1, time: self.time },
+        };
+        self.stamps.resize(self.rows().0[GROUPS] as usize, stamp);
+        if let Some(time) = time {
+            self.packets += 1;
+            self.time = time;
+            self.unfinished = self.stamps.len();
+        }
     }
 
     /// Whether a D row since a place of the journal made its endpoint's total wrap.

@@ -4,7 +4,7 @@
 use std::collections::BTreeMap;
 use std::marker::PhantomData;
 
-use crate::calls::{LOGS, Mechanism, REQUESTS, Rows, WIDTHS, words};
+use crate::calls::{LINKS, LOGS, Mechanism, REQUESTS, Rows, TRANSACTIONS, WIDTHS};
 use crate::counted::machine::Machine as Counted;
 use crate::coverage::Seen;
 use crate::damage::{DAMAGES, INPUTS, Made, made};
@@ -65,7 +65,7 @@ fn left<M: Mechanism>(trace: &[u8], played: Played<M>, shelf: &mut [u8]) -> Left
     let (rows, words) = match played.calls {
         Some(calls) if calls.fresh == 0 => {
             calls.write_shelf(shelf);
-            (calls.rows().0, words(calls.machine.capture()))
+            (calls.rows().0, calls.words())
         }
         _ => Default::default(),
     };
@@ -151,6 +151,10 @@ pub struct Tally {
     shelves: Shelves,
     pub shelved: u64,
     pub notes: [u64; 4],
+    /// The transaction rows of each reason, 0 among them.
+    pub reasons: [u64; 5],
+    /// The group rows by what wrote them (`report::WRITERS`).
+    pub writers: [u64; 4],
     pub seen: Seen,
     pub differences: u64,
 }
@@ -169,7 +173,9 @@ impl Tally {
     /// One trace with one room: the Rust, the counting Rust and the port.
     fn run(&mut self, port: &mut dyn Port, trace: &[u8], room: &Rows, what: &str) -> Left {
         self.shelves.fill();
-        let rust = left(trace, play::<Machine>(trace, *room, 0, &mut ()), &mut self.shelves.rust);
+        let played = play::<Machine>(trace, *room, 0, &mut ());
+        self.written_by(&played);
+        let rust = left(trace, played, &mut self.shelves.rust);
         let counted = left(trace, play::<Counted>(trace, *room, 0, &mut self.seen), &mut []);
         if let Some(text) = difference(&rust, &counted) {
             self.differ(format!("{what}: counting changes what the Rust does: {text}"));
@@ -188,10 +194,29 @@ impl Tally {
         for (sum, rows) in self.rows.iter_mut().zip(rust.rows) {
             *sum += rows;
         }
-        for row in rust.words[10].chunks(4) {
+        for row in rust.words[LINKS].chunks(WIDTHS[LINKS]) {
             self.links[row[0] as usize] += 1;
         }
+        for row in rust.words[TRANSACTIONS].chunks(WIDTHS[TRANSACTIONS]) {
+            self.reasons[row[1] as usize] += 1;
+        }
         rust
+    }
+
+    /// What wrote the group rows. An event's own row is on endpoint 0, and the others it writes come before its packet row.
+    fn written_by(&mut self, played: &Played<Machine>) {
+        let Some(calls) = &played.calls else { return };
+        let capture = calls.machine.capture();
+        for (i, (row, stamp)) in capture.group_index.rows.iter().zip(calls.stamps()).enumerate() {
+            let event = capture.event_index.stream.rows.binary_search(&stamp.packet).is_ok();
+            let writer = match (i < calls.unfinished(), event, row.endpoint_id().value) {
+                (false, ..) => 3,
+                (_, false, _) => 0,
+                (.., 0) => 1,
+                _ => 2,
+            };
+            self.writers[writer] += 1;
+        }
     }
 
     /// A trace with several rooms: just enough, one row short in one log, some more than enough, and much less in one log.
@@ -334,9 +359,11 @@ pub fn inputs(lister: &mut dyn Lister, count: u64, seed: u64) -> Tally {
 /// That the comparison finds a slip, and nothing where there is none.
 #[cfg(test)]
 mod slips {
+    use std::ops::Deref;
     use std::panic::{AssertUnwindSafe, catch_unwind};
 
     use super::*;
+    use crate::calls::{Calls, EVENTS, GROUPS, PACKETS};
     use crate::descriptors::BYTES;
     use crate::enumerations;
 
@@ -355,6 +382,131 @@ mod slips {
         for (name, differences) in each(1, 50) {
             assert_ne!(differences, Ok(0), "{name} is not found");
         }
+    }
+
+    /// A port whose rows are right but for one word of each row of a log, which it reckons in its own way from the row's number and what is right.
+    struct Reckoned {
+        log: usize,
+        word: usize,
+        slip: Slip,
+    }
+
+    type Slip = fn(&Right, usize) -> u64;
+
+    /// What is right, and how many group rows there were before finish.
+    struct Right {
+        left: Left,
+        unfinished: usize,
+    }
+
+    impl Deref for Right {
+        type Target = Left;
+
+        fn deref(&self) -> &Left {
+            &self.left
+        }
+    }
+
+    impl Port for Reckoned {
+        fn play(&mut self, trace: &[u8], room: &Rows, shelf: &mut [u8]) -> Result<Left, String> {
+            let played = play::<Machine>(trace, *room, 0, &mut ());
+            let unfinished = played.calls.as_ref().map_or(0, Calls::unfinished);
+            let mut right = Right { left: left(trace, played, shelf), unfinished };
+            let words: Vec<u64> = (0..right.rows[self.log] as usize).map(|row| (self.slip)(&right, row)).collect();
+            for (row, word) in right.left.words[self.log].chunks_mut(WIDTHS[self.log]).zip(words) {
+                row[self.word] = word;
+            }
+            Ok(right.left)
+        }
+    }
+
+    /// Each is found in a word of a log by the traces of traces/.
+    fn each_is_found_in(log: usize, word: usize, slips: &[(&str, Slip)]) {
+        for (name, slip) in slips {
+            let mut tally = Tally::default();
+            for (what, trace) in all() {
+                tally.rooms(&mut Reckoned { log, word, slip: *slip }, &trace, &what, &mut Random::new(1));
+            }
+            assert_ne!(tally.differences, 0, "{name} is not found");
+        }
+    }
+
+    /// The packet and the reason of a transaction row.
+    fn named(left: &Left, row: usize) -> (u64, u64) {
+        (left.words[TRANSACTIONS][2 * row], left.words[TRANSACTIONS][2 * row + 1])
+    }
+
+    /// The bytes of the packet that a transaction row names; an event has none.
+    fn bytes(left: &Left, row: usize) -> &[u64] {
+        let (packet, starts) = (named(left, row).0 as usize, &left.words[PACKETS]);
+        let bytes = &left.words[crate::calls::BYTES];
+        let end = starts.get(2 * packet + 2).map_or(bytes.len(), |start| *start as usize);
+        &bytes[starts[2 * packet] as usize..end]
+    }
+
+    #[test]
+    fn each_is_found_in_the_reasons() {
+        let slips: [(&str, Slip); 7] = [
+            ("no reason", |_, _| 0),
+            ("an event is an empty packet", |left, row| if bytes(left, row).is_empty() { 1 } else { named(left, row).1 }),
+            ("the length before the PID", |left, row| match (named(left, row).1, bytes(left, row).len()) {
+                (2, 2) => 3,
+                (reason, _) => reason,
+            }),
+            ("the CRC before the length", |left, row| match (named(left, row).1, bytes(left, row).len()) {
+                (3, 3..) => 4,
+                (reason, _) => reason,
+            }),
+            ("F0 is a PID", |left, row| if bytes(left, row).first() == Some(&0xF0) { 3 } else { named(left, row).1 }),
+            ("the reason of the row before", |left, row| row.checked_sub(1).map_or(0, |before| named(left, before).1)),
+            ("none on a row that resumes", |left, row| match left.words[TRANSACTIONS].get(2 * row + 2) {
+                Some(packet) if *packet == named(left, row).0 => 0,
+                _ => named(left, row).1,
+            }),
+        ];
+        each_is_found_in(TRANSACTIONS, 1, &slips);
+    }
+
+    /// The packet number of a group row.
+    fn packet(left: &Left, row: usize) -> u64 {
+        left.words[GROUPS][5 * row + 3]
+    }
+
+    /// The time of a packet row.
+    fn time(left: &Left, packet: u64) -> u64 {
+        left.words[PACKETS][2 * packet as usize + 1]
+    }
+
+    /// An event wrote the row, and before its own packet row: that of the event comes behind.
+    fn before_event(left: &Left, row: usize) -> bool {
+        left.words[GROUPS][5 * row] != 0 && left.words[EVENTS].chunks(2).any(|event| event[0] == packet(left, row))
+    }
+
+    #[test]
+    fn each_is_found_in_the_stamps() {
+        let numbers: [(&str, Slip); 7] = [
+            ("no number", |_, _| 0),
+            ("the number after the call", |right, row| packet(right, row) + 1),
+            ("the number of the call before", |right, row| packet(right, row).saturating_sub(1)),
+            ("the old number before an event's packet row", |right, row| packet(right, row) - before_event(right, row) as u64),
+            ("events are not counted", |right, row| {
+                let packet = packet(right, row);
+                packet - right.words[EVENTS].chunks(2).filter(|event| event[0] < packet).count() as u64
+            }),
+            ("finish is a call with a packet", |right, row| packet(right, row) + (row >= right.unfinished) as u64),
+            ("finish has no number", |right, row| if row < right.unfinished { packet(right, row) } else { 0 }),
+        ];
+        each_is_found_in(GROUPS, 3, &numbers);
+        let times: [(&str, Slip); 5] = [
+            ("no time", |_, _| 0),
+            ("the number in place of the time", |right, row| packet(right, row)),
+            ("the time of the call before", |right, row| time(right, packet(right, row).saturating_sub(1))),
+            ("the old time before an event's packet row", |right, row| {
+                time(right, packet(right, row) - before_event(right, row) as u64)
+            }),
+            ("finish has no time", |right, row| if row < right.unfinished { time(right, packet(right, row)) } else { 0 }),
+        ];
+        each_is_found_in(GROUPS, 4, &times);
     }
 
     /// A port whose rows are right, and whose shelf, which held the first bytes before and should hold the second, is left wrong.

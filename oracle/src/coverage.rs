@@ -7,7 +7,7 @@ use std::sync::atomic::{AtomicU64, Ordering::Relaxed};
 use crate::calls::{Mechanism, Style};
 use crate::trace::{Record, Watch};
 use crate::usb::PID;
-use crate::usb::validate_packet;
+use crate::usb::{reason_of, validate_packet};
 
 /// A place of the source that is counted: an arm of a match with its alternatives, or the two ways of an `if`.
 pub struct Case {
@@ -47,8 +47,8 @@ pub fn count(counter: usize) -> u64 {
     COUNTS[counter].load(Relaxed)
 }
 
-/// What `transaction_status` sees of the next packet: its PID, or that it is malformed, or a DATA0 of 11 bytes.
-pub const NEXT: [&str; 17] = [
+/// What `transaction_status` sees of the next packet: its PID, or that it is malformed, here with the reason, or a DATA0 of 11 bytes.
+pub const NEXT: [&str; 20] = [
     "OUT",
     "IN",
     "SOF",
@@ -65,7 +65,10 @@ pub const NEXT: [&str; 17] = [
     "NYET",
     "ERR",
     "DATA0 of 11",
-    "malformed",
+    "empty",
+    "bad PID",
+    "wrong length",
+    "bad CRC",
 ];
 
 fn next(packet: &[u8]) -> usize {
@@ -73,8 +76,8 @@ fn next(packet: &[u8]) -> usize {
     let pids = [OUT, IN, SOF, SETUP, PING, SPLIT, DATA0, DATA1, DATA2, MDATA, ACK, NAK, STALL, NYET, ERR];
     match validate_packet(packet) {
         Ok(DATA0) if packet.len() == 11 => 15,
-        Ok(pid) => pids.iter().position(|p| *p == pid).unwrap_or(16),
-        Err(_) => 16,
+        Ok(pid) => pids.iter().position(|p| *p == pid).expect("a PID of the fifteen"),
+        Err(_) => 15 + reason_of(packet) as usize,
     }
 }
 
@@ -84,7 +87,7 @@ pub struct Seen {
     pub calls: u64,
     pub answers: [u64; 10],
     /// For each transaction that a packet can find, resumed or not, how often each packet came.
-    pub pairs: BTreeMap<(bool, Option<Style>), [u64; 17]>,
+    pub pairs: BTreeMap<(bool, Option<Style>), [u64; 20]>,
     /// For each event state, how often each kind of event came.
     pub events: [[u64; 8]; 8],
     found: Option<Found>,

@@ -2,7 +2,7 @@
 
 use std::fmt::Write;
 
-use crate::calls::{Calls, Mechanism, Rows, words};
+use crate::calls::{Calls, Mechanism, Rows};
 use crate::decoder::machine::Machine;
 use crate::generate::{KINDS, generate};
 use crate::trace::{Clock, Reader, Record, call};
@@ -29,7 +29,7 @@ use mathlib.Core.Path.{refl}
 use mathlib.Core.List.{List, [], _∷_}
 use Rattle.crc.specs.Crc.{step, bits, bytes, crc5Of, crc16Of}
 use Rattle.usb.specs.Bits.{after}
-use Rattle.usb.specs.Packet.{formatOf, tokenOk, splitOk, dataOk, handshakeOk, formatOk, checkedOf}
+use Rattle.usb.specs.Packet.{formatOf, formatOk, formatReason, reasonOf, checkedOf}
 use Rattle.transaction.specs.Status.{transactionStatus}
 use Rattle.transaction.specs.Payload.{extractPayload}
 use Rattle.details.specs.Details.{detailsOf, withType, withDetail, fresh}
@@ -50,7 +50,7 @@ use Rattle.rules.specs.Decoder.{handleRawPacket, handleEvent, handleDetail, fin
 use Rattle.rules.proofs.Runs.{packet, event, detail, finishing, Leaves}
 ";
 
-const PROOF: &str = "unfolding step bits bytes crc5Of crc16Of after formatOf tokenOk splitOk dataOk handshakeOk formatOk checkedOf transactionStatus \
+const PROOF: &str = "unfolding step bits bytes crc5Of crc16Of after formatOf formatOk formatReason reasonOf checkedOf transactionStatus \
                      extractPayload detailsOf withType withDetail fresh isRead isSetConfiguration isSetInterface kindBy kindOf laid isWhole wholeIn \
                      whole isOf firstOf maxOf valueOf chunks applied countSet noteOf withMax deviceAfter countAfter shelfAfter rowAfter setupGroup controlGroup beginGroup \
                      repeatGroup otherGroup groupStatus groupUpdate groupEarlyStart groupEarlyAppend transactionUpdate eventUpdate handleRawPacket \
@@ -93,7 +93,7 @@ fn lemma(name: &str, trace: &[u8]) -> String {
     assert_eq!(calls.finish(), 0, "a run of ours is refused at its end");
     steps.push("finishing".to_string());
     let mut out = format!("\nrun-{name} :\n    Leaves ({})\n    (", list(steps.into_iter()));
-    for log in words(calls.machine.capture()) {
+    for log in calls.words() {
         write!(out, "{} ∷ ", numbers(&log)).ok();
     }
     writeln!(out, "[])\n{PROOF}\nrun-{name} = refl").ok();

@@ -32,6 +32,7 @@ pub mod selfcheck;
 pub mod storage;
 pub mod trace;
 pub mod traces;
+pub mod training;
 
 pub mod util {
     pub mod rcu {

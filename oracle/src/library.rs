@@ -6,15 +6,15 @@ use crate::decoder::machine::State;
 
 #[link(name = "pivotspark", kind = "static")]
 unsafe extern "C" {
-    /// The PID byte of a valid packet, 0 for a malformed one. It reads the bytes and nothing else.
-    fn pivotspark_check(packet: *const u8, length: usize) -> u8;
+    /// The PID byte of a valid packet, 256 times the reason of a malformed one. It reads the bytes and nothing else.
+    fn pivotspark_check(packet: *const u8, length: usize) -> u16;
 
     /// `group_status` in words: reads 23, writes 10.
     fn pivotspark_group_status(state: *const u64, out: *mut u64);
 }
 
 /// The port's packet check.
-pub fn check(packet: &[u8]) -> u8 {
+pub fn check(packet: &[u8]) -> u16 {
     // The contract demands nothing of the slice.
     unsafe { pivotspark_check(packet.as_ptr(), packet.len()) }
 }

@@ -39,11 +39,36 @@ pub fn limits() -> Vec<(&'static str, Vec<u8>)> {
         ("packets", each(513, again("SOF 0"))),
         ("events", each(129, again("event 0"))),
         ("transactions", each(385, again("SPLIT start bulk"))),
-        ("groups", each(129, again("PING 0 1"))),
-        ("state-bytes", format!("{}; {}", each(40, added), each(96, again("PING 0 1")))),
-        ("items", [each(128, again("event 7")), each(30, |_| interleaved()), each(9, |i| format!("OUT 0 {}", i + 1))].join("; ")),
-        ("links", each(8, ended)),
-        ("requests", each(49, |_| transfer(0, 9, 1))),
+        ("groups", each(97, again("PING 0 1"))),
+        ("state-bytes", format!("{}; {}", each(40, added), each(72, again("PING 0 1")))),
+        ("items", format!("{}; {}; OUT 0 1", each(128, again("event 7")), each(16, |_| interleaved()))),
+        ("links", format!("{}; {}", each(6, ended), each(12, again("OUT 0 1; DATA0 *8; ACK")))),
+        ("requests", each(65, |_| transfer(0, 9, 1))),
     ];
     texts.into_iter().map(|(log, text)| (log, written(&text))).collect()
+}
+
+#[cfg(test)]
+mod tests {
+    use super::*;
+    use crate::calls::{LOGS, Rows};
+    use crate::decoder::machine::Machine;
+    use crate::trace::{HEADER, Reader, play};
+
+    /// A record of the last step, which has six at most, or finish is refused for want of room in that log, and all before it fit.
+    #[test]
+    fn each_fills_its_log() {
+        for (name, trace) in limits() {
+            let log = LOGS.iter().position(|log| *log == name).expect("a log");
+            let (mut reader, mut places) = (Reader::new(&trace), vec![HEADER]);
+            while reader.next().is_some() {
+                places.push(reader.at);
+            }
+            let mut alone = Rows::LARGEST;
+            alone.0[log] = Rows::PROGRAM.0[log];
+            let refused = |room| play::<Machine>(&trace, room, 0, &mut ()).refused.map(|r| (r.answer, r.at));
+            assert!(places.iter().rev().take(7).any(|at| refused(Rows::PROGRAM) == Some((7, *at))), "{name}");
+            assert_eq!(refused(alone), refused(Rows::PROGRAM), "{name}");
+        }
+    }
 }

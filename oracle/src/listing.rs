@@ -2,7 +2,7 @@
 
 use std::fmt::Write;
 
-use crate::calls::{Mechanism, Rows};
+use crate::calls::{Calls, Mechanism, Rows};
 use crate::capture::CaptureWriter;
 use crate::descriptors::{Descriptors, note_text};
 use crate::storage::Mark;
@@ -23,13 +23,30 @@ pub fn listing_by<M: Mechanism>(descriptors: Descriptors, trace: &[u8], buffer: 
         return "too long\n".to_string();
     }
     match run_by::<M>(descriptors, trace, room, total) {
-        Ok(calls) => rows(calls.machine.capture()),
+        Ok(calls) => rows(&calls),
         Err(Refused { answer, at }) => format!("refused {answer} at {at}\n"),
     }
 }
 
-/// All rows of a capture, kind by kind.
-pub fn rows(c: &CaptureWriter) -> String {
+/// The details that each device has at the end, where a type or a max is known: device, number, direction, type (4 for none), max (0 for none).
+pub fn details<M: Mechanism>(trace: &[u8], room: Rows) -> String {
+    let calls = match run_by::<M>(Descriptors::DEFAULT, trace, room, 0) {
+        Ok(calls) => calls,
+        Err(Refused { answer, at }) => return format!("refused {answer} at {at}\n"),
+    };
+    let mut out = String::new();
+    for (device, data) in calls.machine.capture().shared.device_data.load().values().enumerate() {
+        for (place, (kind, max)) in data.told().iter().enumerate().filter(|(_, told)| **told != (4, 0)) {
+            let direction = if place / 16 == 1 { "in" } else { "out" };
+            writeln!(out, "detail {device} {} {direction} {kind} {max}", place % 16).ok();
+        }
+    }
+    out
+}
+
+/// All rows, kind by kind.
+pub fn rows<M: Mechanism>(calls: &Calls<M>) -> String {
+    let c = calls.machine.capture();
     let mut out = "UTL 1\n".to_string();
     let line = &mut out;
     for (i, device) in c.devices.rows.iter().enumerate() {
@@ -53,11 +70,12 @@ pub fn rows(c: &CaptureWriter) -> String {
         writeln!(line, "event {i} {packet} {code}").ok();
     }
     for (i, packet) in c.transaction_index.stream.rows.iter().enumerate() {
-        writeln!(line, "transaction {i} {packet}").ok();
+        writeln!(line, "transaction {i} {packet} {}", calls.reason(*packet)).ok();
     }
-    for (i, g) in c.group_index.rows.iter().enumerate() {
+    for (i, (g, stamp)) in c.group_index.rows.iter().zip(calls.stamps()).enumerate() {
+        let (endpoint, group) = (g.endpoint_id().value, g.group_id().value);
         let end = if g.is_start() { "start" } else { "end" };
-        writeln!(line, "group {i} {} {} {end}", g.endpoint_id().value, g.group_id().value).ok();
+        writeln!(line, "group {i} {endpoint} {group} {end} {} {}", stamp.packet, stamp.time).ok();
     }
     states(c, line);
     for (i, group) in c.item_index.stream.rows.iter().enumerate() {

@@ -9,21 +9,24 @@ use oracle::decoder::machine::Machine;
 use oracle::descriptors::Descriptors;
 use oracle::generate::{EXTRA, KINDS, download, generate};
 use oracle::mixed::mixed;
-use oracle::{bench, compare, lemmas, listing, own_and_ruled, report, selfcheck, trace, traces};
+use oracle::{bench, compare, lemmas, listing, own_and_ruled, report, selfcheck, trace, traces, training};
 
 const USAGE: &str = "usage: oracle COMMAND
   listing [OPTION..]     a UTL trace on standard input; prints the listing of document 01
   answers [OPTION..]     the same input; prints the answer to each record, then to finish, one a line
+  details [OPTION..]     the same input; prints the type and max packet size that each device's endpoints have at the end
   gen SEED N KIND        writes a trace of N records to standard output; the kinds are listed by 'gen kinds'
   download MIB TIMES     writes the trace of change request 11: an enumeration and a bulk download, so many times in so many MiB
   mixed BYTES            writes the mixed sequence of the benchmarks, 200,000 packets with payloads of at most so many bytes
   bench FILE             the time of the raw Rust decoder on a trace, median of five runs
-  selfcheck N            N random calls, 01's well-formed list and demand 3 after each; then the mutants
+  selfcheck N            N random calls, 01's well-formed list, demand 3, reasons and stamps after each; then the mutants
   coverage N SEED        plays the traces of `compare traces N SEED` by the Rust alone: which cases of decoder.rs they meet
   descriptors N SEED     the Rust's own decode_request beside the rules of change request 2, on N random traces: what differs
                          outside the listed cases, and how often each of them was met
   traces DIR             writes the traces of the repository and the listings that they must give
   traces --check DIR     compares them with what stands in DIR
+  training DIR PAGE      writes the training set (NAME.utl, NAME.right, NAME.student), and into its page the first lines that differ
+  training --check DIR PAGE  compares them, and every line that the page quotes, with what stands there
   lemmas SEED RUNS CALLS writes the sequences of `traces` and RUNS random runs of CALLS records as lemmas of crates/runs (proofs/Oracle.antt)
 options:
   --program              room and buffer of the program `listing` (docs/SIZES.md); otherwise the largest that 01 allows
@@ -109,6 +112,7 @@ fn run(words: &[String]) -> Result<bool, String> {
             let o = options(rest)?;
             output(answers(&input()?, &o).as_bytes())?;
         }
+        ("details", rest) => output(listing::details::<Machine>(&input()?, options(rest)?.room).as_bytes())?,
         ("gen", [kinds]) if kinds == "kinds" => {
             let names: String = KINDS.iter().chain(&EXTRA).map(|(name, _)| format!("{name}\n")).collect();
             output(names.as_bytes())?;
@@ -132,6 +136,8 @@ fn run(words: &[String]) -> Result<bool, String> {
         ("traces", [folder]) => traces::write(folder)?,
         ("lemmas", [seed, runs, calls]) => output(lemmas::lemmas(number(seed)?, number(runs)?, number(calls)?).as_bytes())?,
         ("traces", [flag, folder]) if flag == "--check" => traces::check(folder)?,
+        ("training", [folder, page]) => training::write(folder, page)?,
+        ("training", [flag, folder, page]) if flag == "--check" => training::check(folder, page)?,
         _ => return Err(USAGE.to_string()),
     }
     Ok(true)

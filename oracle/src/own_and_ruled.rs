@@ -4,7 +4,7 @@
 
 use std::collections::BTreeMap;
 
-use crate::calls::{LOGS, Mechanism, REQUESTS, event_type, log_words};
+use crate::calls::{LOGS, Mechanism, REQUESTS, event_type, rust_words};
 use crate::damage::DAMAGES;
 use crate::decoder::machine::Machine;
 use crate::descriptors::Descriptors;
@@ -72,7 +72,7 @@ fn other_details(own: &Machine, ruled: &Machine) -> Option<String> {
 /// How rows, details or states differ. The note of a request row is the rules' alone.
 fn other_state(own: &Machine, ruled: &Machine) -> Option<String> {
     let words = |machine: &Machine, log: usize| {
-        let words = log_words(machine.capture(), log);
+        let words = rust_words(machine.capture(), log);
         let width = machine.capture().shared.requests.descriptors.request_words();
         if log < REQUESTS { words } else { words.chunks(width).flat_map(|row| row[..3].to_vec()).collect() }
     };

@@ -5,6 +5,7 @@ use crate::calls::{LOGS, Style};
 use crate::compare::Tally;
 use crate::coverage::{CASES, Case, NEXT, count};
 use crate::damage::DAMAGES;
+use crate::usb::REASONS;
 
 /// Ways that no call can take: the function, the case, the way, and why. Any other way that is not met is a fault of the comparison, and
 /// one of these that is met is a fault here.
@@ -105,13 +106,18 @@ fn listings(t: &Tally) {
 pub fn traces(tally: &Tally, table: bool) -> bool {
     what_was_compared(tally);
     let notes = all_met("note", NOTES, &tally.notes);
-    let good = [answers(tally), limits(tally), cases(table), pairs(tally), events(tally, table), notes];
+    let reasons = all_met("reason", REASONS, &tally.reasons);
+    let writers = all_met("group row of", WRITERS, &tally.writers);
+    let good = [answers(tally), limits(tally), cases(table), pairs(tally), events(tally, table), notes, reasons, writers];
     println!("{} differences", tally.differences);
-    good == [true; 6] && tally.differences == 0
+    good == [true; 8] && tally.differences == 0
 }
 
 /// How the lines of requests end.
 const NOTES: [&str; 4] = ["none", "max", "read", "set"];
+
+/// What writes a group row: these have their number and time each in its own way (change request 9).
+pub const WRITERS: [&str; 4] = ["a packet", "an event", "an event before its packet row", "finish"];
 
 fn what_was_compared(t: &Tally) {
     let kinds: Vec<String> = t.kinds.iter().map(|(kind, n)| format!("{kind} {n}")).collect();
@@ -119,6 +125,8 @@ fn what_was_compared(t: &Tally) {
     println!("damaged {}: {}", t.damages.iter().sum::<u64>(), named(DAMAGES.iter().map(|d| d.0), &t.damages));
     println!("played {} times, {} calls", t.runs, t.seen.calls);
     println!("rows compared: {}; links: {}", named(LOGS, &t.rows), named(["T", "G", "D", "E"], &t.links));
+    println!("reasons of transaction rows: {}", named(REASONS, &t.reasons));
+    println!("group rows by what wrote them: {}", named(WRITERS, &t.writers));
     println!("notes of requests: {}; bytes changed on the shelf: {}", named(NOTES, &t.notes), t.shelved);
     listings(t);
 }

@@ -1,12 +1,13 @@
-//! Random calls on the Rust decoder, with document 01's well-formed list and demand 3 tested after each; and the same on decoders
-//! with a deliberate fault, each of which must be found.
+//! Random calls on the Rust decoder, with document 01's well-formed list, demand 3, the reasons of transaction rows and the stamps of group
+//! rows tested after each; and the same on decoders with a deliberate fault, each of which must be found.
 
 use std::panic::{AssertUnwindSafe, catch_unwind};
 
-use crate::calls::{Calls, EndpointView, LOGS, Mechanism, Rows, TransactionView, View};
+use crate::calls::{Calls, EndpointView, GROUPS, LOGS, Mechanism, PACKETS, Rows, Stamp, TRANSACTIONS, TransactionView, View};
 use crate::generate::{KINDS, Random, generate};
 use crate::storage::Mark;
 use crate::trace::{Clock, Reader, Record, call};
+use crate::usb::reason_of;
 
 include!(concat!(env!("OUT_DIR"), "/mutants.rs"));
 
@@ -56,6 +57,8 @@ fn check_trace<M: Mechanism>(trace: &[u8], room: Rows) -> Result<u64, String> {
             0 | 8 => {
                 let ends_groups = matches!(record, Record::Event { kind, .. } if kind != 0);
                 history.follow(&calls, ends_groups)?;
+                let reason = if let Record::Packet { bytes, .. } = record { reason_of(bytes) } else { 0 };
+                reasons_carried(&calls, &before.0, reason)?;
             }
             1 | 2 => return Err(format!("answer {answer} to a call on a record that calls left")),
             _ if before != (calls.rows(), calls.machine.view()) => return Err(format!("answer {answer} changed something")),
@@ -63,13 +66,32 @@ fn check_trace<M: Mechanism>(trace: &[u8], room: Rows) -> Result<u64, String> {
         }
         well_formed(&calls, &room).map_err(|fault| format!("{fault}, after record {count}, answer {answer}"))?;
     }
+    let before = calls.rows();
     if calls.finish() == 0 {
         if calls.finish() != 2 {
             return Err("a second finish is not answered 2".to_string());
         }
+        finish_told(&calls, &before)?;
         history.follow(&calls, false)?;
     }
     Ok(count + 1)
+}
+
+/// Change request 1: the transaction rows of a call name the packet row that it appends, so they carry the reason of its own packet.
+fn reasons_carried<M: Mechanism>(calls: &Calls<M>, before: &Rows, reason: u8) -> Result<(), String> {
+    let rows = &calls.machine.capture().transaction_index.stream.rows[before.0[TRANSACTIONS] as usize..];
+    let carried = |packet: &u64| (*packet, calls.reason(*packet)) == (before.0[PACKETS], reason as u64);
+    hold(rows.iter().all(carried), || format!("a transaction row of a packet of reason {reason} names or carries another"))
+}
+
+/// Finish writes no transaction row, and group rows only behind a packet: "the last packet" of change request 9 is no event then.
+fn finish_told<M: Mechanism>(calls: &Calls<M>, before: &Rows) -> Result<(), String> {
+    let (rows, events) = (calls.rows(), &calls.machine.capture().event_index.stream.rows);
+    hold(rows.0[TRANSACTIONS] == before.0[TRANSACTIONS], || "finish writes a transaction row".to_string())?;
+    let behind_packet = rows.0[PACKETS] > 0 && events.last() != Some(&(rows.0[PACKETS] - 1));
+    hold(behind_packet || rows.0[GROUPS] == before.0[GROUPS], || {
+        "finish writes a group row behind an event or nothing".to_string()
+    })
 }
 
 // ---- well formed, by 01's list
@@ -162,6 +184,9 @@ struct History {
     /// The item that has just come, and the endpoints that it still has to close.
     item: u64,
     to_close: Vec<u64>,
+    /// The packet rows and the group rows so far.
+    packets: u64,
+    groups: usize,
 }
 
 impl History {
@@ -172,6 +197,7 @@ impl History {
         let view = calls.machine.view();
         let marks = calls.machine.journal().marks[self.seen..].to_vec();
         self.seen += marks.len();
+        self.stamped(calls, &marks)?;
         for mark in marks {
             if let (false, Mark::E(..)) = (self.to_close.is_empty(), mark) {
             } else if let Some(x) = self.to_close.first() {
@@ -187,6 +213,19 @@ impl History {
             track.agrees(x, view.as_ref())?;
         }
         Ok(())
+    }
+
+    /// Change request 9, from the trail and the packet log: the group rows of a call have the number and the time of its packet row; where it has
+    /// none, of the last one before.
+    fn stamped<M: Mechanism>(&mut self, calls: &Calls<M>, marks: &[Mark]) -> Result<(), String> {
+        let (first, groups) = (self.packets, self.groups);
+        self.packets += marks.iter().filter(|mark| matches!(mark, Mark::Packet)).count() as u64;
+        self.groups += marks.iter().filter(|mark| matches!(mark, Mark::Group(..))).count();
+        let packet = first.min(self.packets.saturating_sub(1));
+        let time = calls.machine.capture().packet_times.stream.rows.get(packet as usize).copied().unwrap_or(0);
+        let stamp = Stamp { packet, time };
+        let stamped = calls.stamps().len() == self.groups && calls.stamps()[groups..].iter().all(|s| *s == stamp);
+        hold(stamped, || format!("a group row of the call of packet {packet} has another number or time"))
     }
 
     fn mark(&mut self, mark: Mark) -> Result<(), String> {

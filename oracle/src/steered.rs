@@ -29,6 +29,9 @@ const EVENTS: [&[u8]; 8] = [&[], &[0], &[1], &[1, 4], &[1, 4, 5], &[1, 4, 5, 2],
 /// What stands between a transaction and the packet that comes to it: nothing, a keepalive that suspends it, an event that ends it.
 const BETWEEN: [Option<u8>; 3] = [None, Some(0), Some(7)];
 
+/// A malformed packet for each reason: empty, one bit off ACK, an ACK with a byte behind it, a SETUP with a bit of its CRC5 turned.
+const MALFORMED: [&[u8]; 4] = [&[], &[0xD3], &[0xD2, 0x00], &[0x2D, 0x00, 0x11]];
+
 /// Traces in which each packet, and finish, comes to each transaction that it can find, also with an event between, and each event to each
 /// event state. An ACK ends any transaction, and any packet the event state.
 pub fn every_pair() -> Vec<Vec<u8>> {
@@ -67,7 +70,7 @@ impl Bench {
     /// Each packet behind what `lead` plays and an event, on an endpoint of a type.
     fn pairs(mut self, kind: u8, number: u8, lead: impl Fn(&mut Bench), between: Option<u8>) -> Vec<u8> {
         self.typed(kind, number);
-        for next in 0..=ALL_PIDS.len() + 1 {
+        for next in 0..=ALL_PIDS.len() + MALFORMED.len() {
             lead(&mut self);
             if let Some(event) = between {
                 self.event(event);
@@ -75,7 +78,7 @@ impl Bench {
             match ALL_PIDS.get(next) {
                 Some(pid) => self.one(*pid, number, 3),
                 None if next == ALL_PIDS.len() => self.one(DATA0, number, 8),
-                None => self.packet(&[0xD3]),
+                None => self.packet(MALFORMED[next - ALL_PIDS.len() - 1]),
             }
             self.packet(&handshake(ACK));
         }

@@ -38,6 +38,29 @@ pub const SEQUENCES: &[(&str, &str)] = &[
     ("two-keepalives", "IN 0 1; event 0; event 0; NAK; IN 0 1; NAK"),
     ("longest-packet", "long 4096"),
     ("refused-3", "IN 0 1; NAK; long 4097"),
+    // Change request 1: packets that are empty, have a bad PID, a wrong length or a bad CRC, several of these at once among them, and an ACK;
+    // then each reason on a packet that resumes a transaction, the last time behind another event.
+    (
+        "malformed-reasons",
+        "raw; raw D3; raw F0; raw F0 00 10; raw D3 00; raw 2C 00 11; raw D2 00; raw 2D 00; raw 2D 00 11 00; raw 78 01 01; raw C3 00; raw 2D 00 11; raw 78 01 01 45; raw 4B 00 01; ACK",
+    ),
+    (
+        "malformed-resumes",
+        "IN 0 1; event 0; raw; IN 0 1; event 0; raw D3; IN 0 1; event 0; raw D2 00; IN 0 1; event 0; raw 2D 00 11; IN 0 1; event 0; NAK; IN 0 1; event 0; event 7; raw D3",
+    ),
+    // Change request 9: an OUT that does not fit the control transfer it stands in has its group rows when it ends, by finish or by an event,
+    // which then writes them before its packet row. Finish behind an event, behind a keepalive or behind no packet has no group row.
+    (
+        "finish-open",
+        "detail 0 1 0 2 8; event 7; OUT 0 1; DATA0 *8; ACK; SETUP 0 0; DATA0 =80 06 00 01 00 00 12 00; ACK; OUT 0 0; DATA1 *8",
+    ),
+    (
+        "event-ends-groups",
+        "detail 0 1 0 2 8; event 7; OUT 0 1; DATA0 *8; ACK; SETUP 0 0; DATA0 =80 06 00 01 00 00 12 00; ACK; OUT 0 0; DATA1 *8; event 1; OUT 0 1; DATA0 *8; ACK",
+    ),
+    ("finish-event", "SETUP 0 0; DATA0 =80 06 00 01 00 00 12 00; ACK; OUT 0 0; DATA1 *8; event 7"),
+    ("finish-keepalive", "SETUP 0 0; DATA0 =80 06 00 01 00 00 12 00; ACK; OUT 0 0; DATA1 *8; event 0"),
+    ("finish-nothing", "detail 0 1 0 2 8"),
     // The mends (docs/DIFFERENCES.md).
     ("split-setup-ten", "SPLIT start control; SETUP 0 0; DATA0 *7; ACK"),
     ("split-event", "SPLIT start bulk; event 1; IN 0 1; NAK"),
@@ -156,7 +179,8 @@ pub fn written(text: &str) -> Vec<u8> {
     trace.bytes
 }
 
-fn packet(words: &[&str]) -> Vec<u8> {
+/// A packet by its words.
+pub fn packet(words: &[&str]) -> Vec<u8> {
     let number = |i: usize| words[i].parse::<u16>().expect("a number");
     let hex = |words: &[&str]| words.iter().map(|w| u8::from_str_radix(w, 16).expect("hex")).collect::<Vec<u8>>();
     let place = |pid| token(pid, number(1) as u8, number(2) as u8);
@@ -194,36 +218,52 @@ pub fn expected(trace: &[u8]) -> String {
     listing::<Machine>(trace, BUFFER, Rows::PROGRAM, 0)
 }
 
-/// Writes NAME.utl and NAME.listing for every trace.
+/// The files of the folder by name: NAME.utl and NAME.listing for every trace.
+fn files() -> Vec<(String, Vec<u8>)> {
+    let both = |(name, trace): (String, Vec<u8>)| {
+        let listing = expected(&trace).into_bytes();
+        [(format!("{name}.utl"), trace), (format!("{name}.listing"), listing)]
+    };
+    all().into_iter().flat_map(both).collect()
+}
+
 pub fn write(folder: &str) -> Result<(), String> {
-    let traces = all();
-    fs::create_dir_all(folder).map_err(|e| format!("{folder}: {e}"))?;
-    for (name, trace) in &traces {
-        for (ending, bytes) in [("utl", trace.clone()), ("listing", expected(trace).into_bytes())] {
-            let path = Path::new(folder).join(format!("{name}.{ending}"));
-            fs::write(&path, bytes).map_err(|e| format!("{}: {e}", path.display()))?;
-        }
-    }
-    println!("{} traces written", traces.len());
+    let files = files();
+    write_files(folder, &files)?;
+    println!("{} traces written", files.len() / 2);
     Ok(())
 }
 
-/// Compares what stands in the folder with what would be written; a file too many or too few is a difference.
 pub fn check(folder: &str) -> Result<(), String> {
-    let traces = all();
-    for (name, trace) in &traces {
-        for (ending, bytes) in [("utl", trace.clone()), ("listing", expected(trace).into_bytes())] {
-            let path = Path::new(folder).join(format!("{name}.{ending}"));
-            let found = fs::read(&path).map_err(|e| format!("{}: {e}", path.display()))?;
-            if found != bytes {
-                return Err(format!("{}: differs from what the oracle gives", path.display()));
-            }
+    let files = files();
+    check_files(folder, &files)?;
+    println!("{} traces: as the oracle gives them", files.len() / 2);
+    Ok(())
+}
+
+/// Writes files, each by its name and its bytes.
+pub fn write_files(folder: &str, files: &[(String, Vec<u8>)]) -> Result<(), String> {
+    fs::create_dir_all(folder).map_err(|e| format!("{folder}: {e}"))?;
+    for (name, bytes) in files {
+        let path = Path::new(folder).join(name);
+        fs::write(&path, bytes).map_err(|e| format!("{}: {e}", path.display()))?;
+    }
+    Ok(())
+}
+
+/// Compares what stands in the folder with what would be written; a file too many or too few is a difference. Folders in it are left alone.
+pub fn check_files(folder: &str, files: &[(String, Vec<u8>)]) -> Result<(), String> {
+    for (name, bytes) in files {
+        let path = Path::new(folder).join(name);
+        let found = fs::read(&path).map_err(|e| format!("{}: {e}", path.display()))?;
+        if found != *bytes {
+            return Err(format!("{}: differs from what the oracle gives", path.display()));
         }
     }
-    let files = fs::read_dir(folder).map_err(|e| format!("{folder}: {e}"))?.count();
-    if files != 2 * traces.len() {
-        return Err(format!("{folder}: {files} files, and not two for each of {} traces", traces.len()));
+    let found = fs::read_dir(folder).map_err(|e| format!("{folder}: {e}"))?;
+    let count = found.filter(|entry| entry.as_ref().is_ok_and(|e| !e.path().is_dir())).count();
+    if count != files.len() {
+        return Err(format!("{folder}: {count} files, and not {}", files.len()));
     }
-    println!("{} traces: as the oracle gives them", traces.len());
     Ok(())
 }

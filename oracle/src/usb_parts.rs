@@ -68,6 +68,39 @@ impl SetupFields {
     }
 }
 
+/// Why a packet is malformed (change request 1), the first of these that applies; 0 for a valid one. `validate_packet` has no reason: what is
+/// asked of it is whether a packet whose first byte and length are right is valid, so whether its CRC is.
+pub mod reason {
+    pub const EMPTY: u8 = 1;
+    pub const BAD_PID: u8 = 2;
+    pub const WRONG_LENGTH: u8 = 3;
+    pub const BAD_CRC: u8 = 4;
+}
+
+/// The numbers of `reason`, 0 among them, by name.
+pub const REASONS: [&str; 5] = ["valid", "empty", "bad PID", "wrong length", "bad CRC"];
+
+pub fn reason_of(packet: &[u8]) -> u8 {
+    let Some(first) = packet.first() else { return reason::EMPTY };
+    // USB 2.0, 8.3.1: the high nibble is the complement of the low one, which is the PID; of the sixteen 0 is reserved.
+    let pid = first & 0xF;
+    if first >> 4 != 0xF - pid || pid == 0 {
+        return reason::BAD_PID;
+    }
+    // USB 2.0, table 8-1: SPLIT, PING, and by two bits of the others tokens and SOF, data, handshakes.
+    let lengths = match (pid, pid & 3) {
+        (8, _) => 4..=4,
+        (4, _) | (_, 1) => 3..=3,
+        (_, 3) => 3..=1027,
+        _ => 1..=1,
+    };
+    match validate_packet(packet) {
+        _ if !lengths.contains(&packet.len()) => reason::WRONG_LENGTH,
+        Err(_) => reason::BAD_CRC,
+        Ok(_) => 0,
+    }
+}
+
 /// The source's crc16 is private; the trace maker wants it too.
 pub fn data_crc(bytes: &[u8]) -> u16 {
     crc16(bytes)

@@ -1,7 +1,7 @@
 //! Blocks of records (change request 3) on the oracle. What is expected here is written from documents 01 and 02 by hand.
 
 use oracle::blocks::{Block, block};
-use oracle::calls::{Calls, Mechanism, Rows};
+use oracle::calls::{Calls, Rows};
 use oracle::decoder::machine::Machine;
 use oracle::trace::{Clock, HEADER, Writer};
 
@@ -54,7 +54,7 @@ fn clock() {
     let mut calls = fresh();
     block(&mut calls, Clock::at(1, u64::MAX), &one);
     block(&mut calls, Clock::at(3, 1), &records(|t| t.event(5, 7, 0)));
-    assert_eq!(oracle::calls::words(calls.machine.capture())[3], [0, 1, 1, 3]);
+    assert_eq!(calls.log_words(3), [0, 1, 1, 3]);
 }
 
 /// It stops at the first answer other than 0 and 8, with the tick state of the records before it; their rows remain.

@@ -47,11 +47,11 @@ endpoint 1 0 invalid
 endpoint 2 0 framing
 packet 0 0 0
 packet 1 3 1
-transaction 0 0
-transaction 1 1
-group 0 2 0 start
-group 1 1 0 start
-group 2 1 0 end
+transaction 0 0 0
+transaction 1 1 0
+group 0 2 0 start 0 0
+group 1 1 0 start 1 1
+group 2 1 0 end 1 1
 state 0 IIS
 state 1 ISO
 state 2 IEO
@@ -99,7 +99,7 @@ fn transaction_cases() {
 
 #[test]
 fn short_payloads() {
-    let ends = |text: &str| lines(&list(text), "group").iter().filter(|l| l.ends_with("end")).count();
+    let ends = |text: &str| lines(&list(text), "group").iter().filter(|l| l.contains(" end ")).count();
     assert_eq!(ends("detail 0 1 0 2 64; OUT 0 1; DATA0 *64; ACK; OUT 0 1; DATA1 *63; ACK"), 1);
     assert_eq!(ends("detail 0 1 0 2 64; OUT 0 1; DATA0 *64; ACK; OUT 0 1; DATA1 *64; ACK"), 0);
     assert_eq!(ends("OUT 0 1; DATA0 *64; ACK; OUT 0 1; DATA1 *0; ACK"), 0);
@@ -112,7 +112,7 @@ fn suspended_transactions() {
     assert_eq!(answered("SPLIT start bulk; event 0; ACK"), [0, 0, 8, 0]);
     let rows = list("SPLIT start bulk; event 0; ACK");
     assert_eq!(lines(&rows, "packet"), ["packet 0 0 0", "packet 1 4 1", "packet 2 4 2"]);
-    assert_eq!(lines(&rows, "transaction"), ["transaction 0 0", "transaction 1 1"]);
+    assert_eq!(lines(&rows, "transaction"), ["transaction 0 0 0", "transaction 1 1 0"]);
     // A keepalive suspends and the packet resumes; a second keepalive with no packet between forgets the transaction.
     assert!(lines(&list("IN 0 1; event 0; NAK"), "link T 3").len() == 2);
     assert!(after("IN 0 1; event 0; event 0").machine.view().expect("a decoder").suspended.is_none());
@@ -228,8 +228,8 @@ fn refused_calls_change_nothing() {
     while let Some(record) = reader.next() {
         call(&mut calls, &mut clock, &record.expect("a record"));
     }
-    let rows = oracle::listing::rows(calls.machine.capture());
-    let without = oracle::listing::rows(after("IN 0 1; DATA0 *8; ACK").machine.capture());
+    let rows = oracle::listing::rows(&calls);
+    let without = oracle::listing::rows(&after("IN 0 1; DATA0 *8; ACK"));
     assert_eq!(rows.replace("packet 1 3 2", "packet 1 3 1").replace("packet 2 14 4", "packet 2 14 2"), without);
 }
 

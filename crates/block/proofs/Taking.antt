@@ -1,7 +1,7 @@
--- The laws of the block's loop: what holds before each run of packets, and how that run and the record behind it carry it on.
+-- The laws of the block's loop: what one round is, what holds before each, and how the round carries it on.
 use Prim.Native.Nat.{ℕ, _+_, _≤_, _<_}
 use native.Mathlib.Omega.{arith}
-use mathlib.Core.Bool.{Bool, true, false, not, _&&_}
+use mathlib.Core.Bool.{Bool, true, false, not, cond, _&&_, false≢true, true≢false}
 use mathlib.Core.List.{List}
 use mathlib.Core.Path.{_≡_, refl, sym, ap, subst, _∙_}
 use borrow.Author.Tests.{not-true}
@@ -10,16 +10,20 @@ use lib.ListN.{length}
 use Rattle.rows.specs.One.{one}
 use Rattle.record.specs.Bools.{both}
 use Rattle.record.specs.declared.Counts.{Counts}
+use Rattle.record.specs.declared.Decoder.{Decoder}
+use Rattle.details.specs.declared.Device.{Device}
 use Rattle.trace.specs.declared.clock.Clock.{Clock}
 use Rattle.call.specs.State.{Logs, State, state, roomOf}
 use Rattle.call.specs.StateLaws.{SameSizes}
-use Rattle.sound.specs.Sound.{soundIn, isSound}
-use Rattle.step.specs.Block.{Stand, Takes}
+use Rattle.sound.specs.Sound.{soundIn}
+use Rattle.step.specs.Block.{Stand, stand, Takes}
 use Rattle.step.specs.Step.{leftBy, Steps}
+use Rattle.step.specs.declared.Stepped.{Stepped}
 use Rattle.stream.specs.Leads.{Fits, Leads, ranBy, Runs}
 use Rattle.stream.specs.declared.Run.{Run}
-use Rattle.step.specs.declared.Stepped.{Stepped}
-use Rattle.stream.proofs.Leading.{leads-start, leads-one, leads-then, leads-over, eight-small}
+use Rattle.stream.proofs.Leading.{leads-start, leads-one, leads-then, leads-over}
+use Rattle.block.specs.Round.{noneYet, goneOn, halted, withStep, withRound, takenOf, Rounds}
+use Rattle.block.specs.declared.Taken.{Taken}
 
 -- the test of a block, as the code makes it
 pub fits-by : (s : State) {b : Bool} {room : Counts} → room ≡ roomOf (s .logs) → b ≡ soundIn (s .decoder) (s .devices) (s .table) room → Fits (b && not (s .decoder .finished)) s
@@ -29,47 +33,85 @@ fits-by s {b} {room} r q =
       unfinished = λ e. not-true _ (both b _ e .1);
     }
 
-pub record Taking (b : Bool) (t : List ℕ) (at₀ : ℕ) (c₀ : Clock) (s₀ : Stand) (n e at : ℕ) (c : Clock) (s : Stand) : Type 0 where
-  pub leads : Leads t at₀ c₀ s₀ n e at c s
-  pub sizes : SameSizes (s₀ .state .logs) (s .state .logs)
-  pub fits : Fits b (s .state)
+-- ---- one round
 
-pub taking-start : {b : Bool} (t : List ℕ) (at : ℕ) (c : Clock) (s : Stand) → Fits b (s .state) → Taking b t at c s 0 0 at c s
-taking-start t at c s f = record { leads = leads-start t at c s; sizes = λ k u. refl; fits = f }
+-- the packets with the record behind them, as the code puts them together
+module _ (p : Run) (q : Stepped) where
+  pub step-halts : q .going ≡ false → halted p q ≡ withStep p q
+  step-halts e = ap (λ (b : Bool). cond b (goneOn p q) (halted p q)) (sym e)
 
-module _ {b : Bool} {t : List ℕ} {at₀ n e at : ℕ} {c₀ c : Clock} {s₀ s : Stand} (g : Taking b t at₀ c₀ s₀ n e at c s) {r : Run} {table : List ℕ} {l : Logs} {h₁ : List ℕ} (p : Runs t at c s r table l h₁) where
-  -- the counts stay below the place
-  pub taking-counts : (n + r .taken ≤ r .place) × (e + r .eights ≤ r .place)
-  taking-counts = (omega (arith, g .leads .few, p .counted .0), omega (arith, g .leads .few, g .leads .eights, p .counted .0, p .counted .1))
+  pub step-goes : {u : ℕ} → q .going ≡ true → u ≡ one (eqb (q .answer) 8)
+      → record { going = true; answer = 0; taken = p .taken + 1; eights = p .eights + u; place = q .next; clock = q .clock; decoder = q .decoder; devices = q .devices } ≡ withStep p q
+  step-goes e h =
+      (λ i. record { going = true; answer = 0; taken = p .taken + 1; eights = p .eights + h i; place = q .next; clock = q .clock; decoder = q .decoder; devices = q .devices })
+      ∙ ap (λ (b : Bool). cond b (goneOn p q) (halted p q)) (sym e)
 
+module _ {t : List ℕ} {at : ℕ} {c : Clock} {s : Stand} {r : Run} {table : List ℕ} {l : Logs} {h₁ : List ℕ} (p : Runs t at c s r table l h₁) where
   -- a packet was refused
-  pub taking-stops : r .going ≡ false → Takes t at₀ c₀ s₀ (n + r .taken) (e + r .eights) (r .answer) (r .place) (r .clock) (ranBy r table l h₁)
-  taking-stops h = g .leads .rest (p .over h)
+  pub round-stops : r .going ≡ false → Rounds t at c s r table l h₁
+  round-stops e = record { runs = p; further = λ g. absurd (true≢false (sym g ∙ e)) }
 
-  module _ (h : r .going ≡ true) where
-    led : Leads t at₀ c₀ s₀ (n + r .taken) (e + r .eights) (r .place) (r .clock) (ranBy r table l h₁)
-    led = leads-then (g .leads) (p .leads h)
+  module _ (e : r .going ≡ true) {q : Stepped} {table′ : List ℕ} {l′ : Logs} {h₂ : List ℕ} (x : Steps t (r .place) (r .clock) (ranBy r table l h₁) q table′ l′ h₂) where
+    stepped : (b : Bool) → q .going ≡ b → Rounds t at c s (cond b (goneOn r q) (halted r q)) table′ l′ h₂
+    stepped true k =
+        let f = x .goes k .further in
+        let o = leads-then (p .leads e) (leads-one (x .goes k)) in
+        record {
+          runs = record { leads = λ g. o; over = λ g. absurd (true≢false g); counted = (o .few, o .eights) };
+          further = λ g. (omega (arith, p .counted .0, f .0), f .1);
+        }
+    stepped false k =
+        record {
+          runs = record { leads = λ g. absurd (false≢true g); over = λ g. leads-over (p .leads e) (x .over k); counted = p .counted };
+          further = λ g. absurd (false≢true g);
+        }
 
-    module _ {q : Stepped} {table′ : List ℕ} {l′ : Logs} {h₂ : List ℕ} (x : Steps t (r .place) (r .clock) (ranBy r table l h₁) q table′ l′ h₂) where
-      -- the record behind the packets was refused, or there is none
-      pub taking-ends : q .going ≡ false → Takes t at₀ c₀ s₀ (n + r .taken) (e + r .eights) (q .answer) (r .place) (r .clock) (leftBy q table′ l′ h₂)
-      taking-ends k = leads-over led (x .over k)
+    -- the counts go no further than the bytes
+    pub round-few : q .going ≡ true → (r .taken + 1 ≤ length t) × (r .eights + 1 ≤ length t)
+    round-few k =
+        let f = x .goes k .further in
+        (omega (arith, p .counted .0, f .0, f .1), omega (arith, p .counted .0, p .counted .1, f .0, f .1))
 
-      module _ (k : q .going ≡ true) where
-        pub taking-further : (at < q .next) × (q .next ≤ length t)
-        taking-further = let f = x .goes k .further in (omega (arith, p .counted .0, f .0), f .1)
+    pub round-goes : {u : Run} → u ≡ withStep r q → Rounds t at c s u table′ l′ h₂
+    round-goes v = subst (λ (u : Run). Rounds t at c s u table′ l′ h₂) (sym v) (stepped (q .going) refl)
 
-        pub taking-more-counts : (n + r .taken + 1 ≤ length t) × (e + r .eights + 1 ≤ length t)
-        taking-more-counts =
-            let f = x .goes k .further in
-            let m = taking-counts in
-            (omega (arith, m .0, f .0, f .1), omega (arith, m .1, f .0, f .1))
+-- ---- the rounds
 
-        pub taking-more : {u : ℕ} → u ≡ one (eqb (q .answer) 8) → SameSizes (s .state .logs) l → SameSizes l l′ → Taking b t at₀ c₀ s₀ (n + r .taken + 1) (e + r .eights + u) (q .next) (q .clock) (leftBy q table′ l′ h₂)
-        taking-more {u} v y z =
-            let o = leads-one (x .goes k) in
-            record {
-              leads = leads-then led (subst (λ (f : ℕ). Leads t (r .place) (r .clock) (ranBy r table l h₁) 1 f (q .next) (q .clock) (leftBy q table′ l′ h₂)) (sym v) o);
-              sizes = λ j w. z j w ∙ (y j w ∙ g .sizes j w);
-              fits = o .fits b (p .leads h .fits b (g .fits));
-            }
+pub record Taking (b : Bool) (t : List ℕ) (at : ℕ) (c : Clock) (s : Stand) (r : Run) (table : List ℕ) (l : Logs) (h : List ℕ) : Type 0 where
+  pub leads : Leads t at c s (r .taken) (r .eights) (r .place) (r .clock) (ranBy r table l h)
+  pub sizes : SameSizes (s .state .logs) l
+  pub fits : Fits b (ranBy r table l h .state)
+
+-- before the first round
+module _ {t : List ℕ} {at : ℕ} {c : Clock} {d : Decoder} {v : List Device} {r : Run} (e : r ≡ noneYet d v c at) (table : List ℕ) (l : Logs) (h : List ℕ) where
+  pub taking-start : {b : Bool} → Fits b (state d v table l) → Taking b t (r .place) (r .clock) (ranBy r table l h) r table l h
+  taking-start {b} f =
+      subst (λ (u : Run). Taking b t (u .place) (u .clock) (ranBy u table l h) u table l h) (sym e)
+      (record { leads = leads-start t at c (stand (state d v table l) h); sizes = λ k u. refl; fits = f })
+
+  pub taken-from : {n f a p : ℕ} {c′ : Clock} {s′ : Stand} → Takes t (r .place) (r .clock) (ranBy r table l h) n f a p c′ s′ → Takes t at c (stand (state d v table l) h) n f a p c′ s′
+  taken-from {n} {f} {a} {p} {c′} {s′} x = subst (λ (u : Run). Takes t (u .place) (u .clock) (ranBy u table l h) n f a p c′ s′) e x
+
+module _ {b : Bool} {t : List ℕ} {at : ℕ} {c : Clock} {s : Stand} {r : Run} {table : List ℕ} {l : Logs} {h₁ : List ℕ} (g : Taking b t at c s r table l h₁) {m : Run} {table′ : List ℕ} {l′ : Logs} {h₂ : List ℕ} (x : Rounds t (r .place) (r .clock) (ranBy r table l h₁) m table′ l′ h₂) where
+  -- the counts stay below the place
+  pub taking-counts : (r .taken + m .taken ≤ m .place) × (r .eights + m .eights ≤ m .place)
+  taking-counts =
+      let k = x .runs .counted in
+      (omega (arith, g .leads .few, k .0), omega (arith, g .leads .few, g .leads .eights, k .0, k .1))
+
+  module _ {u : Run} (v : u ≡ withRound r m) where
+    -- a record was refused, or there is none
+    pub taking-stops : u .going ≡ false → {y : Taken} → y ≡ takenOf u → Takes t at c s (y .taken) (y .eights) (y .answer) (y .place) (y .clock) (stand (state (y .decoder) (y .devices) table′ l′) h₂)
+    taking-stops e w =
+        subst (λ (y : Taken). Takes t at c s (y .taken) (y .eights) (y .answer) (y .place) (y .clock) (stand (state (y .decoder) (y .devices) table′ l′) h₂)) (sym w)
+        (subst (λ (u : Run). u .going ≡ false → Takes t at c s (u .taken) (u .eights) (u .answer) (u .place) (u .clock) (ranBy u table′ l′ h₂)) (sym v) (λ k. g .leads .rest (x .runs .over k)) e)
+
+    module _ (e : u .going ≡ true) where
+      pub taking-further : (r .place < u .place) × (u .place ≤ length t)
+      taking-further = subst (λ (u : Run). u .going ≡ true → (r .place < u .place) × (u .place ≤ length t)) (sym v) (x .further) e
+
+      pub taking-more : SameSizes l l′ → Taking b t at c s u table′ l′ h₂
+      taking-more z =
+          subst (λ (u : Run). u .going ≡ true → Taking b t at c s u table′ l′ h₂) (sym v)
+          (λ k. let o = x .runs .leads k in record { leads = leads-then (g .leads) o; sizes = λ j w. z j w ∙ g .sizes j w; fits = o .fits b (g .fits) })
+          e

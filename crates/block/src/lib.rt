@@ -1,15 +1,17 @@
 // A block of records in one call (02, change request 3): what the records give one by one, with the record tested once.
+mod round;
+
+use crate::round::none_yet;
+use crate::round::round;
+use crate::round::taken_of;
+use crate::round::with_round;
 use call::room_of;
 use details::Device;
 use endpoints::Table;
 use record::Decoder;
 use shelving::Shelf;
-use single::single_step;
 use sound::is_sound;
-use step::eight;
-use stream::run_packets;
 use trace::clock::Clock;
-use trace::reader::record_at;
 ghost use mathlib.Core.Path.{_≡_};
 ghost use Rattle.call.specs.State.{state, logs};
 ghost use Rattle.step.specs.Block.{stand, Takes};
@@ -69,20 +71,12 @@ pub fn records(
     );
     let sound = is_sound(d, devices, table, room);
     let ready = sound & !d.finished;
-    let mut decoder = d;
-    let mut devices = devices;
-    let mut clock = clock;
-    let mut at = at;
-    let mut taken: usize = 0;
-    let mut eights: usize = 0;
+    let mut run = none_yet(d, devices, clock, at);
     loop {
-        let p = run_packets(
+        let more = round(
             ready,
-            decoder,
-            devices,
-            clock,
+            run,
             records,
-            at,
             table,
             bytes,
             device_rows,
@@ -98,64 +92,10 @@ pub fn records(
             requests,
             shelf,
         );
-        taken += p.taken;
-        eights += p.eights;
-        let place = p.place;
-        let ticked = p.clock;
-        let left = p.decoder;
-        let kept = p.devices;
-        if !p.going {
-            return Taken {
-                answer: p.answer,
-                taken,
-                eights,
-                place,
-                clock: ticked,
-                decoder: left,
-                devices: kept,
-            };
+        run = with_round(run, more);
+        if !run.going {
+            return taken_of(run);
         }
-        let r = single_step(
-            record_at(records, place),
-            records,
-            place,
-            ticked,
-            left,
-            kept,
-            table,
-            bytes,
-            device_rows,
-            endpoint_rows,
-            packets,
-            events,
-            transactions,
-            groups,
-            statebytes,
-            states,
-            items,
-            links,
-            requests,
-            shelf,
-        );
-        let next = r.decoder;
-        let rest = r.devices;
-        if !r.going {
-            return Taken {
-                answer: r.answer,
-                taken,
-                eights,
-                place,
-                clock: ticked,
-                decoder: next,
-                devices: rest,
-            };
-        }
-        clock = r.clock;
-        decoder = next;
-        devices = rest;
-        at = r.next;
-        taken += 1;
-        eights += eight(r.answer);
     }
 }
 

@@ -77,6 +77,7 @@ decoderOf n finished w =
       keepalive = w .keepalive;
       waiting = waitingOf w;
       finished = finished;
+      time = w .context .time;
     }
 
 -- a row for each device of the world, the others as they were

@@ -1,6 +1,6 @@
 -- Inner (cited by private contracts alone): what the code of several calls shares: the first tests, where a call begins to write, the transaction's T row, and
 -- what is known of lent words.
-use Prim.Native.Nat.{ℕ, _^_, _<_}
+use Prim.Native.Nat.{ℕ, pred, _^_, _<_}
 use mathlib.Core.Bool.{cond, not, _||_}
 use mathlib.Core.List.{List}
 use lib.Dec.{ltb}
@@ -9,6 +9,7 @@ use lib.ListN.{length, getD}
 use Rattle.endpoints.specs.Word as word
 use Rattle.details.specs.declared.Device.{Device}
 use Rattle.transaction.specs.declared.Transaction.{Transaction}
+use Rattle.rules.specs.World.{stamp, lastOf}
 use Rattle.rules.specs.declared.Stamp.{Stamp}
 use Rattle.endpoints.specs.Table.{firstAt}
 use Rattle.write.specs.declared.Firsts.{Firsts}
@@ -26,10 +27,14 @@ firstTests d v t room n most a = cond (long room || not (wellFormed d v t room))
 abbrev pub firstsOf : List ℕ → Firsts
 firstsOf t = record { groups = firstAt 6 t; statebytes = firstAt 7 t; items = firstAt 9 t }
 
+-- what finish brings: the last packet row, or zeros where there is none (02, 9)
+abbrev pub lastStamp : Decoder → Stamp
+lastStamp d = lastOf (d .counts .packets) (stamp (pred (d .counts .packets)) (d .time) 0)
+
 -- where a call begins to write, and what it brings: n rows are held
 abbrev pub writtenOf : Stamp → Counts → Decoder → List ℕ → Written
-writtenOf stamp n d t =
-    record { stamp = stamp; firsts = firstsOf t; groups = n .groups; statebytes = n .statebytes; states = n .states; items = n .items; links = n .links; last = d .last; linked = d .transaction .linked; link = d .transaction .link }
+writtenOf c n d t =
+    record { stamp = c; firsts = firstsOf t; groups = n .groups; statebytes = n .statebytes; states = n .states; items = n .items; links = n .links; last = d .last; linked = d .transaction .linked; link = d .transaction .link }
 
 -- a transaction with the T row that it has by now
 abbrev pub tied : Transaction → Written → Transaction

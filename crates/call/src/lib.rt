@@ -13,12 +13,13 @@ use rules::Stamp;
 use transaction::Transaction;
 use write::Firsts;
 use write::Written;
+use write::leaf::last;
 ghost use mathlib.Core.Path.{_≡_};
 ghost use mathlib.Core.Bool.{not, _||_};
 ghost use Rattle.rules.specs.World.{stamp};
 ghost use Rattle.record.specs.Formed.{wellFormed};
 ghost use Rattle.record.specs.Room.{long};
-ghost use Rattle.call.specs.Share.{Words, Bytes, Known, firstTests, firstsOf, writtenOf, tied};
+ghost use Rattle.call.specs.Share.{Words, Bytes, Known, firstTests, lastStamp, firstsOf, writtenOf, tied};
 ghost use Rattle.call.specs.State.{roomBy};
 
 // What a call gives back; the endpoint table and the logs are lent.
@@ -94,20 +95,34 @@ pub fn first_tests(
 }
 
 // What a call with a packet row brings: that row is the next one.
-pub fn stamp_of(n: Counts, time: u64) -> Stamp
-    ensures { λ r. ⌜ r ≡ stamp (n .packets) time ⌝ }
+pub fn stamp_of(n: Counts, time: u64, reason: u8) -> Stamp
+    ensures { λ r. ⌜ r ≡ stamp (n .packets) time reason ⌝ }
 {
     Stamp {
         packet: n.packets as u64,
         time,
+        reason: reason as u64,
     }
 }
 
-// What finish brings: it has no packet row.
-pub fn no_stamp() -> Stamp
-    ensures { λ r. ⌜ r ≡ stamp 0 0 ⌝ }
+// What finish brings: the last packet row, or zeros where there is none.
+pub fn last_stamp(d: Decoder) -> Stamp
+    ensures { λ r. ⌜ r ≡ lastStamp d ⌝ }
 {
-    Stamp { packet: 0, time: 0 }
+    let n = d.counts;
+    let packets = n.packets as u64;
+    if packets == 0 {
+        return Stamp {
+            packet: 0,
+            time: 0,
+            reason: 0,
+        };
+    }
+    Stamp {
+        packet: last(packets),
+        time: d.time,
+        reason: 0,
+    }
 }
 
 // The first numbers of the logs whose rows other rows name.

@@ -89,11 +89,11 @@ module _ (j : Judged) (x0 : ℕ) (e : Endpoint) (t : Transaction) (packet : List
       → close ≡ endIf (over && not (eqb (m .begin .transaction .endpoint) 0)) (closeWords m last success complete) (m .entry)
       → slot ≡ slotAfter (j .status) (w .slot)
       → _≡_ {A = Plan}
-      (record { resumes = suspended; resume = resume; ends = new && not (eqb x0 0); old = x0; brought = b; end = end; begin = m .begin; closes = over && not (eqb (m .begin .transaction .endpoint) 0); close = close; slot = slot })
+      (record { resumes = suspended; resume = resume; ends = new && not (eqb x0 0); old = x0; brought = b; end = end; begin = m .begin; closes = over && not (eqb (m .begin .transaction .endpoint) 0); close = close; slot = slot; reason = j .reason })
       (planWords (planBy j x0 e t packet w))
   unfolding planBy planWords
   planned {eh} {setup} {b} {end} {new} {token} {e0} {last} {n} {m} {suspended} {resume} {over} {success} {complete} {close} {slot} p0 p1 p2 p3 p4 p5 p6 p7 p8 p9 p10 p11 p12 p13 p14 p15 p16 =
-      λ i. record { resumes = p10 i; resume = p11 i; ends = new-is i; old = x0; brought = brought-is i; end = end-is i; begin = middle-is i .begin; closes = closes-is i; close = close-is i; slot = p16 i }
+      λ i. record { resumes = p10 i; resume = p11 i; ends = new-is i; old = x0; brought = brought-is i; end = end-is i; begin = middle-is i .begin; closes = closes-is i; close = close-is i; slot = p16 i; reason = j .reason }
     where
       brought-is : b ≡ brought
       brought-is = p2 ∙ ap (extractPayload t (j .pid) (length packet)) p1

@@ -130,6 +130,7 @@ fn plan_by(
             completes_by(status, style),
         ),
         slot: slot_by(status, slot),
+        reason: j.reason,
     }
 }
 

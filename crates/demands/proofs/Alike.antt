@@ -7,14 +7,17 @@ use mathlib.Core.List.{List, [], _∷_}
 use lib.ListN.{length, take, drop, set, getD, length-set}
 use lib.Seq.{sets, take-nil, take-take}
 use Rattle.usb.specs.Fields.{setupOf}
+use Rattle.usb.specs.declared.fields.Setup.{Setup}
 use Rattle.transaction.specs.Table.{pick}
 use Rattle.details.specs.declared.Device.{Device}
 use Rattle.descriptors.specs.Chosen.{chosenAfter}
-use Rattle.descriptors.specs.Complete.{payloadFor, entriesFor, noteOf, deviceAfter, countAfter, rowWith, rowAfter, noteBy, rowBy}
+use Rattle.descriptors.specs.Complete.{payloadFor, entriesFor, noteOf, deviceAfter, countAfter, shelfAfter, rowWith, rowAfter, noteBy, rowBy, shelfBy}
 use Rattle.descriptors.specs.Kind.{kindOf}
-use Rattle.descriptors.specs.Laid.{laid}
+use Rattle.descriptors.specs.Laid.{isLaid, laid}
 use Rattle.descriptors.specs.Store.{chunks}
 use Rattle.descriptors.specs.declared.complete.Asked.{Asked}
+use Rattle.descriptors.specs.declared.request.Kind.{Kind}
+use Rattle.descriptors.specs.declared.request.Kind.the-variants.{DeviceRead, ConfigurationRead, SetConfiguration, SetInterface, Other}
 use Rattle.demands.specs.Shelf.{Agree}
 
 pub fewer : (at m n : ℕ) (h g : List ℕ) → m ≤ n → Agree at n h g → Agree at m h g
@@ -70,23 +73,69 @@ chunks-agree (suc n) h g e =
 
 -- ---- a request that completes
 
--- the bytes that count, and the entries that are kept
+-- the bytes that count, where they are a read's, and the entries that are kept
 pub record Asks (a : Asked) (h g : List ℕ) : Type 0 where
-  pub payload : Agree (a .start) (min (a .length) 4096) h g
+  pub payload : isLaid (kindOf (a .setup)) ≡ true → Agree (a .start) (min (a .length) 4096) h g
   pub entries : Agree (a .start + 4096) (min (a .kept) 585 * 7) h g
 
+-- no request but a read looks at its payload
+module _ (u : Setup) (chosen : ℕ) (es : List (List ℕ)) where
+  note-unread : (k : Kind) (p q : List ℕ) → (isLaid k ≡ true → p ≡ q) → noteOf k u chosen p es ≡ noteOf k u chosen q es
+  unfolding noteOf
+  note-unread DeviceRead p q e = ap (λ (x : List ℕ). noteOf DeviceRead u chosen x es) (e refl)
+  note-unread ConfigurationRead p q e = ap (λ (x : List ℕ). noteOf ConfigurationRead u chosen x es) (e refl)
+  note-unread SetConfiguration p q e = refl
+  note-unread SetInterface p q e = refl
+  note-unread Other p q e = refl
+
+  device-unread : (k : Kind) (d : Device) (p q : List ℕ) → (isLaid k ≡ true → p ≡ q) → deviceAfter k u chosen p es d ≡ deviceAfter k u chosen q es d
+  unfolding deviceAfter
+  device-unread DeviceRead d p q e = ap (λ (x : List ℕ). deviceAfter DeviceRead u chosen x es d) (e refl)
+  device-unread ConfigurationRead d p q e = refl
+  device-unread SetConfiguration d p q e = refl
+  device-unread SetInterface d p q e = refl
+  device-unread Other d p q e = refl
+
+count-unread : (k : Kind) (p q : List ℕ) (es : List (List ℕ)) (kept : ℕ) → (isLaid k ≡ true → p ≡ q) → countAfter k p es kept ≡ countAfter k q es kept
+unfolding countAfter
+count-unread DeviceRead p q es kept e = refl
+count-unread ConfigurationRead p q es kept e = ap (λ (x : List ℕ). countAfter ConfigurationRead x es kept) (e refl)
+count-unread SetConfiguration p q es kept e = refl
+count-unread SetInterface p q es kept e = refl
+count-unread Other p q es kept e = refl
+
+stored-unread : (k : Kind) (start : ℕ) (p q : List ℕ) (es : List (List ℕ)) (g : List ℕ) → (isLaid k ≡ true → p ≡ q) → shelfAfter k start p es g ≡ shelfAfter k start q es g
+unfolding shelfAfter
+stored-unread DeviceRead start p q es g e = refl
+stored-unread ConfigurationRead start p q es g e = ap (λ (x : List ℕ). shelfAfter ConfigurationRead start x es g) (e refl)
+stored-unread SetConfiguration start p q es g e = refl
+stored-unread SetInterface start p q es g e = refl
+stored-unread Other start p q es g e = refl
+
 module _ (a : Asked) (h g : List ℕ) (s : Asks a h g) where
+  abbrev kind : Kind
+  kind = kindOf (a .setup)
+
+  abbrev setup : Setup
+  setup = setupOf (a .setup)
+
   entries-same : entriesFor a h ≡ entriesFor a g
   entries-same = chunks-agree (min (a .kept) 585) (drop (a .start + 4096) h) (drop (a .start + 4096) g) (s .entries)
 
   pub note-same : noteBy a h ≡ noteBy a g
-  note-same = let p = s .payload in let e = entries-same in λ i. noteOf (kindOf (a .setup)) (setupOf (a .setup)) (a .chosen) (p i) (e i)
+  note-same =
+      note-unread setup (a .chosen) (entriesFor a h) kind (payloadFor a h) (payloadFor a g) (s .payload)
+      ∙ ap (noteOf kind setup (a .chosen) (payloadFor a g)) entries-same
 
   pub row-same : (d : Device) → rowBy a h d ≡ rowBy a g d
   unfolding rowAfter
   row-same d =
-      let k = kindOf (a .setup) in
-      let u = setupOf (a .setup) in
-      let p = s .payload in
-      let e = entries-same in
-      λ i. rowWith (record { note = noteOf k u (a .chosen) (p i) (e i); kept = countAfter k (p i) (e i) (a .kept); chosen = chosenAfter k u (a .chosen) }) (deviceAfter k u (a .chosen) (p i) (e i) d)
+      let n = note-same in
+      let k = count-unread kind (payloadFor a h) (payloadFor a g) (entriesFor a h) (a .kept) (s .payload) ∙ ap (λ (es : List (List ℕ)). countAfter kind (payloadFor a g) es (a .kept)) entries-same in
+      let v = device-unread setup (a .chosen) (entriesFor a h) kind d (payloadFor a h) (payloadFor a g) (s .payload) ∙ ap (λ (es : List (List ℕ)). deviceAfter kind setup (a .chosen) (payloadFor a g) es d) entries-same in
+      λ i. rowWith (record { note = n i; kept = k i; chosen = chosenAfter kind setup (a .chosen) }) (v i)
+
+  -- what it stores on one it stores on the other
+  pub shelf-same : shelfBy a g ≡ shelfAfter kind (a .start) (payloadFor a h) (entriesFor a h) g
+  shelf-same =
+      sym (stored-unread kind (a .start) (payloadFor a h) (payloadFor a g) (entriesFor a h) g (s .payload) ∙ ap (λ (es : List (List ℕ)). shelfAfter kind (a .start) (payloadFor a g) es g) entries-same)

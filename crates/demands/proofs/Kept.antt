@@ -36,7 +36,7 @@ use Rattle.demands.proofs.Told.{began, counts-left, told-then, told-mad
 abbrev pub Blank : ℕ → List ℕ → Type 0
 Blank n t = (i : ℕ) → n * word.width ≤ i → getD t i 0 ≡ 0
 
-blank-entry : (n : ℕ) (t : List ℕ) (e : ℕ) → Blank n t → n ≤ e → entryAt t e ≡ newEndpoint 0 0
+pub blank-entry : (n : ℕ) (t : List ℕ) (e : ℕ) → Blank n t → n ≤ e → entryAt t e ≡ newEndpoint 0 0
 unfolding entryAt
 blank-entry n t e b h = entry-ext (λ k. 0) (wordAt t e) (λ k l. b (e * word.width + k) (omega arith))
 

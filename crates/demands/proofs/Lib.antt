@@ -8,3 +8,4 @@ pub mod Alike
 pub mod Unread
 pub mod Asked
 pub mod Shelves
+pub mod Reasons

@@ -65,7 +65,7 @@ module _ (packet : List ℕ) (time : ℕ) (v : World) (g : List ℕ) where
         let a = askedAt (plan .close .entry .setup) n d (deviceBegun packet time v d) in
         let known : Asks a (v .shelf) g =
         record {
-          payload = subst (λ (m : ℕ). Agree (d * 8192) (min m 4096) (v .shelf) g) l (payload (ap asks q));
+          payload = λ r. subst (λ (m : ℕ). Agree (d * 8192) (min m 4096) (v .shelf) g) l (payload (ap asks q));
           entries = fewer (d * 8192 + 4096) (min (deviceBegun packet time v d .kept) 585 * 7) (min (v .devices d .kept) 585 * 7) (v .shelf) g (omega arith) (entries d);
         } in
         subst (λ (b : Asked). Asks b (world4 plan packet time v .shelf) g) (sym (closing-asked packet time v n))
@@ -161,16 +161,20 @@ answers-shelf {q} {r} {f} {s} {a} {s′} z w e x =
     let y : Answers r (withShelf z w) f s a s′ = subst (λ (t : Tests). Answers t (withShelf z w) f s a s′) e x in
     record { answer = y .answer; left = λ h. left-shelf z w (y .left h); kept = y .kept }
 
+-- so two calls that leave worlds which differ in their shelves alone leave the same state, with the same answer
+module _ (packet : List ℕ) (time : ℕ) (s : State) (h g : List ℕ) (t : Twin (after packet time s h) (after packet time s g)) where
+  abbrev testsFrom : World → Tests
+  testsFrom v = packetTests (isIll s) (s .decoder .finished) (length packet) (isFull s v) (isOver v) (isDropped (s .decoder .slot) (s .decoder .transaction))
+
+  pub twins-answer : (a b : ℕ) (s′ s″ : State) (h′ g′ : List ℕ) → PacketCall packet time s h a s′ h′ → PacketCall packet time s g b s″ g′ → (a ≡ b) × (s′ ≡ s″)
+  twins-answer a b s′ s″ h′ g′ x y =
+      let w = after packet time s h in
+      let full = full-shelf s (t .shelf) w in
+      let over = over-shelf (t .shelf) w in
+      let moved : Answers (testsFrom (withShelf (t .shelf) w)) (withShelf (t .shelf) w) (s .decoder .finished) s b s″ =
+      subst (λ (v : World). Answers (testsFrom v) v (s .decoder .finished) s b s″) (t .same) (y .answers) in
+      let same : testsFrom (withShelf (t .shelf) w) ≡ testsFrom w = λ i. packetTests (isIll s) (s .decoder .finished) (length packet) (full i) (over i) (isDropped (s .decoder .slot) (s .decoder .transaction)) in
+      unique (x .answers) (answers-shelf (t .shelf) w same moved)
+
 pub packet-reads : Reads
-packet-reads packet time s h g a b s′ s″ h′ g′ k x y =
-    let t = packet-twin packet time (worldAt s) h g k in
-    let w = after packet time s h in
-    let full = full-shelf s (t .shelf) w in
-    let over = over-shelf (t .shelf) w in
-    let moved : Answers (testsFrom (withShelf (t .shelf) w)) (withShelf (t .shelf) w) (s .decoder .finished) s b s″ =
-    subst (λ (v : World). Answers (testsFrom v) v (s .decoder .finished) s b s″) (t .same) (y .answers) in
-    let same : testsFrom (withShelf (t .shelf) w) ≡ testsFrom w = λ i. packetTests (isIll s) (s .decoder .finished) (length packet) (full i) (over i) (isDropped (s .decoder .slot) (s .decoder .transaction)) in
-    unique (x .answers) (answers-shelf (t .shelf) w same moved)
-  where
-    testsFrom : World → Tests
-    testsFrom v = packetTests (isIll s) (s .decoder .finished) (length packet) (isFull s v) (isOver v) (isDropped (s .decoder .slot) (s .decoder .transaction))
+packet-reads packet time s h g a b s′ s″ h′ g′ k x y = twins-answer packet time s h g (packet-twin packet time (worldAt s) h g k) a b s′ s″ h′ g′ x y

@@ -10,7 +10,7 @@ use Rattle.descriptors.specs.Complete.{shelfBy}
 use Rattle.rules.specs.Rows.{RequestRow, asking}
 use Rattle.rules.specs.World.{World, push, change, changeDevice, withTransaction, withShelf}
 use Rattle.rules.specs.Endpoints.{addDevice, pushEndpoint, typed}
-use Rattle.rules.specs.Groups.{askedOf, effectStep, becomes}
+use Rattle.rules.specs.Groups.{askedOf, decodeRequest, effectStep, becomes}
 use Rattle.rules.specs.Transactions.{pushTransaction}
 use Rattle.update.specs.Update.{when, become, act}
 use Rattle.update.specs.declared.Then.{Then}
@@ -38,7 +38,7 @@ module _ (g : List ℕ) where
   become-past x Last w = refl
   become-past x BeginEarly w = refl
 
-  act-shelf : (u : Update) (x : ℕ) → Past (withShelf g) (act u x)
+  pub act-shelf : (u : Update) (x : ℕ) → Past (withShelf g) (act u x)
   act-shelf u x = act-past (withShelf g) x (record { over = λ w. refl; cut = λ w. refl; link = λ w. refl; start = λ w. refl; group = become-past x; end = λ w. refl; item = λ w. refl }) u
 
   opened-shelf : (id : ℕ) (s : Beginning) → Past (withShelf g) (opened id s)
@@ -83,17 +83,18 @@ module _ (g : List ℕ) where
 
   -- ---- the effect of one
 
+  -- a request that completes stores on each shelf what it reads there
+  pub request-shelf : (n x : ℕ) (w : World) → Asks (askedOf n x w) (w .shelf) g → decodeRequest n x (withShelf g w) ≡ withShelf (shelfBy (askedOf n x w) g) (decodeRequest n x w)
+  request-shelf n x w h =
+      let a = askedOf n x w in
+      let note = note-same a (w .shelf) g h in
+      let row = row-same a (w .shelf) g h in
+      λ i. withShelf (shelfBy a g) (changeDevice (w .endpoints x .device) (λ d. sym (row d) i) (push (RequestRow (asking x (w .endpoints x .setup) n (sym note i))) w))
+
   effect-twin : (f : Effect) (x : ℕ) (w : World) → ((n : ℕ) → f ≡ Request n → Asks (askedOf n x w) (w .shelf) g) → Twin (effectStep f x w) (effectStep f x (withShelf g w))
   effect-twin NoEffect x w h = record { shelf = g; same = refl }
   effect-twin (NewDevice address) x w h = record { shelf = g; same = refl }
-  effect-twin (Request n) x w h =
-      let a = askedOf n x w in
-      let note = note-same a (w .shelf) g (h n refl) in
-      let row = row-same a (w .shelf) g (h n refl) in
-      record {
-        shelf = shelfBy a g;
-        same = λ i. withShelf (shelfBy a g) (changeDevice (w .endpoints x .device) (λ d. sym (row d) i) (push (RequestRow (asking x (w .endpoints x .setup) n (sym note i))) w));
-      }
+  effect-twin (Request n) x w h = record { shelf = shelfBy (askedOf n x w) g; same = request-shelf n x w (h n refl) }
   effect-twin (PendingData n) x w h = record { shelf = g; same = refl }
   effect-twin (IndexData n waited i) x w h = record { shelf = g; same = refl }
 

@@ -21,7 +21,7 @@ pub enum Phase {
     Ended,
 }
 
-// An endpoint (EndpointData of the Rust): what a call needs to know of it.
+// An endpoint (EndpointData of the Rust): what a call needs to know of it. No byte or flag stands alone before a word (docs/DECISIONS.md, 102).
 pub struct Endpoint {
     // The row of its device, and its number, with 128 more where its direction is In.
     pub device: u64,
@@ -42,11 +42,11 @@ pub struct Endpoint {
     pub success: bool,
     // The setup bytes, first byte lowest, where ready.
     pub ready: bool,
+    // pending_payload: where it waits, the length of the payload and the T row of its transaction, below.
+    pub pending: bool,
     pub setup: u64,
     // The length of the control payload so far.
     pub payload: u64,
-    // pending_payload: where it waits, the length of the payload and the T row of its transaction.
-    pub pending: bool,
     pub pendinglength: u64,
     pub pendinglink: u64,
 }

@@ -6,10 +6,11 @@ use mathlib.Core.Path.{_≡_, refl, sym, ap, _∙_, subst}
 use borrow.Author.Tests.{ne-eqb}
 use native.Mathlib.Omega.{arith}
 use lib.Seq.{sets}
+use Rattle.tally.specs.Suited.{EndingTotals}
 use Rattle.transaction.specs.Payload.{startPid}
 use Rattle.rules.specs.Decoder.{finish}
 use Rattle.rules.specs.Rows.{log}
-use Rattle.rules.specs.World.{World, withSlot, stamp}
+use Rattle.rules.specs.World.{World, withSlot}
 use Rattle.update.specs.Update.{when}
 use Rattle.write.specs.HoldsLaws.{holds-room}
 use Rattle.write.specs.Memory.{Memory}
@@ -24,7 +25,7 @@ use Rattle.record.specs.declared.Decoder.{Decoder}
 use Rattle.call.specs.Outcome.{Left, isIll, isFull, isOver, worldAt}
 use Rattle.call.specs.OutcomeLaws.{refused, accepted}
 use Rattle.call.specs.State.{State, state, logs, roomOf, heldAt}
-use Rattle.call.specs.Share.{Known, writtenOf}
+use Rattle.call.specs.Share.{Known, writtenOf, lastStamp}
 use Rattle.plan.specs.Ending.{slotEnded, endingOf, endPlayed}
 use Rattle.plan.specs.Step.{ended}
 use Rattle.plan.specs.declared.Ending.{Ending}
@@ -40,8 +41,8 @@ use Rattle.events.specs.Call.{finishTestsOf, FinishCall}
 use Rattle.events.specs.Ended.{endedMemory, Endable}
 use Rattle.events.specs.declared.sum.Sum.{Sum}
 use Rattle.events.proofs.Ends.{reached-slot}
-use Rattle.events.proofs.Reached.{worded, firstMemory, memoryAt, space, left-of}
-use Rattle.events.proofs.Sane.{endRows, totalled, formed, end-adds, reached-end, endable}
+use Rattle.events.proofs.Reached.{worded, firstMemory, memoryAt, space, left-of, worldWith}
+use Rattle.events.proofs.Sane.{endRows, totalled, formed, end-adds, reached-end, endable, ending-with}
 
 module _ (s : State) where
   -- the end of its transaction, and what that comes to
@@ -52,15 +53,15 @@ module _ (s : State) where
   sumAt = sumOf (heldAt s) (s .decoder .counts) (tallyEnding endAt (s .decoder .counts .endpoints) (s .decoder .waiting)) (roomOf (s .logs))
 
   abbrev pub endedAt : Memory
-  endedAt = endedMemory endAt (s .decoder .counts .endpoints) (s .decoder .transaction .id) (startPid (s .decoder .transaction .style)) (memoryAt (stamp 0 0) s)
+  endedAt = endedMemory endAt (s .decoder .counts .endpoints) (s .decoder .transaction .id) (startPid (s .decoder .transaction .style)) (memoryAt (lastStamp (s .decoder)) s)
 
 module _ (s : State) (sane : isIll s ≡ false) (known : Known (s .table)) where
   full-is : isFull s (finish (worldAt s)) ≡ not (sumAt s .fits)
   unfolding sumOf
-  full-is = ap (isFull s) (finish-is (worldAt s)) ∙ finish-full-is s (roomOf (s .logs)) (formed s sane)
+  full-is = ap (isFull s) (finish-is (worldAt s)) ∙ finish-full-is (lastStamp (s .decoder)) s (roomOf (s .logs)) (formed s sane)
 
   over-is : isOver (finish (worldAt s)) ≡ false
-  over-is = ap isOver (finish-is (worldAt s)) ∙ ending-over (endAt s) (worldAt s) (ending-totals (worldAt s)) (totalled s known)
+  over-is = ap isOver (finish-is (worldAt s)) ∙ ending-over (endAt s) (worldWith (lastStamp (s .decoder)) s) (subst (λ (a : Ending). EndingTotals a (worldWith (lastStamp (s .decoder)) s)) (ending-with (lastStamp (s .decoder)) s) (ending-totals (worldWith (lastStamp (s .decoder)) s))) (totalled s known)
 
   answer-is : s .decoder .finished ≡ false → (b : Bool) → sumAt s .fits ≡ b → cond b 0 7 ≡ firstOf (finishTestsOf (finish (worldAt s)) s)
   unfolding firstOf
@@ -82,14 +83,14 @@ module _ (s : State) (sane : isIll s ≡ false) (known : Known (s .table)) where
         let l = ending-links (endAt s) (s .decoder .counts .endpoints) (s .decoder .waiting) in
         omega (arith, l, numbered-is (addCounts (s .decoder .counts) t) (both (fitting (addCounts (heldAt s) t) (roomOf (s .logs))) (numbered (addCounts (s .decoder .counts) t)) fits .1) .links)
 
-    pub finish-endable : Endable (endAt s) (s .decoder .counts .endpoints) (s .decoder .transaction .id) (startPid (s .decoder .transaction .style)) (memoryAt (stamp 0 0) s)
+    pub finish-endable : Endable (endAt s) (s .decoder .counts .endpoints) (s .decoder .transaction .id) (startPid (s .decoder .transaction .style)) (memoryAt (lastStamp (s .decoder)) s)
     unfolding sumOf endPlayed
     finish-endable =
-        endable s sane (stamp 0 0) known byte numbers
+        endable s sane (lastStamp (s .decoder)) known byte numbers
         (let t = tallyEnding (endAt s) (s .decoder .counts .endpoints) (s .decoder .waiting) in
         let g = both (fitting (addCounts (heldAt s) t) (roomOf (s .logs))) (numbered (addCounts (s .decoder .counts) t)) fits in
-        holds-room (reached-end s sane (stamp 0 0) known byte numbers .holds) (space (stamp 0 0) s t (endPlayed (endAt s) (worldAt s)) (end-adds s sane (stamp 0 0)) (within _ _ (g .0)))
-        (let z = worded s t (endPlayed (endAt s) (worldAt s)) (end-adds s sane (stamp 0 0)) (numbered-is _ (g .1)) in record { groups = z .groups; statebytes = z .statebytes; items = z .items }))
+        holds-room (reached-end s sane (lastStamp (s .decoder)) known byte numbers .holds) (space (lastStamp (s .decoder)) s t (endPlayed (endAt s) (worldWith (lastStamp (s .decoder)) s)) (end-adds s sane (lastStamp (s .decoder))) (within _ _ (g .0)))
+        (let z = worded s t (endPlayed (endAt s) (worldWith (lastStamp (s .decoder)) s)) (end-adds s sane (lastStamp (s .decoder))) (numbered-is _ (g .1)) in record { groups = z .groups; statebytes = z .statebytes; items = z .items }))
 
     -- the state that it leaves
     abbrev pub finishedState : State
@@ -97,14 +98,14 @@ module _ (s : State) (sane : isIll s ≡ false) (known : Known (s .table)) where
         state (finishedDecoder (s .decoder) (sumAt s) (endedAt s .written)) (s .devices) (endedAt s .table)
         (logs (s .logs .bytes) (s .logs .devices) (s .logs .endpoints) (s .logs .packets) (s .logs .events) (s .logs .transactions) (endedAt s .groups) (endedAt s .statebytes) (endedAt s .states) (endedAt s .items) (endedAt s .links) (s .logs .requests))
 
-    played-left : Left (endPlayed (endAt s) (worldAt s)) true s finishedState
+    played-left : Left (endPlayed (endAt s) (worldWith (lastStamp (s .decoder)) s)) true s finishedState
     unfolding sumOf endPlayed
     played-left =
-        let v = when (endAt s .ends) (ended (endAt s .old) (endAt s .end)) (worldAt s) in
-        let r = reached-slot (stamp 0 0) s (s .decoder .keepalive) v (endedAt s) (reached-end s sane (stamp 0 0) known byte numbers) (slotEnded (s .decoder .slot)) in
-        let a = end-adds s sane (stamp 0 0) in
+        let v = when (endAt s .ends) (ended (endAt s .old) (endAt s .end)) (worldWith (lastStamp (s .decoder)) s) in
+        let r = reached-slot (lastStamp (s .decoder)) s (s .decoder .keepalive) v (endedAt s) (reached-end s sane (lastStamp (s .decoder)) known byte numbers) (slotEnded (s .decoder .slot)) in
+        let a = end-adds s sane (lastStamp (s .decoder)) in
         let none : (k : ℕ) → k < 6 → log k (v .journal) ≡ [] = λ k u. r .logs k (λ j g h. ne-eqb j k (λ e. omega arith)) in
-        left-of (stamp 0 0) s (withSlot (slotEnded (s .decoder .slot)) v) (endedAt s) (r .holds) (r .table) (formed s sane .counts .fewEndpoints) (known .size) (r .devices) (r .transaction) true _ _ _ _ _
+        left-of (lastStamp (s .decoder)) s (withSlot (slotEnded (s .decoder .slot)) v) (endedAt s) (r .holds) (r .table) (formed s sane .counts .fewEndpoints) (known .size) (r .devices) (r .transaction) true _ _ _ _ _
         (counts-after (world-has (s .decoder) (s .devices) (s .table)) a ∙ ap (λ (b : Bool). pick b (addCounts (s .decoder .counts) (tallyEnding (endAt s) (s .decoder .counts .endpoints) (s .decoder .waiting))) (s .decoder .counts)) (sym fits)) refl (r .event) (r .keepalive) (a .waiting) (s .logs .packets) (s .logs .events) (s .logs .transactions)
         (record {
           bytes = none 0 (omega arith);
@@ -128,15 +129,15 @@ sum-at s e room r p q {held} g h =
     ∙ ap (λ (x : Ending). sumOf (heldAt s) (s .decoder .counts) (tallyEnding x (s .decoder .counts .endpoints) (s .decoder .waiting)) room) p
     ∙ ap (sumOf (heldAt s) (s .decoder .counts) (tallyEnding (endAt s) (s .decoder .counts .endpoints) (s .decoder .waiting))) q
 
-pub end-asks : (s : State) (e : Ending) (pid : ℕ) (h : Written) → e ≡ endAt s → pid ≡ startPid (s .decoder .transaction .style) → h ≡ writtenOf (stamp 0 0) (heldAt s) (s .decoder) (s .table)
-    → Endable (endAt s) (s .decoder .counts .endpoints) (s .decoder .transaction .id) (startPid (s .decoder .transaction .style)) (memoryAt (stamp 0 0) s)
+pub end-asks : (s : State) (e : Ending) (pid : ℕ) (h : Written) → e ≡ endAt s → pid ≡ startPid (s .decoder .transaction .style) → h ≡ writtenOf (lastStamp (s .decoder)) (heldAt s) (s .decoder) (s .table)
+    → Endable (endAt s) (s .decoder .counts .endpoints) (s .decoder .transaction .id) (startPid (s .decoder .transaction .style)) (memoryAt (lastStamp (s .decoder)) s)
     → Endable e (s .decoder .counts .endpoints) (s .decoder .transaction .id) pid (firstMemory s h)
 end-asks s e pid h p q r a =
     subst (λ (x : Ending). Endable x (s .decoder .counts .endpoints) (s .decoder .transaction .id) pid (firstMemory s h)) (sym p)
     (subst (λ (x : ℕ). Endable (endAt s) (s .decoder .counts .endpoints) (s .decoder .transaction .id) x (firstMemory s h)) (sym q)
     (subst (λ (x : Written). Endable (endAt s) (s .decoder .counts .endpoints) (s .decoder .transaction .id) (startPid (s .decoder .transaction .style)) (firstMemory s x)) (sym r) a))
 
-pub ended-at : (s : State) (e : Ending) (pid : ℕ) (h : Written) (m : Memory) → e ≡ endAt s → pid ≡ startPid (s .decoder .transaction .style) → h ≡ writtenOf (stamp 0 0) (heldAt s) (s .decoder) (s .table)
+pub ended-at : (s : State) (e : Ending) (pid : ℕ) (h : Written) (m : Memory) → e ≡ endAt s → pid ≡ startPid (s .decoder .transaction .style) → h ≡ writtenOf (lastStamp (s .decoder)) (heldAt s) (s .decoder) (s .table)
     → m ≡ endedMemory e (s .decoder .counts .endpoints) (s .decoder .transaction .id) pid (firstMemory s h) → m ≡ endedAt s
 ended-at s e pid h m p q r a =
     a ∙ ap (λ (x : Ending). endedMemory x (s .decoder .counts .endpoints) (s .decoder .transaction .id) pid (firstMemory s h)) p

@@ -8,6 +8,7 @@ use borrow.Author.Tests.{eqb-true, le-ltb}
 use lib.Dec.{eqb, ltb}
 use lib.ListN.{length}
 use lib.Seq.{sets}
+use Rattle.usb.specs.Packet.{noReason}
 use Rattle.rows.specs.One.{one}
 use Rattle.rows.specs.Widths.{eventWidth, packetWidth, transactionWidth}
 use Rattle.rows.specs.Sets.{opt}
@@ -59,7 +60,7 @@ use Rattle.events.proofs.Tail.{rowsMemory, AbleAt, Tailed, rowed, room-
 
 -- what it brings
 abbrev pub brings : ℕ → State → Stamp
-brings time s = stamp (s .decoder .counts .packets) time
+brings time s = stamp (s .decoder .counts .packets) time noReason
 
 abbrev pub playedOf : Bool → ℕ → ℕ → ℕ → State → World
 playedOf r kind code time s = rules.eventUpdate (s .decoder .counts .packets) kind (rowed s code time (beforeOf r (brings time s) s))
@@ -187,13 +188,13 @@ module _ (s : State) (sane : isIll s ≡ false) (known : Known (s .table)) (goin
     pub event-settles : SettlesIf (resetsBy kind) (endingOf (worldAt s)) (s .decoder .counts .endpoints) (s .decoder .transaction .id) (startPid (s .decoder .transaction .style)) (memoryAt (brings time s) s)
     event-settles = settles-if s sane (brings time s) known byte (resetsBy kind) (omega (arith, numbers)) (room-before _ _ _ _ _ settled event-ables)
 
-    pub event-puts : ((heldAt s .packets + 1) * packetWidth ≤ length (s .logs .packets)) × (((heldAt s .events + 1) * eventWidth ≤ length (s .logs .events)) × (heldAt s .transactions * transactionWidth + length (opt (addsRow (turn .act)) (s .decoder .counts .packets ∷ [])) ≤ length (s .logs .transactions)))
+    pub event-puts : ((heldAt s .packets + 1) * packetWidth ≤ length (s .logs .packets)) × (((heldAt s .events + 1) * eventWidth ≤ length (s .logs .events)) × (heldAt s .transactions * transactionWidth + length (opt (addsRow (turn .act)) (s .decoder .counts .packets ∷ noReason ∷ [])) ≤ length (s .logs .transactions)))
     unfolding addCounts roomBy inLog
     event-puts =
         let a = event-adds s sane code time kind in
         let p : length (log 3 (final .journal)) ≡ 2 = ap length (tail .packets) in
         let e : length (log 4 (final .journal)) ≡ 2 = ap length (tail .events) in
-        let t : length (log 5 (final .journal)) ≡ length (opt (addsRow (turn .act)) (s .decoder .counts .packets ∷ [])) = ap length (tail .transactions) in
+        let t : length (log 5 (final .journal)) ≡ length (opt (addsRow (turn .act)) (s .decoder .counts .packets ∷ noReason ∷ [])) = ap length (tail .transactions) in
         let a3 = a .words 3 in
         let a4 = a .words 4 in
         let a5 = a .words 5 in
@@ -212,7 +213,7 @@ module _ (s : State) (sane : isIll s ≡ false) (known : Known (s .table)) (goin
         (logs (s .logs .bytes) (s .logs .devices) (s .logs .endpoints)
         (sets (s .logs .packets) (heldAt s .packets * packetWidth) (s .decoder .counts .bytes ∷ time ∷ []))
         (sets (s .logs .events) (heldAt s .events * eventWidth) (s .decoder .counts .packets ∷ code ∷ []))
-        (sets (s .logs .transactions) (heldAt s .transactions * transactionWidth) (opt (addsRow (turn .act)) (s .decoder .counts .packets ∷ [])))
+        (sets (s .logs .transactions) (heldAt s .transactions * transactionWidth) (opt (addsRow (turn .act)) (s .decoder .counts .packets ∷ noReason ∷ [])))
         (eventMemory .groups) (eventMemory .statebytes) (eventMemory .states) (eventMemory .items) (eventMemory .links) (s .logs .requests))
 
     final-left : Left final (s .decoder .finished) s eventState

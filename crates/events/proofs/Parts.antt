@@ -5,6 +5,7 @@ use mathlib.Core.List.{List, [], _∷_}
 use mathlib.Core.Path.{_≡_, sym, ap, _∙_, subst}
 use lib.ListN.{length}
 use lib.Seq.{sets}
+use Rattle.usb.specs.Packet.{noReason}
 use Rattle.rows.specs.Widths.{eventWidth, packetWidth, transactionWidth}
 use Rattle.rows.specs.Sets.{opt}
 use Rattle.transaction.specs.Payload.{startPid}
@@ -88,12 +89,12 @@ abbrev pub Puts : Counts → Logs → List ℕ → Type 0
 Puts n l t = ((n .packets + 1) * packetWidth ≤ length (l .packets)) × (((n .events + 1) * eventWidth ≤ length (l .events)) × (n .transactions * transactionWidth + length t ≤ length (l .transactions)))
 
 module _ (s : State) (kind : ℕ) {row group start : Bool} (f : Flags s kind row group start) where
-  pub puts-at : (c : Stamp) → c .packet ≡ s .decoder .counts .packets → {held : Counts} → held ≡ heldAt s
-      → Puts (heldAt s) (s .logs) (opt (addsRow (turnAt s kind .act)) (s .decoder .counts .packets ∷ [])) → Puts held (s .logs) (opt row (c .packet ∷ []))
-  puts-at c e g a =
-      subst (λ (h : Counts). Puts h (s .logs) (opt row (c .packet ∷ []))) (sym g)
-      (subst (λ (i : ℕ). Puts (heldAt s) (s .logs) (opt row (i ∷ []))) (sym e)
-      (subst (λ (b : Bool). Puts (heldAt s) (s .logs) (opt b (s .decoder .counts .packets ∷ []))) (sym (f .row)) a))
+  pub puts-at : (c : Stamp) → c .packet ≡ s .decoder .counts .packets → c .reason ≡ noReason → {held : Counts} → held ≡ heldAt s
+      → Puts (heldAt s) (s .logs) (opt (addsRow (turnAt s kind .act)) (s .decoder .counts .packets ∷ noReason ∷ [])) → Puts held (s .logs) (opt row (c .packet ∷ c .reason ∷ []))
+  puts-at c e r g a =
+      subst (λ (h : Counts). Puts h (s .logs) (opt row (c .packet ∷ c .reason ∷ []))) (sym g)
+      (subst (Puts (heldAt s) (s .logs)) (λ i. opt row (sym e i ∷ sym r i ∷ []))
+      (subst (λ (b : Bool). Puts (heldAt s) (s .logs) (opt b (s .decoder .counts .packets ∷ noReason ∷ []))) (sym (f .row)) a))
 
   module _ (c : Stamp) (m : Memory) (e : m ≡ memoryThen (resetsBy kind) c s) where
     pub able-at : AbleAt s (turnAt s kind) (aliveAt s kind) (memoryThen (resetsBy kind) c s) → Able row group start (s .decoder .counts .endpoints) (s .decoder .counts .transactions) m
@@ -123,7 +124,7 @@ abbrev pub eventsAt : State → Stamp → ℕ → List ℕ
 eventsAt s c code = sets (s .logs .events) (heldAt s .events * eventWidth) (c .packet ∷ code ∷ [])
 
 abbrev pub transactionsAt : State → Stamp → Bool → List ℕ
-transactionsAt s c row = sets (s .logs .transactions) (heldAt s .transactions * transactionWidth) (opt row (c .packet ∷ []))
+transactionsAt s c row = sets (s .logs .transactions) (heldAt s .transactions * transactionWidth) (opt row (c .packet ∷ c .reason ∷ []))
 
 module _ (s : State) (kind code time : ℕ) where
   abbrev rowsAfter : Memory

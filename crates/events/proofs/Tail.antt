@@ -2,7 +2,7 @@
 use Prim.Native.Nat.{ℕ, _*_, _<_, _≤_}
 use native.Mathlib.Omega.{arith}
 use mathlib.Core.Bool.{Bool, true, false}
-use mathlib.Core.List.{List, [], _∷_}
+use mathlib.Core.List.{List, [], _∷_, _++_}
 use mathlib.Core.Path.{_≡_, refl, sym, ap, _∙_, subst}
 use borrow.Author.Tests.{ne-eqb}
 use lib.ListN.{length, getD}
@@ -66,7 +66,7 @@ pub record Tailed (c : Stamp) (s : State) (code time : ℕ) (z : Slot) (t : rule
   pub first : (j : ℕ) → j < 3 → log j (v .journal) ≡ []
   pub packets : log 3 (v .journal) ≡ s .decoder .counts .bytes ∷ time ∷ []
   pub events : log 4 (v .journal) ≡ s .decoder .counts .packets ∷ code ∷ []
-  pub transactions : log 5 (v .journal) ≡ opt (addsRow (t .act)) (s .decoder .counts .packets ∷ [])
+  pub transactions : log 5 (v .journal) ≡ opt (addsRow (t .act)) (s .decoder .counts .packets ∷ c .reason ∷ [])
   pub requests : log 11 (v .journal) ≡ []
 
 -- the packet row and the event row
@@ -104,6 +104,7 @@ module _ (c : Stamp) (s : State) (k : Bool) (u : World) (m : Memory) (h : Reache
       let i = s .decoder .counts .transactions in
       let a = rules.turnOf (u .eventState) kind .act in
       let same = event-acted w rests p a in
+      let empty : log 5 (w .journal) ++ opt (addsRow a) (p ∷ u .context .reason ∷ []) ≡ opt (addsRow a) (p ∷ u .context .reason ∷ []) = rw (h .logs 5 (below-aside 5 (omega arith))) refl in
       record {
         holds = event-update-holds held few some rests p i (sym (h .transactions)) kind;
         able = λ x z. event-able held few some rests p i (sym (h .transactions)) a (own-grows .transactions) (own-grows .groups) x (record { groups = z .groups; statebytes = z .statebytes; items = z .items });
@@ -115,7 +116,7 @@ module _ (c : Stamp) (s : State) (k : Bool) (u : World) (m : Memory) (h : Reache
         first = λ j l. same .outside j (below j (omega arith)) ∙ else-log j (s .decoder .counts .bytes) time p code (u .journal) l (h .logs j (below-aside j (omega arith)));
         packets = same .outside 3 (below 3 (omega arith)) ∙ rw (h .logs 3 (below-aside 3 (omega arith))) refl;
         events = same .outside 4 (below 4 (omega arith)) ∙ rw (h .logs 4 (below-aside 4 (omega arith))) refl;
-        transactions = same .rows ∙ rw (h .logs 5 (below-aside 5 (omega arith))) refl;
+        transactions = same .rows ∙ (empty ∙ ap (λ (x : Stamp). opt (addsRow a) (p ∷ x .reason ∷ [])) (h .holds .context));
         requests = same .outside 11 requests ∙ rw (h .logs 11 requests-aside) refl;
       }
 

@@ -9,7 +9,7 @@ use crate::ending::slot_ended;
 use crate::sum::Sum;
 use crate::sum::sum_finish;
 use call::known;
-use call::no_stamp;
+use call::last_stamp;
 use call::room_of;
 use call::stamp_of;
 use call::tie;
@@ -26,6 +26,7 @@ use record::room::held_of;
 use rows::width;
 use rules::Stamp;
 use transaction::payload::start_pid;
+use usb::reason::NONE;
 use write::Written;
 use write::leaf::put_transaction;
 use write_event::event_rows;
@@ -69,6 +70,7 @@ fn finished_decoder(d: Decoder, sum: Sum, written: Written) -> Decoder
         keepalive: d.keepalive,
         waiting: sum.waiting,
         finished: true,
+        time: written.stamp.time,
     }
 }
 
@@ -125,7 +127,7 @@ pub fn finish_in(
         e,
         held.id,
         start_pid(style),
-        written_of(no_stamp(), rows, d, table),
+        written_of(last_stamp(d), rows, d, table),
         n.endpoints,
         table,
         groups,
@@ -153,10 +155,10 @@ fn put_event(
 )
     requires { ⌜ (held .packets + 1) * packetWidth ≤ length (now packets) ⌝ }
     requires { ⌜ (held .events + 1) * eventWidth ≤ length (now events) ⌝ }
-    requires { ⌜ held .transactions * transactionWidth + length (opt row (transactionWords (naming (stamp .packet)))) ≤ length (now transactions) ⌝ }
+    requires { ⌜ held .transactions * transactionWidth + length (opt row (transactionWords (naming (stamp .packet) (stamp .reason)))) ≤ length (now transactions) ⌝ }
     ensures { λ r. ⌜ now (packets .exit) ≡ sets (now (packets .entry)) (held .packets * packetWidth) (start ∷ stamp .time ∷ []) ⌝ }
     ensures { λ r. ⌜ now (events .exit) ≡ sets (now (events .entry)) (held .events * eventWidth) (stamp .packet ∷ code ∷ []) ⌝ }
-    ensures { λ r. ⌜ now (transactions .exit) ≡ sets (now (transactions .entry)) (held .transactions * transactionWidth) (opt row (transactionWords (naming (stamp .packet)))) ⌝ }
+    ensures { λ r. ⌜ now (transactions .exit) ≡ sets (now (transactions .entry)) (held .transactions * transactionWidth) (opt row (transactionWords (naming (stamp .packet) (stamp .reason)))) ⌝ }
 {
     let p = held.packets;
     let e = held.events;
@@ -182,6 +184,7 @@ fn event_decoder(d: Decoder, resets: bool, turn: Turn, sum: Sum, written: Writte
         keepalive: keepalive_after(act, d.keepalive & !resets),
         waiting: sum.waiting,
         finished: d.finished,
+        time: written.stamp.time,
     }
 }
 
@@ -229,7 +232,7 @@ pub fn event_in(
     let n = d.counts;
     let held = d.transaction;
     let style = held.style;
-    let stamp = stamp_of(n, time);
+    let stamp = stamp_of(n, time, NONE);
     let rows = held_of(n, table);
     let c = decide(d, devices, kind, table, rows, room);
     let sum = c.sum;

@@ -74,7 +74,7 @@ module _ {trace t : List ℕ} {l : Logs} {h : List ℕ} {a p : ℕ} {q : Stand} 
 pub zeros : (n : ℕ) → n ≡ length (replicate {A = ℕ} n 0)
 zeros n = sym (length-replicate {A = ℕ} n 0)
 
-pub own-room : textRoom noRows ≡ 416988
+pub own-room : textRoom noRows ≡ 379548
 unfolding roomBy
 own-room = refl
 

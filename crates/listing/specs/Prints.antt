@@ -24,8 +24,8 @@ noTable = replicate word.table 0
 
 abbrev pub noRows : Logs
 noRows =
-    logs (replicate 8192 0) (replicate 64 0) (replicate 384 0) (replicate 1024 0) (replicate 256 0) (replicate 384 0) (replicate 768 0) (replicate 8192 0)
-    (replicate 256 0) (replicate 256 0) (replicate 2560 0) (replicate 192 0)
+    logs (replicate 8192 0) (replicate 64 0) (replicate 384 0) (replicate 1024 0) (replicate 256 0) (replicate 768 0) (replicate 960 0) (replicate 6144 0)
+    (replicate 192 0) (replicate 192 0) (replicate 2304 0) (replicate 256 0)
 
 -- and the shelf
 abbrev pub noShelf : List ℕ

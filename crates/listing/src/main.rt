@@ -18,8 +18,8 @@ ghost use Rattle.listing.specs.Shows.{Listable, Shows};
 // The longest trace (docs/SIZES.md).
 const INPUT: usize = 16384;
 
-// A line of at most 156 bytes (text, Lengths) for each of the 2,672 rows that there is room for, and one more.
-const TEXT: usize = 156 * 2673;
+// A line of at most 156 bytes (text, Lengths) for each of the 2,432 rows that there is room for, and one more.
+const TEXT: usize = 156 * 2433;
 
 // What is shown of a run that ended with this answer at this place: the listing, or the refusal; gives its length.
 fn report(
@@ -137,13 +137,13 @@ fn print(trace: &[u8], out: &mut [u8]) -> usize
     let mut endpoint_rows = [0u64; 384];
     let mut packets = [0u64; 1024];
     let mut events = [0u64; 256];
-    let mut transactions = [0u64; 384];
-    let mut groups = [0u64; 768];
-    let mut statebytes = [0u8; 8192];
-    let mut states = [0u64; 256];
-    let mut items = [0u64; 256];
-    let mut links = [0u64; 2560];
-    let mut requests = [0u64; 192];
+    let mut transactions = [0u64; 768];
+    let mut groups = [0u64; 960];
+    let mut statebytes = [0u8; 6144];
+    let mut states = [0u64; 192];
+    let mut items = [0u64; 192];
+    let mut links = [0u64; 2304];
+    let mut requests = [0u64; 256];
     let mut shelf = [0u8; 524288];
     show(
         trace,

@@ -8,6 +8,7 @@ use borrow.Author.Tests.{le-ltb, eqb-true, eqb-false}
 use lib.Dec.{eqb, ltb}
 use lib.ListN.{length, getD, set}
 use lib.Seq.{sets}
+use Rattle.usb.specs.Packet.{reasonOf}
 use Rattle.rows.specs.Widths.{packetWidth}
 use Rattle.rows.specs.WidthsLaws.{each-log}
 use Rattle.transaction.specs.Payload.{startPid}
@@ -31,7 +32,7 @@ use Rattle.record.specs.declared.Counts.{Counts}
 use Rattle.record.specs.declared.Decoder.{Decoder}
 use Rattle.plan.specs.Packet.{kept, planOf}
 use Rattle.plan.specs.declared.Plan.{Plan}
-use Rattle.plan.proofs.Packet.{plan-shelf, packet-laden, dropped-is}
+use Rattle.plan.proofs.Packet.{plan-shelf, packet-laden, dropped-is, plan-reason}
 use Rattle.plan.specs.Packet.{withPacket}
 use Rattle.plan.specs.Words.{planWords}
 use Rattle.call.specs.Outcome.{Answers, Left, DevicesOf, TableOf, countsAfter, decoderOf, isIll, isFull, isOver, accepts, worldAt}
@@ -123,7 +124,7 @@ module _ (packet : List ℕ) (time : ℕ) (s : State) (shelf : List ℕ) (h : Pa
   pub refused-call : (a : ℕ) → a ≡ sumPlan (s .decoder) (heldAt s) p (length packet) (roomOf (s .logs)) .answer → accepts a ≡ false → PacketCall packet time s shelf a s shelf
   refused-call a e r = record { answers = refused a (e ∙ sum-answer) r; shelf = ap (λ (c : Bool). cond c (afterCall packet time s shelf .shelf) shelf) (sym r) }
 
-  pub accepted-call : (b : Begins packet s) (k : Desk) (e : k ≡ performed p (entryDesk time s)) (y z : List ℕ) (f : y ≡ sets (s .logs .bytes) (heldAt s .bytes) packet) (g : z ≡ sets (s .logs .packets) (heldAt s .packets * packetWidth) (s .decoder .counts .bytes ∷ time ∷ []))
+  pub accepted-call : (b : Begins packet s) (k : Desk) (e : k ≡ performed p (entryDesk time (reasonOf packet) s)) (y z : List ℕ) (f : y ≡ sets (s .logs .bytes) (heldAt s .bytes) packet) (g : z ≡ sets (s .logs .packets) (heldAt s .packets * packetWidth) (s .decoder .counts .bytes ∷ time ∷ []))
       → PacketCall packet time s shelf 0 (left-state packet time s shelf b k e y z f g) (shelved (changeBy p (s .decoder .counts .devices) (heldAt s .requests)) packet shelf (s .devices))
   accepted-call b k e y z f g =
       record {
@@ -213,6 +214,9 @@ module _ (packet : List ℕ) (time : ℕ) (s : State) {plan : Plan} {rows room :
         by true = in-words packet time s shelf begins
         by false = refl
 
+    reason-is : plan .reason ≡ reasonOf packet
+    reason-is = ap (λ (x : Plan). x .reason) (plan-is []) ∙ plan-reason packet (laden packet s [])
+
     pub rows-fit : (rows .bytes + length packet ≤ length (s .logs .bytes)) × ((rows .packets + 1) * packetWidth ≤ length (s .logs .packets))
     rows-fit =
         subst (λ (h : Counts). (h .bytes + length packet ≤ length (s .logs .bytes)) × ((h .packets + 1) * packetWidth ≤ length (s .logs .packets))) (sym (q .rows))
@@ -221,10 +225,10 @@ module _ (packet : List ℕ) (time : ℕ) (s : State) {plan : Plan} {rows room :
     pub few-devices : s .decoder .counts .devices ≤ 64
     few-devices = well packet time s [] (q .passes) .counts .fewDevices
 
-    pub asks-by : {h : Hand} → h ≡ handOf time (s .decoder) rows (s .table) → PlanAsks plan (deskBy h s)
+    pub asks-by : {h : Hand} → h ≡ handOf time (plan .reason) (s .decoder) rows (s .table) → PlanAsks plan (deskBy h s)
     asks-by {h} e =
         subst (λ (x : Plan). PlanAsks x (deskBy h s)) (sym (plan-is []))
-        (subst (λ (x : Hand). PlanAsks (planOf packet (laden packet s [])) (deskBy x s)) (sym (e ∙ λ i. handOf time (s .decoder) (q .rows i) (s .table))) (asks packet time s [] begins))
+        (subst (λ (x : Hand). PlanAsks (planOf packet (laden packet s [])) (deskBy x s)) (sym (e ∙ λ i. handOf time (reason-is i) (s .decoder) (q .rows i) (s .table))) (asks packet time s [] begins))
 
     -- the change, as the rules have it
     change-is : (shelf : List ℕ) {c : Change} → c ≡ changeBy plan (s .decoder .counts .devices) (rows .requests) → c ≡ changeBy (planOf packet (laden packet s shelf)) (s .decoder .counts .devices) (heldAt s .requests)
@@ -233,13 +237,13 @@ module _ (packet : List ℕ) (time : ℕ) (s : State) {plan : Plan} {rows room :
     pub placed-by : {c : Change} → c ≡ changeBy plan (s .decoder .counts .devices) (rows .requests) → Placed c packet (s .logs .requests)
     placed-by e = subst (λ (c : Change). Placed c packet (s .logs .requests)) (sym (change-is [] e)) (change-placed packet time s [] begins)
 
-    pub accepted-by : {h : Hand} {k : Desk} {x : Decoder} {c : Change} {y z : List ℕ} → h ≡ handOf time (s .decoder) rows (s .table) → k ≡ performed plan (deskBy h s)
+    pub accepted-by : {h : Hand} {k : Desk} {x : Decoder} {c : Change} {y z : List ℕ} → h ≡ handOf time (plan .reason) (s .decoder) rows (s .table) → k ≡ performed plan (deskBy h s)
         → y ≡ sets (s .logs .bytes) (rows .bytes) packet → z ≡ sets (s .logs .packets) (rows .packets * packetWidth) (s .decoder .counts .bytes ∷ time ∷ [])
         → x ≡ decoderBy (s .decoder) plan sum (k .hand) → c ≡ changeBy plan (s .decoder .counts .devices) (rows .requests) → (shelf : List ℕ)
         → PacketCall packet time s shelf 0 (state x (changed c packet shelf (s .devices)) (k .table) (logs y (k .devices) (k .endpoints) z (s .logs .events) (k .transactions) (k .groups) (k .statebytes) (k .states) (k .items) (k .links) (requested c packet shelf (s .devices) (s .logs .requests)))) (shelved c packet shelf (s .devices))
     accepted-by {h} {k} {x} {c} {y} {z} e1 e2 f g e3 e4 shelf =
         let p = planOf packet (laden packet s shelf) in
-        let k1 : k ≡ performed p (entryDesk time s) = e2 ∙ λ i. performed (plan-is shelf i) (deskBy ((e1 ∙ λ j. handOf time (s .decoder) (q .rows j) (s .table)) i) s) in
+        let k1 : k ≡ performed p (entryDesk time (reasonOf packet) s) = e2 ∙ λ i. performed (plan-is shelf i) (deskBy ((e1 ∙ λ j. handOf time (reason-is j) (s .decoder) (q .rows j) (s .table)) i) s) in
         let y1 = f ∙ ap (λ (m : Counts). sets (s .logs .bytes) (m .bytes) packet) (q .rows) in
         let z1 = g ∙ ap (λ (m : Counts). sets (s .logs .packets) (m .packets * packetWidth) (s .decoder .counts .bytes ∷ time ∷ [])) (q .rows) in
         let x1 : x ≡ decoderBy (s .decoder) p (sumPlan (s .decoder) (heldAt s) p (length packet) (roomOf (s .logs))) (k .hand) = e3 ∙ λ i. decoderBy (s .decoder) (plan-is shelf i) (sum-laden shelf i) (k .hand) in
@@ -265,7 +269,7 @@ module _ (packet : List ℕ) (time : ℕ) (s : State) (shelf : List ℕ) (h : Pa
   adds : Adds t (worldAt s) world
   adds =
       subst (λ (m : ℕ). Adds (after.tallyOfDropped m (length packet)) (worldAt s) world) (waiting-is (well packet time s shelf h))
-      (adds-shelf shelf (same-adds Empty (d .transaction) Idle (d .keepalive) _ (worldAt s .devices) (packet-adds (same-adds (d .slot) (d .transaction) Idle (d .keepalive) (stamp (d .counts .packets) time) (worldAt s .devices) (adds-none (withShelf shelf (worldAt s)))) packet time)))
+      (adds-shelf shelf (same-adds Empty (d .transaction) Idle (d .keepalive) _ (worldAt s .devices) (packet-adds (same-adds (d .slot) (d .transaction) Idle (d .keepalive) (stamp (d .counts .packets) time (reasonOf packet)) (worldAt s .devices) (adds-none (withShelf shelf (worldAt s)))) packet time)))
 
   over-none : isOver world ≡ false
   over-none = totalled-over world (totalled s shelf known)
@@ -284,13 +288,13 @@ module _ (packet : List ℕ) (time : ℕ) (s : State) (shelf : List ℕ) (h : Pa
       turn false = refl
 
   left-dropped : roomFor (heldAt s) (d .counts) t (roomOf (s .logs)) ≡ true → (y z : List ℕ) → y ≡ sets (s .logs .bytes) (heldAt s .bytes) packet → z ≡ sets (s .logs .packets) (heldAt s .packets * packetWidth) (d .counts .bytes ∷ time ∷ [])
-      → Left world (d .finished) s (state (droppedDecoder d (after.accepted d t)) (s .devices) (s .table) (logs y (s .logs .devices) (s .logs .endpoints) z (s .logs .events) (s .logs .transactions) (s .logs .groups) (s .logs .statebytes) (s .logs .states) (s .logs .items) (s .logs .links) (s .logs .requests)))
+      → Left world (d .finished) s (state (droppedDecoder d time (after.accepted d t)) (s .devices) (s .table) (logs y (s .logs .devices) (s .logs .endpoints) z (s .logs .events) (s .logs .transactions) (s .logs .groups) (s .logs .statebytes) (s .logs .states) (s .logs .items) (s .logs .links) (s .logs .requests)))
   unfolding decoderOf
   left-dropped e y z f g =
       let n : addCounts (d .counts) t ≡ countsAfter (d .counts) world = sym (counts-after (world-has d (s .devices) (s .table)) adds) in
       let m : t .waiting ≡ waitingOf world = sym (adds .waiting) in
       record {
-        decoder = λ i. record { counts = n i; slot = Empty; transaction = d .transaction; last = d .last; event = Idle; keepalive = d .keepalive; waiting = m i; finished = d .finished };
+        decoder = λ i. record { counts = n i; slot = Empty; transaction = d .transaction; last = d .last; event = Idle; keepalive = d .keepalive; waiting = m i; finished = d .finished; time = time };
         devices = record { size = refl; there = λ i u. refl; beyond = λ i u. refl };
         table = record { size = refl; entries = λ i u. refl; words = λ i u. well packet time s shelf h .endpoints i u .words; beyond = λ i u. refl; firsts = λ k. refl };
         logs =
@@ -315,20 +319,20 @@ module _ (packet : List ℕ) (time : ℕ) (s : State) (shelf : List ℕ) (h : Pa
       by true e =
           let q1 = sum-is true e in
           let a : r .answer ≡ 8 = q .answer ∙ ap (λ (z : Sum). cond (eqb (z .answer) 0) 8 (z .answer)) q1 in
-          let c : r .decoder ≡ droppedDecoder d (after.accepted d t) = q .decoder ∙ ap (λ (z : Sum). cond (eqb (z .answer) 0) (droppedDecoder d z) d) q1 in
+          let c : r .decoder ≡ droppedDecoder d time (after.accepted d t) = q .decoder ∙ ap (λ (z : Sum). cond (eqb (z .answer) 0) (droppedDecoder d time z) d) q1 in
           let u = q .bytes ∙ ap (λ (z : Sum). cond (eqb (z .answer) 0) (sets (s .logs .bytes) (heldAt s .bytes) packet) (s .logs .bytes)) q1 in
           let v = q .packets ∙ ap (λ (z : Sum). cond (eqb (z .answer) 0) (sets (s .logs .packets) (heldAt s .packets * packetWidth) (d .counts .bytes ∷ time ∷ [])) (s .logs .packets)) q1 in
           record {
             answers =
                 accepted (r .answer) (a ∙ sym (sum-by true e)) (ap accepts a)
                 (subst (λ (x : Decoder). Left (afterCall packet time s shelf) (d .finished) s (stateBy x y z)) (sym c)
-                (subst (λ (x : World). Left x (d .finished) s (stateBy (droppedDecoder d (after.accepted d t)) y z)) (sym world-is) (left-dropped e y z u v)));
+                (subst (λ (x : World). Left x (d .finished) s (stateBy (droppedDecoder d time (after.accepted d t)) y z)) (sym world-is) (left-dropped e y z u v)));
             shelf = sym (ap (λ (n : ℕ). cond (accepts n) (afterCall packet time s shelf .shelf) shelf) a ∙ ap (λ (x : World). x .shelf) world-is);
           }
       by false e =
           let q1 = sum-is false e in
           let a : r .answer ≡ 7 = q .answer ∙ ap (λ (z : Sum). cond (eqb (z .answer) 0) 8 (z .answer)) q1 in
-          let c : r .decoder ≡ d = q .decoder ∙ ap (λ (z : Sum). cond (eqb (z .answer) 0) (droppedDecoder d z) d) q1 in
+          let c : r .decoder ≡ d = q .decoder ∙ ap (λ (z : Sum). cond (eqb (z .answer) 0) (droppedDecoder d time z) d) q1 in
           let u = q .bytes ∙ ap (λ (z : Sum). cond (eqb (z .answer) 0) (sets (s .logs .bytes) (heldAt s .bytes) packet) (s .logs .bytes)) q1 in
           let v = q .packets ∙ ap (λ (z : Sum). cond (eqb (z .answer) 0) (sets (s .logs .packets) (heldAt s .packets * packetWidth) (d .counts .bytes ∷ time ∷ [])) (s .logs .packets)) q1 in
           record {

@@ -7,6 +7,8 @@ use native.Mathlib.Omega.{arith}
 use lib.Dec.{eqb, ltb}
 use lib.ListN.{length, getD, set, length-set}
 use lib.Seq.{sets, getD-set-other}
+use Rattle.rules.specs.declared.Stamp.{Stamp}
+use Rattle.usb.specs.Packet.{reasonOf}
 use Rattle.rows.specs.Widths.{eventWidth, packetWidth, requestWidth}
 use Rattle.rows.specs.WidthsLaws.{each-log}
 use Rattle.rows.specs.One.{one}
@@ -78,9 +80,9 @@ use Rattle.packet.proofs.Owners.{plan-kept, plan-asked, plan-long}
 use Rattle.packet.proofs.Places.{plan-place}
 
 -- the desk at the call's entry
-abbrev pub entryDesk : ℕ → State → Desk
-entryDesk time s =
-    desk (handOf time (s .decoder) (heldAt s) (s .table)) (s .table) (s .logs .devices) (s .logs .endpoints) (s .logs .transactions) (s .logs .groups) (s .logs .statebytes) (s .logs .states) (s .logs .items) (s .logs .links)
+abbrev pub entryDesk : ℕ → ℕ → State → Desk
+entryDesk time reason s =
+    desk (handOf time reason (s .decoder) (heldAt s) (s .table)) (s .table) (s .logs .devices) (s .logs .endpoints) (s .logs .transactions) (s .logs .groups) (s .logs .statebytes) (s .logs .states) (s .logs .items) (s .logs .links)
 
 -- what the code knows when it is to write: the tests that were passed, and what is known of the arguments
 pub record Begins (packet : List ℕ) (s : State) : Type 0 where
@@ -175,7 +177,7 @@ module _ (packet : List ℕ) (time : ℕ) (s : State) (h : List ℕ) (b : Begins
   words : (k : ℕ) → length (log k (after .journal)) ≡ wordsFor k t
   words k = adds .words k ∙ omega arith
 
-  space : SpaceAll (entryDesk time s) (after .journal)
+  space : SpaceAll (entryDesk time (reasonOf packet) s) (after .journal)
   unfolding inLog addCounts roomBy
   space =
       record {
@@ -262,7 +264,7 @@ module _ (packet : List ℕ) (time : ℕ) (s : State) (h : List ℕ) (b : Begins
         link = k .link ∙ ap (λ (a : Transaction). a .link) (sym then-is);
       }
 
-  matches : Matches (stamped time w) (entryDesk time s)
+  matches : Matches (stamped time (reasonOf packet) w) (entryDesk time (reasonOf packet) s)
   matches =
       record {
         sized = b .known .size;
@@ -278,8 +280,8 @@ module _ (packet : List ℕ) (time : ℕ) (s : State) (h : List ℕ) (b : Begins
         endpoints = refl;
       }
 
-  held : HoldsAll (entryDesk time s) after (performed p (entryDesk time s))
-  held = played-holds p packet time w fits brought (all-start packet time w (entryDesk time s) refl refl matches)
+  held : HoldsAll (entryDesk time (reasonOf packet) s) after (performed p (entryDesk time (reasonOf packet) s))
+  held = played-holds p packet time w fits brought (all-start packet time w (entryDesk time (reasonOf packet) s) refl refl matches)
 
   -- the numbers that it ends with are words
   worded : Worded after
@@ -291,8 +293,8 @@ module _ (packet : List ℕ) (time : ℕ) (s : State) (h : List ℕ) (b : Begins
         items = let e = adds .items in let f = numbers .items in omega (arith, e, f);
       }
 
-  pub asks : PlanAsks p (entryDesk time s)
-  asks = ready p packet time w fits brought (all-start packet time w (entryDesk time s) refl refl matches) (room-all held space worded)
+  pub asks : PlanAsks p (entryDesk time (reasonOf packet) s)
+  asks = ready p packet time w fits brought (all-start packet time w (entryDesk time (reasonOf packet) s) refl refl matches) (room-all held space worded)
 
   -- ---- what it leaves
 
@@ -303,9 +305,9 @@ module _ (packet : List ℕ) (time : ℕ) (s : State) (h : List ℕ) (b : Begins
   unfolding sumPlan
   sum-is = summed .1 .1
 
-  module _ (k : Desk) (e : k ≡ performed p (entryDesk time s)) where
-    now-held : HoldsAll (entryDesk time s) after k
-    now-held = subst (HoldsAll (entryDesk time s) after) (sym e) held
+  module _ (k : Desk) (e : k ≡ performed p (entryDesk time (reasonOf packet) s)) where
+    now-held : HoldsAll (entryDesk time (reasonOf packet) s) after k
+    now-held = subst (HoldsAll (entryDesk time (reasonOf packet) s) after) (sym e) held
 
     transaction-is : tied (p .begin .transaction) (k .hand .written) ≡ after .transaction
     transaction-is =
@@ -322,7 +324,8 @@ module _ (packet : List ℕ) (time : ℕ) (s : State) (h : List ℕ) (b : Begins
         let v = played-event p packet time w in
         let a = played-keepalive p packet time w in
         let l = now-held .memory .lastItem in
-        λ i. record { counts = n i; slot = sym g i; transaction = transaction-is i; last = l i; event = sym v i; keepalive = sym a i; waiting = m i; finished = d .finished }
+        let c : k .hand .written .stamp .time ≡ after .context .time = ap (λ (x : Stamp). x .time) (now-held .memory .stamp ∙ sym (now-held .memory .context)) in
+        λ i. record { counts = n i; slot = sym g i; transaction = transaction-is i; last = l i; event = sym v i; keepalive = sym a i; waiting = m i; finished = d .finished; time = c i }
 
     few : after .count ≤ 128
     unfolding addCounts
@@ -464,7 +467,7 @@ module _ (packet : List ℕ) (time : ℕ) (s : State) (h : List ℕ) (b : Begins
 
   -- ---- all of it
 
-  module _ (k : Desk) (e : k ≡ performed p (entryDesk time s)) (y z : List ℕ) (f : y ≡ sets (s .logs .bytes) (n .bytes) packet) (g : z ≡ sets (s .logs .packets) (n .packets * packetWidth) (d .counts .bytes ∷ time ∷ [])) where
+  module _ (k : Desk) (e : k ≡ performed p (entryDesk time (reasonOf packet) s)) (y z : List ℕ) (f : y ≡ sets (s .logs .bytes) (n .bytes) packet) (g : z ≡ sets (s .logs .packets) (n .packets * packetWidth) (d .counts .bytes ∷ time ∷ [])) where
     logs-are : Appends after n (s .logs) (logs y (k .devices) (k .endpoints) z (s .logs .events) (k .transactions) (k .groups) (k .statebytes) (k .states) (k .items) (k .links) (requested change packet h (s .devices) (s .logs .requests)))
     logs-are =
         let a = now-held k e in

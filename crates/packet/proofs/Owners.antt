@@ -232,7 +232,7 @@ module _ (packet : List ℕ) (w : World) (x0 : ℕ) (e : Endpoint) (t : Transact
   by-long u h = by (checkedOf packet) refl h
     where
       by : (c : Checked) → checkedOf packet ≡ c → keeps (planBy (judgedOf u c (length packet)) x0 e t packet w) ≡ true → 3 ≤ length packet
-      by Malformed q h = absurd (rowed _ _ (starting-row Invalid x0 _ MALFORMED packet _ w) h)
+      by (Malformed reason) q h = absurd (rowed _ _ (starting-row Invalid x0 _ MALFORMED packet _ w) h)
       by (Valid pid) q h = data-length packet pid q (kept-data pid (statusOf (u .style) u pid (length packet)) h) .0
 
 -- a payload that is laid by is that of a data packet

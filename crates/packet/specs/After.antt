@@ -66,23 +66,23 @@ sumPlan d held p len room = sumOf (planPasses p) d held (tallyOf d p len) room
 
 -- ---- the record
 
--- where the call begins to write: `held` rows are held
-abbrev pub handOf : ℕ → Decoder → Counts → List ℕ → Hand
-handOf time d held t =
+-- where the call begins to write, and what it brings: `held` rows are held
+abbrev pub handOf : ℕ → ℕ → Decoder → Counts → List ℕ → Hand
+handOf time reason d held t =
     record {
-      written = writtenOf (stamp (d .counts .packets) time) held d t;
+      written = writtenOf (stamp (d .counts .packets) time reason) held d t;
       transactions = held .transactions;
       devices = held .devices;
       endpoints = held .endpoints;
     }
 
-abbrev pub droppedDecoder : Decoder → Sum → Decoder
-droppedDecoder d s =
-    record { counts = s .counts; slot = Empty; transaction = d .transaction; last = d .last; event = Idle; keepalive = d .keepalive; waiting = s .waiting; finished = d .finished }
+abbrev pub droppedDecoder : Decoder → ℕ → Sum → Decoder
+droppedDecoder d time s =
+    record { counts = s .counts; slot = Empty; transaction = d .transaction; last = d .last; event = Idle; keepalive = d .keepalive; waiting = s .waiting; finished = d .finished; time = time }
 
 abbrev pub decoderBy : Decoder → Plan → Sum → Hand → Decoder
 decoderBy d p s h =
-    record { counts = s .counts; slot = p .slot; transaction = tied (p .begin .transaction) (h .written); last = h .written .last; event = Idle; keepalive = d .keepalive; waiting = s .waiting; finished = d .finished }
+    record { counts = s .counts; slot = p .slot; transaction = tied (p .begin .transaction) (h .written); last = h .written .last; event = Idle; keepalive = d .keepalive; waiting = s .waiting; finished = d .finished; time = h .written .stamp .time }
 
 -- ---- what is the caller's: the devices, the shelf and the log of requests
 

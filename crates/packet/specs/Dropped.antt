@@ -19,7 +19,7 @@ fitsDropped d held len room = eqb (sumDropped d held len room .answer) 0
 
 pub record Drops (d : Decoder) (held : Counts) (none : Change) (packet : List ℕ) (time : ℕ) (room : Counts) (b p : List ℕ) (r : Inner) (b′ p′ : List ℕ) : Type 0 where
   pub answer : r .answer ≡ cond (fitsDropped d held (length packet) room) 8 (sumDropped d held (length packet) room .answer)
-  pub decoder : r .decoder ≡ cond (fitsDropped d held (length packet) room) (droppedDecoder d (sumDropped d held (length packet) room)) d
+  pub decoder : r .decoder ≡ cond (fitsDropped d held (length packet) room) (droppedDecoder d time (sumDropped d held (length packet) room)) d
   pub change : r .change ≡ none
   pub bytes : b′ ≡ cond (fitsDropped d held (length packet) room) (sets b (held .bytes) packet) b
   pub packets : p′ ≡ cond (fitsDropped d held (length packet) room) (sets p (held .packets * packetWidth) (d .counts .bytes ∷ time ∷ [])) p

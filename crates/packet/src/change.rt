@@ -23,6 +23,9 @@ ghost use Rattle.packet.specs.After.{keeping, changeBy, rowBy, addedBy, 
 pub struct Change {
     pub place: usize,
     pub at: usize,
+    // What is laid by, and which request completes; that one's row goes to the place `row`.
+    pub row: usize,
+    pub reading: Reading,
     // Row `place` becomes that of a new device at the address `owner`.
     pub device: bool,
     // A split's type, `kind`, is stored in it for the endpoint `number`.
@@ -33,9 +36,6 @@ pub struct Change {
     // Row `at` becomes that of a new device at this address.
     pub adds: bool,
     pub address: u8,
-    // What is laid by, and which request completes; that one's row goes to the place `row`.
-    pub reading: Reading,
-    pub row: usize,
 }
 
 pub fn no_change() -> Change

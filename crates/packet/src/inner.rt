@@ -59,11 +59,11 @@ fn is_dropped(slot: Slot, t: Transaction) -> bool
 }
 
 // Where the call begins to write, behind the rows held, and what it brings.
-pub fn hand_of(d: Decoder, held: Counts, time: u64, table: &Table) -> Hand
-    ensures { λ r. ⌜ r ≡ handOf time d held (now (table .entry)) ⌝ }
+pub fn hand_of(d: Decoder, held: Counts, time: u64, reason: u8, table: &Table) -> Hand
+    ensures { λ r. ⌜ r ≡ handOf time reason d held (now (table .entry)) ⌝ }
 {
     Hand {
-        written: written_of(stamp_of(d.counts, time), held, d, table),
+        written: written_of(stamp_of(d.counts, time, reason), held, d, table),
         transactions: held.transactions,
         devices: held.devices,
         endpoints: held.endpoints,
@@ -71,8 +71,8 @@ pub fn hand_of(d: Decoder, held: Counts, time: u64, table: &Table) -> Hand
 }
 
 // The record after a packet that dropped the suspended transaction.
-fn dropped_decoder(d: Decoder, sum: Sum) -> Decoder
-    ensures { λ r. ⌜ r ≡ droppedDecoder d sum ⌝ }
+fn dropped_decoder(d: Decoder, time: u64, sum: Sum) -> Decoder
+    ensures { λ r. ⌜ r ≡ droppedDecoder d time sum ⌝ }
 {
     let counts = sum.counts;
     let transaction = d.transaction;
@@ -85,6 +85,7 @@ fn dropped_decoder(d: Decoder, sum: Sum) -> Decoder
         keepalive: d.keepalive,
         waiting: sum.waiting,
         finished: d.finished,
+        time,
     }
 }
 
@@ -106,6 +107,7 @@ fn decoder_by(d: Decoder, plan: Plan, sum: Sum, h: Hand) -> Decoder
         keepalive: d.keepalive,
         waiting: sum.waiting,
         finished: d.finished,
+        time: written.stamp.time,
     }
 }
 
@@ -159,7 +161,7 @@ fn drop_packet(
     put_packet(n.bytes, held, packet, time, bytes, packets);
     Inner {
         answer: 8,
-        decoder: dropped_decoder(d, sum),
+        decoder: dropped_decoder(d, time, sum),
         change: none,
     }
 }
@@ -231,7 +233,7 @@ pub fn packet_in(
     put_packet(n.bytes, rows, packet, time, bytes, packets);
     let hand = perform(
         plan,
-        hand_of(d, rows, time, table),
+        hand_of(d, rows, time, plan.reason, table),
         table,
         device_rows,
         endpoint_rows,

@@ -1,5 +1,6 @@
 -- The counts stored in three parts are the counts stored, and the outcome of the entry is put together.
-use Prim.Native.Nat.{ℕ, _≤_, _<_}
+use Prim.Native.Nat.{ℕ, _/_, _%_, _≤_, _<_}
+use native.Mathlib.Omega.{arith}
 use mathlib.Core.List.{List, [], _∷_}
 use mathlib.Core.Path.{_≡_, refl}
 use borrow.Author.Tests.{le-leb, lt-leb}
@@ -7,7 +8,7 @@ use lib.ListN.{length}
 use lib.Seq.{sets}
 use Rattle.rows.specs.Sets.{sets-then}
 use Rattle.record.specs.declared.Counts.{Counts}
-use Rattle.call.specs.State.{Logs}
+use Rattle.call.specs.State.{Logs, countWords}
 use Rattle.step.specs.Block.{Stand}
 use Rattle.run.specs.Run.{Ran}
 use Rattle.pivotspark.specs.Told.{told, counted, Told}
@@ -17,17 +18,22 @@ module _ (l : List ℕ) (n : Counts) where
   unfolding counted
   too-few h = rw (lt-leb 12 (length l) h) refl
 
+  pub enough : {l′ : List ℕ} → 12 ≤ length l → l′ ≡ sets l 0 (countWords n) → l′ ≡ counted l n
+  unfolding counted
+  enough h p = rw (le-leb 12 (length l) h) p
+
   pub in-parts : {l₁ l₂ l₃ : List ℕ}
-      → 12 ≤ length l
       → l₁ ≡ sets l 0 (n .bytes ∷ n .devices ∷ n .endpoints ∷ n .packets ∷ [])
       → l₂ ≡ sets l₁ 4 (n .events ∷ n .transactions ∷ n .groups ∷ n .statebytes ∷ [])
       → l₃ ≡ sets l₂ 8 (n .states ∷ n .items ∷ n .links ∷ n .requests ∷ [])
-      → l₃ ≡ counted l n
-  unfolding counted
-  in-parts {l₁} {l₂} {l₃} h p q r =
+      → l₃ ≡ sets l 0 (countWords n)
+  in-parts {l₁} {l₂} {l₃} p q r =
       let two = sets-then l l₁ l₂ 0 4 (n .bytes ∷ n .devices ∷ n .endpoints ∷ n .packets ∷ []) (n .events ∷ n .transactions ∷ n .groups ∷ n .statebytes ∷ []) p refl q in
-      rw (le-leb 12 (length l) h)
-      (sets-then l l₂ l₃ 0 8 (n .bytes ∷ n .devices ∷ n .endpoints ∷ n .packets ∷ n .events ∷ n .transactions ∷ n .groups ∷ n .statebytes ∷ []) (n .states ∷ n .items ∷ n .links ∷ n .requests ∷ []) two refl r)
+      sets-then l l₂ l₃ 0 8 (n .bytes ∷ n .devices ∷ n .endpoints ∷ n .packets ∷ n .events ∷ n .transactions ∷ n .groups ∷ n .statebytes ∷ []) (n .states ∷ n .items ∷ n .links ∷ n .requests ∷ []) two refl r
+
+-- a number by its top byte and by what is below it
+pub told-parts : {a r : ℕ} (p : ℕ) → r / 72057594037927936 ≡ a → r % 72057594037927936 ≡ p % 72057594037927936 → r ≡ told a p
+told-parts p h k = omega (arith, h, k)
 
 pub told-by : {trace t h counts counts′ : List ℕ} {l : Logs} {a p r : ℕ} {s : Stand}
     → Ran trace t l h a p s

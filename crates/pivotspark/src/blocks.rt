@@ -133,25 +133,20 @@ fn run_blocks(
             requests,
             shelf,
         );
-        let answer = r.answer;
-        let place = r.place;
-        let ticked = r.clock;
-        let left = r.decoder;
-        let kept = r.devices;
-        put_block(out, roomy, i, answer, r.taken, r.eights, place, ticked);
-        let more = goes_on(answer) & (i < cuts.len());
+        put_block(out, roomy, i, r.answer, r.taken, r.eights, r.place, r.clock);
+        let more = goes_on(r.answer) & (i < cuts.len());
+        decoder = r.decoder;
+        devices = r.devices;
         i += 1;
         if !more {
             return Left {
                 blocks: i,
-                decoder: left,
-                devices: kept,
+                decoder,
+                devices,
             };
         }
-        decoder = left;
-        devices = kept;
-        clock = ticked;
-        at += place;
+        clock = r.clock;
+        at += r.place;
     }
 }
 

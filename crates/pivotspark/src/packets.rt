@@ -5,15 +5,15 @@ ghost use Rattle.crc.specs.Crc.{crc16Of};
 ghost use Rattle.usb.specs.Packet.{checkedOf};
 ghost use Rattle.pivotspark.specs.Answer.{answerOf};
 
-// The PID byte of a valid packet, and 0 for a malformed one.
+// The PID byte of a valid packet, and 256 times the reason of a malformed one.
 #[no_mangle]
-pub extern "C" fn pivotspark_check(packet: &[u8]) -> u8
+pub extern "C" fn pivotspark_check(packet: &[u8]) -> u16
     ensures { λ r. ⌜ r ≡ answerOf (checkedOf (now (packet .entry))) ⌝ }
 {
     let answer = usb::check(packet);
     match answer {
-        Checked::Valid(pid) => pid,
-        Checked::Malformed => 0,
+        Checked::Valid(pid) => pid as u16,
+        Checked::Malformed(reason) => 256 * reason as u16,
     }
 }
 

@@ -5,18 +5,20 @@ use Prim.Native.Nat.{ℕ}
 use borrow.Author.Tests.{eq-eqb}
 use lib.Dec.{eqb}
 use Rattle.transaction.specs.Table.{pick}
-use Rattle.rules.specs.World.{World, _▷_, phase, withSlot, change}
+use Rattle.rules.specs.World.{World, _▷_, phase, withSlot, withContext, change, lastOf, lastStamped}
 use Rattle.rules.specs.Endpoints.{detailOf}
 use Rattle.rules.specs.Groups.{becomes, effectStep, grouped, groupUpdate}
 use Rattle.rules.specs.Transactions.{transactionEndAt, transactionEnd}
 use Rattle.rules.specs.Decoder.{finish}
 use Rattle.rules.specs.declared.Slot.{Slot}
+use Rattle.rules.specs.declared.Stamp.{Stamp}
 use Rattle.rules.specs.declared.Slot.the-variants.{Empty, Current, Suspended}
 use Rattle.update.specs.Update.{when, decideUpdate, act}
 use Rattle.update.proofs.Decided.{update-is}
 use Rattle.plan.specs.Step.{ended, endOf}
 use Rattle.plan.specs.Ending.{currentEndpoint, slotEnded, endingOf, endPlayed}
 use Rattle.plan.specs.declared.End.{End}
+use Rattle.plan.specs.declared.Ending.{Ending}
 use Rattle.plan.proofs.Frame.{when-past, ended-slot}
 
 -- the end of the transaction of a world on endpoint x
@@ -67,6 +69,11 @@ ending-is w = by (w .slot) refl
     by Current h = end-is false false w
     by Suspended h = none Suspended h
 
-pub finish-is : (w : World) → finish w ≡ endPlayed (endingOf w) w
+-- what a call brings is not what the end is decided from
+pub ending-context : (c : Stamp) (w : World) → endingOf (withContext c w) ≡ endingOf w
+unfolding endingOf
+ending-context c w = refl
+
+pub finish-is : (w : World) → finish w ≡ endPlayed (endingOf w) (lastStamped w)
 unfolding finish
-finish-is w = ending-is w
+finish-is w = ending-is (lastStamped w) ∙ ap (λ (e : Ending). endPlayed e (lastStamped w)) (ending-context (lastOf (w .packets) (w .context)) w)

@@ -332,7 +332,7 @@ module _ (k : ℕ) where
 
     entry-log : (x : ℕ) (start : Bool) (w : World) → log k (rules.addGroupEntry x start w .journal) ≡ log k (w .journal)
     entry-log x start w =
-        row-log (GroupRow (grouping x (lastGroup x w) start)) (rules.addEndpointState x start w .journal) six
+        row-log (GroupRow (grouping x (lastGroup x w) start (w .context))) (rules.addEndpointState x start w .journal) six
         ∙ states-log (withEndpoints (λ j. withState (nextState (eqb j x) (eqb x eventEp) start (w .endpoints j .state)) (w .endpoints j)) w)
 
     pub act-log : (u : Update) (x : ℕ) (w : World) → log k (act u x w .journal) ≡ log k (w .journal)
@@ -400,7 +400,7 @@ opened-still id s = opened-keeps stillOf id s (λ v. refl) (λ v. refl) (λ v. r
 pub opened-log : (k : ℕ) → eqb 1 k ≡ false → eqb 2 k ≡ false → eqb 5 k ≡ false → (id : ℕ) (s : Beginning) (w : World) → log k (opened id s w .journal) ≡ log k (w .journal)
 opened-log k one two five id s =
     opened-keeps (λ v. log k (v .journal)) id s
-    (λ v. row-log k (TransactionRow (naming id)) (v .journal) five)
+    (λ v. row-log k (TransactionRow (naming id (v .context .reason))) (v .journal) five)
     (λ v. row-log k (DeviceRow (s .owner)) (v .journal) one)
     (λ v. row-log k (EndpointRow (s .place) (numberOf (s .number)) (s .number / 128)) (v .journal) two)
     (λ v. refl)

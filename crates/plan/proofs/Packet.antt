@@ -9,9 +9,11 @@ use lib.Dec.{eqb}
 use lib.ListN.{length}
 use Rattle.rows.specs.One.{one}
 use Rattle.usb.specs.Fields.{setupDataOf}
+use Rattle.usb.specs.Packet.{reasonOf}
 use Rattle.transaction.specs.Table.{pick}
 use Rattle.transaction.specs.Payload.{startPid, extractPayload}
 use Rattle.transaction.specs.Status.{transactionStatus}
+use Rattle.transaction.specs.StatusLaws.{status-reason}
 use Rattle.transaction.specs.declared.Status.{Status}
 use Rattle.transaction.specs.declared.Status.the-variants.{New, Continue, Retry, Done, Fail, Ambiguous, Invalid}
 use Rattle.transaction.specs.declared.Transaction.{Transaction}
@@ -171,9 +173,9 @@ module _ (id pid x0 n : ℕ) (packet : List ℕ) (e : Endpoint) (w v : World) (r
 
 -- ---- all of it, by the status
 
-module _ (id pid x0 : ℕ) (packet : List ℕ) (e : Endpoint) (w v : World) (r : Resumed x0 e (w .transactions + one (resumes (w .slot))) w v) where
+module _ (id pid reason x0 : ℕ) (packet : List ℕ) (e : Endpoint) (w v : World) (r : Resumed x0 e (w .transactions + one (resumes (w .slot))) w v) where
   abbrev planned : Status → Plan
-  planned s = planBy (record { pid = pid; status = s }) x0 e (v .transaction) packet w
+  planned s = planBy (record { pid = pid; status = s; reason = reason }) x0 e (v .transaction) packet w
 
   abbrev n : ℕ
   n = w .transactions + one (resumes (w .slot))
@@ -277,26 +279,27 @@ by-slot Empty id packet w h =
     let v = withSlot Empty w in
     let t = stateAt Empty (w .transaction) in
     let pid = transactionStatus t packet .pid in
-    no-transaction (λ s. updateAt s id pid packet (completes (t .style) s) v ≡ (let p = planBy (record { pid = pid; status = s }) 0 (w .endpoints 0) (w .transaction) packet v in onward p id (kept p packet v)))
-    (empty-is id pid 0 packet (w .endpoints 0) v v (same-resumed 0 v) refl New new) (empty-is id pid 0 packet (w .endpoints 0) v v (same-resumed 0 v) refl Invalid invalid) t refl packet
+    let reason = transactionStatus t packet .reason in
+    no-transaction (λ s. updateAt s id pid packet (completes (t .style) s) v ≡ (let p = planBy (record { pid = pid; status = s; reason = reason }) 0 (w .endpoints 0) (w .transaction) packet v in onward p id (kept p packet v)))
+    (empty-is id pid reason 0 packet (w .endpoints 0) v v (same-resumed 0 v) refl New new) (empty-is id pid reason 0 packet (w .endpoints 0) v v (same-resumed 0 v) refl Invalid invalid) t refl packet
 by-slot Current id packet w h =
     let v = withSlot Current w in
     let x = w .transaction .endpoint in
     let j = transactionStatus (w .transaction) packet in
-    current-is id (j .pid) x packet (w .endpoints x) v v (same-resumed x v) refl refl (j .status)
+    current-is id (j .pid) (j .reason) x packet (w .endpoints x) v v (same-resumed x v) refl refl (j .status)
 by-slot Suspended id packet w h =
     let u = withSlot Suspended w in
     let x = w .transaction .endpoint in
     let v = begun id (resumeOf u) u in
     let j = transactionStatus (v .transaction) packet in
     ap (λ (c : Bool). pick c (withSlot Empty u) (updateFrom id packet (resumeAt Suspended id u))) h
-    ∙ current-is id (j .pid) x packet (moreTransactions (w .endpoints x)) u v (link-resumed id u) refl refl (j .status)
+    ∙ current-is id (j .pid) (j .reason) x packet (moreTransactions (w .endpoints x)) u v (link-resumed id u) refl refl (j .status)
 
 -- ---- handle_raw_packet
 
 -- what a plan is decided from
 abbrev bareOf : World → World
-bareOf w = makeWorld (w .endpoints) (w .count) (w .devices) (w .deviceCount) (w .slot) (w .transaction) (w .lastItem) Idle false (stamp 0 0) []
+bareOf w = makeWorld (w .endpoints) (w .count) (w .devices) (w .deviceCount) (w .slot) (w .transaction) (w .lastItem) Idle false (stamp 0 0 0) []
     0 0 (w .transactions) 0 0 0 []
 
 plan-bare : (packet : List ℕ) (w : World) → planOf packet (bareOf w) ≡ planOf packet w
@@ -323,6 +326,7 @@ plan-bare packet w =
       closes = closes;
       close = endIf closes (closeOf m (lastEnded ends end x0 (w .lastItem)) (succeeds s) (completesBy s (t .style))) (m .entry);
       slot = slotAfter s (w .slot);
+      reason = j .reason;
     }
   where
     alike : Alike w (bareOf w)
@@ -340,6 +344,13 @@ plan-bare packet w =
 -- not from the packet's rows
 pub plan-same : (packet : List ℕ) (time : ℕ) (w : World) → planOf packet (withPacket packet time w) ≡ planOf packet w
 plan-same packet time w = sym (plan-bare packet (withPacket packet time w)) ∙ plan-bare packet w
+
+-- it has the packet's reason
+pub plan-reason : (packet : List ℕ) (w : World) → planOf packet w .reason ≡ reasonOf packet
+unfolding planOf planBy
+plan-reason packet w =
+    let x0 = oldEndpoint (w .slot) (w .transaction) in
+    status-reason (stateAt (slotThen (w .slot)) (transactionThen (w .slot) (w .transactions) (w .endpoints x0) (w .transaction))) packet
 
 -- nor from the shelf
 pub plan-shelf : (packet shelf : List ℕ) (w : World) → planOf packet (withShelf shelf w) ≡ planOf packet w

@@ -88,7 +88,7 @@ module _ (k : ℕ) (one : eqb 1 k ≡ false) (two : eqb 2 k ≡ false) (five : e
 
   pub log-untouched : Untouched rowsIn
   log-untouched =
-      record { row = λ id v. row-log k (TransactionRow (naming id)) (v .journal) five; device = λ a v. row-log k (DeviceRow a) (v .journal) one; endpoint = λ d a v. row-log k (EndpointRow d _ _) (v .journal) two; types = λ d f v. refl; transaction = λ t v. refl; change = λ x f v. refl; act = λ u x v. act-log k six seven eight nine ten u x v; effect = λ f x v. effect-log k one ten eleven f x v }
+      record { row = λ id v. row-log k (TransactionRow (naming id (v .context .reason))) (v .journal) five; device = λ a v. row-log k (DeviceRow a) (v .journal) one; endpoint = λ d a v. row-log k (EndpointRow d _ _) (v .journal) two; types = λ d f v. refl; transaction = λ t v. refl; change = λ x f v. refl; act = λ u x v. act-log k six seven eight nine ten u x v; effect = λ f x v. effect-log k one ten eleven f x v }
 
   pub played-log : (p : Plan) (packet : List ℕ) (time : ℕ) (w : World) → log k (played p packet time w .journal) ≡ log k (world1 packet time w .journal)
   played-log p packet time w = played-keeps rowsIn log-untouched (λ s v. refl) p packet time w

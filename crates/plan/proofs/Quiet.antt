@@ -104,7 +104,7 @@ no-transaction P new invalid t h packet = by (checkedOf packet)
     rows false false = invalid
 
     by : (c : Checked) → P (judgedOf t c (length packet) .status)
-    by Malformed = invalid
+    by (Malformed reason) = invalid
     by (Valid next) =
         subst (λ (s : Style). P (statusOf s t next (length packet))) (sym h)
         (rows (fits (SOF or SETUP or IN or OUT or PING or only SPLIT ∷ []) (next ∷ []) && true) (fits (only MALFORMED ∷ []) (next ∷ []) && true))

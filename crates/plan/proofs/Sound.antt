@@ -108,17 +108,17 @@ unfolding transactionStatus
 pid-byte t packet h = by (checkedOf packet) refl
   where
     by : (c : Checked) → checkedOf packet ≡ c → judgedOf t c (length packet) .pid < 256
-    by Malformed q = omega arith
+    by (Malformed reason) q = omega arith
     by (Valid next) q = omega (arith, valid packet next q .first)
 
 -- ---- the steps of a plan
 
 -- no endpoint has more than L T rows and L G rows before; e is the old endpoint's entry, once its transaction is resumed
 module _ (packet : List ℕ) (time : ℕ) (w : World) (special : 3 ≤ w .count) (devices : w .deviceCount ≤ 64) (L : ℕ) (entries : (j : ℕ) → j < w .count → Small L L (w .endpoints j))
-    (s : Status) (pid : ℕ) (byte : pid < 256) (x0 : ℕ) (old : x0 < w .count) (e : Endpoint) (small : Small (L + one (resumes (w .slot))) L e) (t : Transaction) (on : onGoing s ≡ true → t .endpoint < w .count) (token : startPid (t .style) < 256)
+    (s : Status) (pid reason : ℕ) (byte : pid < 256) (x0 : ℕ) (old : x0 < w .count) (e : Endpoint) (small : Small (L + one (resumes (w .slot))) L e) (t : Transaction) (on : onGoing s ≡ true → t .endpoint < w .count) (token : startPid (t .style) < 256)
     (resumed : resumes (w .slot) ≡ true → (w .transaction .endpoint < w .count) × (startPid (w .transaction .style) < 256)) where
   abbrev plan : Plan
-  plan = planBy (record { pid = pid; status = s }) x0 e t packet w
+  plan = planBy (record { pid = pid; status = s; reason = reason }) x0 e t packet w
 
   abbrev b : Transaction
   b = extractPayload t pid (length packet) (setupDataOf packet)
@@ -317,7 +317,7 @@ module _ (packet : List ℕ) (w : World) (a : Sane packet w) where
       → PlanFits (planOf packet w) packet time w
   unfolding planOf planBy
   fits-packet time total =
-      plan-fits packet time w (a .special) (a .devices) (a .links) entries-small (judged .status) (judged .pid) (pid-byte (stateAt (slotThen (w .slot)) resumedBy) packet (a .first)) held (a .old) (entryThen (w .slot) (w .endpoints held))
+      plan-fits packet time w (a .special) (a .devices) (a .links) entries-small (judged .status) (judged .pid) (judged .reason) (pid-byte (stateAt (slotThen (w .slot)) resumedBy) packet (a .first)) held (a .old) (entryThen (w .slot) (w .endpoints held))
       (then-small (w .slot) (w .endpoints held) (entries-small held (a .old)))
       resumedBy
       (then-on (w .slot) (w .transactions) (w .count) (w .endpoints held) (w .transaction) packet (a .old))
@@ -330,7 +330,7 @@ module _ (packet : List ℕ) (w : World) (a : Sane packet w) where
   unfolding planOf
   words-packet =
       same-words (planOf packet w)
-      (plan-worded packet 0 w (a .special) (a .devices) (a .links) entries-small (judged .status) (judged .pid) (pid-byte (stateAt (slotThen (w .slot)) resumedBy) packet (a .first)) held (a .old) (entryThen (w .slot) (w .endpoints held))
+      (plan-worded packet 0 w (a .special) (a .devices) (a .links) entries-small (judged .status) (judged .pid) (judged .reason) (pid-byte (stateAt (slotThen (w .slot)) resumedBy) packet (a .first)) held (a .old) (entryThen (w .slot) (w .endpoints held))
       (then-small (w .slot) (w .endpoints held) (entries-small held (a .old)))
       resumedBy
       (then-on (w .slot) (w .transactions) (w .count) (w .endpoints held) (w .transaction) packet (a .old))

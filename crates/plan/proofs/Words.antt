@@ -312,6 +312,7 @@ same-words p h = λ i. record {
   closes = p .closes;
   close = record { entry = h .close i; update = p .close .update; effect = p .close .effect };
   slot = p .slot;
+  reason = p .reason;
 }
   where
     by : (c : Bool) → (c ≡ true → p .begin .transaction .id < 2 ^ 64) → pick c (p .begin .transaction .id % 2 ^ 64) (p .begin .transaction .id) ≡ p .begin .transaction .id

@@ -7,6 +7,7 @@ use lib.ListN.{length}
 use Rattle.group.specs.declared.Effect.the-variants.{NoEffect}
 use Rattle.rows.specs.One.{one}
 use Rattle.usb.specs.Pid.{SPLIT, MALFORMED}
+use Rattle.usb.specs.Packet.{reasonOf}
 use Rattle.usb.specs.Fields.{tokenOf, splitOf, setupDataOf}
 use Rattle.details.specs.Details.{numberOf, detailsOf, fresh}
 use Rattle.details.specs.Kind.{Unknown}
@@ -281,6 +282,7 @@ planBy j x0 e t packet w =
       closes = closes;
       close = endIf closes (closeOf m (lastEnded ends end x0 (w .lastItem)) (succeeds s) (completesBy s (t .style))) (m .entry);
       slot = slotAfter s (w .slot);
+      reason = j .reason;
     }
 
 unfoldable pub planOf : List ℕ → World → Plan
@@ -302,7 +304,7 @@ kept p packet w = withShelf (shelfWith (keeps p) (p .end .entry) packet (w .shel
 -- ---- done: the packet's rows, then each step
 
 abbrev pub withPacket : List ℕ → ℕ → World → World
-withPacket packet time w = w ▷ stamped time ▷ withEventState Idle ▷ appendBytes packet ▷ pushPacket (w .bytes) time
+withPacket packet time w = w ▷ stamped time (reasonOf packet) ▷ withEventState Idle ▷ appendBytes packet ▷ pushPacket (w .bytes) time
 
 unfoldable pub played : Plan → List ℕ → ℕ → World → World
 played p packet time w =

@@ -52,6 +52,7 @@ planWords p =
       closes = p .closes;
       close = endWords (p .close);
       slot = p .slot;
+      reason = p .reason;
     }
 
 -- closeOf, with the entry after the step in words

@@ -72,6 +72,8 @@ pub struct Plan {
     pub close: End,
     // What the slot is then.
     pub slot: Slot,
+    // Why the packet is malformed; 0 where it is not.
+    pub reason: u8,
 }
 
 // The end of the current transaction, on endpoint `old`, where there is one (transaction_end, by an event or by finish).

@@ -6,6 +6,7 @@ use Prim.Native.Nat.{ℕ, _+_, _*_, _/_, _^_, _<_, _≤_}
 use native.Mathlib.Omega.{arith}
 use lib.ListN.{length}
 use lib.Seq.{sets}
+use Rattle.usb.specs.Packet.{noReason}
 use Rattle.rows.specs.One.{one}
 use Rattle.rows.specs.Sets.{opt}
 use Rattle.rows.specs.Widths.{packetWidth, transactionWidth, linkWidth}
@@ -63,6 +64,7 @@ shape {p} h =
       closes = h .closes i;
       close = p .close;
       slot = h .slot i;
+      reason = h .reason i;
     }
 
 -- ---- the sum
@@ -114,7 +116,7 @@ pub record BeginPlan (packet : List ℕ) (time : ℕ) (s : State) (row : Bool) (
   pub left : leftWith plan (beginSum row l (length packet) (s .decoder)) packet time s ≡ beginState row t l packet time s
   pub kept : isChange (changeBy plan (s .decoder .counts .devices) (heldAt s .requests)) ≡ false
   -- what the code asks before it writes: the endpoint is there, and its count has room for one more
-  pub wants : PlanAsks plan (deskBy (handOf time (s .decoder) (heldAt s) (s .table)) s) → BeginWants s t l
+  pub wants : PlanAsks plan (deskBy (handOf time (plan .reason) (s .decoder) (heldAt s) (s .table)) s) → BeginWants s t l
 
 module _ (packet : List ℕ) (time : ℕ) (s : State) (h : Enters packet s) where
   pub only-plan : {row : Bool} {t : Transaction} {l : Bool} → BeginOnly (planOf packet (worldAt s)) row t l Current → keeps (planOf packet (worldAt s)) ≡ false → RowsRoom (one row) (one l) (length packet) (heldAt s) (s .decoder .counts) (roomOf (s .logs)) → BeginPlan packet time s row t l
@@ -143,17 +145,17 @@ module _ (packet : List ℕ) (time : ℕ) (s : State) (h : Enters packet s) wher
     -- of what the code has: each part with its equation (begin_only)
     pub begin-by : {held : Counts} {r : Decoder} {table bytes packets transactions rows : List ℕ}
         → held ≡ heldAt s
-        → r ≡ beginDecoder row t l (length packet) (s .table) (s .decoder)
+        → r ≡ beginDecoder row t l (length packet) time (s .table) (s .decoder)
         → table ≡ beginTable l (t .endpoint) (s .table)
         → bytes ≡ sets (s .logs .bytes) (held .bytes) packet
         → packets ≡ sets (s .logs .packets) (held .packets * packetWidth) (s .decoder .counts .bytes ∷ time ∷ [])
-        → transactions ≡ sets (s .logs .transactions) (held .transactions * transactionWidth) (opt row (transactionWords (naming (s .decoder .counts .packets))))
+        → transactions ≡ sets (s .logs .transactions) (held .transactions * transactionWidth) (opt row (transactionWords (naming (s .decoder .counts .packets) noReason)))
         → rows ≡ sets (s .logs .links) (held .links * linkWidth) (opt l (T ∷ t .endpoint ∷ t .id ∷ 0 ∷ []))
         → (shelf : List ℕ) → PacketCall packet time s shelf 0 (state r (s .devices) table (logs bytes (s .logs .devices) (s .logs .endpoints) packets (s .logs .events) transactions (s .logs .groups) (s .logs .statebytes) (s .logs .states) (s .logs .items) rows (s .logs .requests))) shelf
     begin-by {held} e p1 p2 q3 q4 q5 q6 shelf =
         let p3 = q3 ∙ ap (λ (h : Counts). sets (s .logs .bytes) (h .bytes) packet) e in
         let p4 = q4 ∙ ap (λ (h : Counts). sets (s .logs .packets) (h .packets * packetWidth) (s .decoder .counts .bytes ∷ time ∷ [])) e in
-        let p5 = q5 ∙ ap (λ (h : Counts). sets (s .logs .transactions) (h .transactions * transactionWidth) (opt row (transactionWords (naming (s .decoder .counts .packets))))) e in
+        let p5 = q5 ∙ ap (λ (h : Counts). sets (s .logs .transactions) (h .transactions * transactionWidth) (opt row (transactionWords (naming (s .decoder .counts .packets) noReason)))) e in
         let p6 = q6 ∙ ap (λ (h : Counts). sets (s .logs .links) (h .links * linkWidth) (opt l (T ∷ t .endpoint ∷ t .id ∷ 0 ∷ []))) e in
         begin-call (λ i. state (p1 i) (s .devices) (p2 i) (logs (p3 i) (s .logs .devices) (s .logs .endpoints) (p4 i) (s .logs .events) (p5 i) (s .logs .groups) (s .logs .statebytes) (s .logs .states) (s .logs .items) (p6 i) (s .logs .requests))) shelf
 

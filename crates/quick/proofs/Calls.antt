@@ -37,7 +37,7 @@ pub record Enters (packet : List ℕ) (s : State) : Type 0 where
 -- what the plan q with the sum z leaves, where it changes nothing of what is the caller's
 abbrev pub leftWith : Plan → Sum → List ℕ → ℕ → State → State
 leftWith q z packet time s =
-    let k = performed q (deskBy (handOf time (s .decoder) (heldAt s) (s .table)) s) in
+    let k = performed q (deskBy (handOf time (q .reason) (s .decoder) (heldAt s) (s .table)) s) in
     state (decoderBy (s .decoder) q z (k .hand)) (s .devices) (k .table)
     (logs (sets (s .logs .bytes) (heldAt s .bytes) packet) (k .devices) (k .endpoints) (sets (s .logs .packets) (heldAt s .packets * packetWidth) (s .decoder .counts .bytes ∷ time ∷ [])) (s .logs .events) (k .transactions) (k .groups) (k .statebytes) (k .states) (k .items) (k .links) (s .logs .requests))
 
@@ -62,7 +62,7 @@ module _ (packet : List ℕ) (time : ℕ) (s : State) (h : Enters packet s) wher
           sum = sym f;
         }
 
-    pub shape-asks : PlanAsks q (deskBy (handOf time (s .decoder) (heldAt s) (s .table)) s)
+    pub shape-asks : PlanAsks q (deskBy (handOf time (q .reason) (s .decoder) (heldAt s) (s .table)) s)
     shape-asks = asks-by packet time s decided ok refl
 
     pub shape-rows : (heldAt s .bytes + length packet ≤ length (s .logs .bytes)) × ((heldAt s .packets + 1) * packetWidth ≤ length (s .logs .packets))
@@ -70,7 +70,7 @@ module _ (packet : List ℕ) (time : ℕ) (s : State) (h : Enters packet s) wher
 
     pub shape-call : isChange (changeBy q (s .decoder .counts .devices) (heldAt s .requests)) ≡ false → (shelf : List ℕ) → PacketCall packet time s shelf 0 (leftWith q z packet time s) shelf
     shape-call c shelf =
-        let k = performed q (deskBy (handOf time (s .decoder) (heldAt s) (s .table)) s) in
+        let k = performed q (deskBy (handOf time (q .reason) (s .decoder) (heldAt s) (s .table)) s) in
         let x = changeBy q (s .decoder .counts .devices) (heldAt s .requests) in
         with-parts packet time s shelf (sym (changed-none x packet shelf (s .devices) c)) (sym (requested-none x packet shelf (s .devices) c (s .logs .requests))) (sym (shelved-none x packet shelf (s .devices) c))
-        (accepted-by packet time s decided ok {h = handOf time (s .decoder) (heldAt s) (s .table)} {k = k} {x = decoderBy (s .decoder) q z (k .hand)} {c = x} refl refl refl refl refl refl shelf)
+        (accepted-by packet time s decided ok {h = handOf time (q .reason) (s .decoder) (heldAt s) (s .table)} {k = k} {x = decoderBy (s .decoder) q z (k .hand)} {c = x} refl refl refl refl refl refl shelf)

@@ -6,6 +6,7 @@ use Prim.Native.Nat.{ℕ, _+_, _*_, _≤_}
 use native.Mathlib.Omega.{arith}
 use lib.ListN.{length}
 use lib.Seq.{sets}
+use Rattle.usb.specs.Packet.{noReason}
 use Rattle.rows.specs.Widths.{packetWidth}
 use Rattle.details.specs.declared.Detail.{Detail}
 use Rattle.endpoints.specs.Table.{entryAt}
@@ -58,6 +59,7 @@ shape {p} h =
       closes = h .closes i;
       close = h .close i;
       slot = h .slot i;
+      reason = h .reason i;
     }
 
 -- ---- the sum
@@ -143,15 +145,15 @@ module _ (q : Shape) (d : Decoder) (old : Detail) (table : List ℕ) {x : ℕ} {
 
 -- ---- what close_only asks of end_if, and what it leaves
 
-pub close-ready : (t : Transaction) (e : End) (time : ℕ) (d : Decoder) (held : Counts) (table v g m s i l : List ℕ) {x : Decoder} {h : Hand} {pid : ℕ} → x ≡ holding t d → h ≡ handOf time x held table → pid ≡ startPid (t .style)
+pub close-ready : (t : Transaction) (e : End) (time : ℕ) (d : Decoder) (held : Counts) (table v g m s i l : List ℕ) {x : Decoder} {h : Hand} {pid : ℕ} → x ≡ holding t d → h ≡ handOf time noReason x held table → pid ≡ startPid (t .style)
     → EndsIf true (t .endpoint) (t .id) (startPid (t .style)) e (desk (closeHand t time d held table) table v [] [] g m s i l)
     → EndsIf true (t .endpoint) (t .id) pid e (desk h table v [] [] g m s i l)
 close-ready t e time d held table v g m s i l {h = h} e1 e2 e3 r =
     subst (λ (p : ℕ). EndsIf true (t .endpoint) (t .id) p e (desk h table v [] [] g m s i l)) (sym e3)
-    (subst (λ (y : Hand). EndsIf true (t .endpoint) (t .id) (startPid (t .style)) e (desk y table v [] [] g m s i l)) (sym (e2 ∙ ap (λ (y : Decoder). handOf time y held table) e1)) r)
+    (subst (λ (y : Hand). EndsIf true (t .endpoint) (t .id) (startPid (t .style)) e (desk y table v [] [] g m s i l)) (sym (e2 ∙ ap (λ (y : Decoder). handOf time noReason y held table) e1)) r)
 
 pub close-on : (t : Transaction) (e : End) (z : Tally) {held : Counts} (packet : List ℕ) (time : ℕ) (s : State) {x r : Decoder} {h h′ : Hand} {pid : ℕ} {table b v p g m st i l : List ℕ}
-    → held ≡ heldAt s → x ≡ holding t (s .decoder) → h ≡ handOf time x held (s .table) → pid ≡ startPid (t .style)
+    → held ≡ heldAt s → x ≡ holding t (s .decoder) → h ≡ handOf time noReason x held (s .table) → pid ≡ startPid (t .style)
     → desk h′ table v (s .logs .endpoints) (s .logs .transactions) g m st i l
     ≡ endedDesk (t .endpoint) (t .id) pid e (desk h (s .table) (s .logs .devices) (s .logs .endpoints) (s .logs .transactions) (s .logs .groups) (s .logs .statebytes) (s .logs .states) (s .logs .items) (s .logs .links))
     → b ≡ sets (s .logs .bytes) (held .bytes) packet → p ≡ sets (s .logs .packets) (held .packets * packetWidth) (s .decoder .counts .bytes ∷ time ∷ [])
@@ -161,7 +163,7 @@ close-on t e z {held} packet time s {table = table} {v = v} {g = g} {m = m} {st 
     let g₀ = s .logs in
     let e5 = f5 ∙ ap (λ (y : Counts). sets (g₀ .bytes) (y .bytes) packet) e0 in
     let e6 = f6 ∙ ap (λ (y : Counts). sets (g₀ .packets) (y .packets * packetWidth) (s .decoder .counts .bytes ∷ time ∷ [])) e0 in
-    let k = e4 ∙ λ j. endedDesk (t .endpoint) (t .id) (e3 j) e (desk ((e2 ∙ λ m. handOf time (e1 m) (e0 m) (s .table)) j) (s .table) (g₀ .devices) (g₀ .endpoints) (g₀ .transactions) (g₀ .groups) (g₀ .statebytes) (g₀ .states) (g₀ .items) (g₀ .links)) in
+    let k = e4 ∙ λ j. endedDesk (t .endpoint) (t .id) (e3 j) e (desk ((e2 ∙ λ m. handOf time noReason (e1 m) (e0 m) (s .table)) j) (s .table) (g₀ .devices) (g₀ .endpoints) (g₀ .transactions) (g₀ .groups) (g₀ .statebytes) (g₀ .states) (g₀ .items) (g₀ .links)) in
     (λ j. state (e7 j) (s .devices) table (logs (e5 j) v (g₀ .endpoints) (e6 j) (g₀ .events) (g₀ .transactions) g m st i l (g₀ .requests)))
     ∙ λ j. state (closedDecoder t z (k j .hand .written) (s .decoder)) (s .devices) (k j .table) (logs (sets (g₀ .bytes) (heldAt s .bytes) packet) (k j .devices) (g₀ .endpoints) (sets (g₀ .packets) (heldAt s .packets * packetWidth) (s .decoder .counts .bytes ∷ time ∷ [])) (g₀ .events) (g₀ .transactions) (k j .groups) (k j .statebytes) (k j .states) (k j .items) (k j .links) (g₀ .requests))
 

@@ -158,7 +158,7 @@ module _ (packet : List ℕ) (time : ℕ) (s : State) (h : Enters packet s) {t :
       → keeps (planOf packet (worldAt s)) ≡ false
       → startPid (t .style) < 256
       → held ≡ heldAt s
-      → r ≡ lightDecoder t e (moreRows 0 (linkRows (e .update) (e .effect)) (length packet) (s .decoder .counts)) (s .decoder .waiting) (s .decoder)
+      → r ≡ lightDecoder t e (moreRows 0 (linkRows (e .update) (e .effect)) (length packet) (s .decoder .counts)) (s .decoder .waiting) time (s .decoder)
       → table ≡ lightTable t e (s .table)
       → bytes ≡ sets (s .logs .bytes) (held .bytes) packet
       → packets ≡ sets (s .logs .packets) (held .packets * packetWidth) (s .decoder .counts .bytes ∷ time ∷ [])
@@ -170,7 +170,7 @@ module _ (packet : List ℕ) (time : ℕ) (s : State) (h : Enters packet s) {t :
       let z = closeTally e (length packet) (s .decoder) in
       let n = light-counts e (length packet) (s .decoder) (l .quiet) (l .counts) (s .decoder .counts) in
       let m = light-waiting e (length packet) (s .decoder) (l .quiet) (l .counts) in
-      let d : _ ≡ lightDecoder t e (addCounts (s .decoder .counts) z) (z .waiting) (s .decoder) = e3 ∙ λ i. lightDecoder t e (sym n i) (sym m i) (s .decoder) in
+      let d : _ ≡ lightDecoder t e (addCounts (s .decoder .counts) z) (z .waiting) time (s .decoder) = e3 ∙ λ i. lightDecoder t e (sym n i) (sym m i) time (s .decoder) in
       let b = e5 ∙ ap (λ (y : Counts). sets (g .bytes) (y .bytes) packet) e1 in
       let p = e6 ∙ ap (λ (y : Counts). sets (g .packets) (y .packets * packetWidth) (s .decoder .counts .bytes ∷ time ∷ [])) e1 in
       let k = e7 ∙ ap (λ (y : Counts). lightLinks t e (y .links) (g .links)) e1 in

@@ -7,6 +7,7 @@ use Prim.Native.Nat.{ℕ, _+_, _<_}
 use native.Mathlib.Omega.{arith}
 use lib.Dec.{eqb}
 use lib.ListN.{length}
+use Rattle.usb.specs.Packet.{noReason}
 use Rattle.usb.specs.Fields.{tokenOf, setupDataOf}
 use Rattle.usb.specs.Pid.{SPLIT, MALFORMED, SOF}
 use Rattle.details.specs.Kind.{Unknown, Framing}
@@ -14,6 +15,7 @@ use Rattle.endpoints.specs.declared.Endpoint.{Endpoint}
 use Rattle.endpoints.specs.declared.Phase.the-variants.{Active}
 use Rattle.transaction.specs.Payload.{startPid, extractPayload}
 use Rattle.transaction.specs.Status.{judged, transactionStatus}
+use Rattle.transaction.specs.StatusLaws.{Taken, judged-is}
 use Rattle.transaction.specs.Table.{pick}
 use Rattle.transaction.specs.declared.Judged.{Judged}
 use Rattle.transaction.specs.declared.Status.{Status}
@@ -93,9 +95,9 @@ update-at : (pid : ℕ) (t : Transaction) (e : Endpoint) → startsEarly pid (e 
 update-at pid t e h = ap (λ (b : Bool). startBy (pick b (early (e .phase) false) none) t e) h
 
 token-by : (q : Plan) (m : Middle) (packet : List ℕ) (pid n x0 : ℕ) (e0 : Endpoint) (p : Place) (w : World) → Token packet pid x0 e0 p w → m ≡ starting New x0 e0 pid packet (n + 0) w
-    → q .resumes ≡ false → q .ends ≡ false → q .begin ≡ m .begin → q .closes ≡ false → q .slot ≡ Current
+    → q .resumes ≡ false → q .ends ≡ false → q .begin ≡ m .begin → q .closes ≡ false → q .slot ≡ Current → q .reason ≡ noReason
     → BeginOnly q true (tokenOn pid n p) (decideEarlyAppend (tokenOn pid n p) (p .entry) .link) Current
-token-by q m packet pid n x0 e0 p w h e p1 p2 p3 p4 p5 =
+token-by q m packet pid n x0 e0 p w h e p1 p2 p3 p4 p5 p6 =
     let more : n + 0 ≡ n = omega arith in
     let g = p3 ∙ ap (λ (y : Middle). y .begin) (e ∙ (starting-at packet pid (n + 0) x0 e0 p w h ∙ ap (startPlain New p pid packet) more)) in
     record {
@@ -109,6 +111,7 @@ token-by q m packet pid n x0 e0 p w h e p1 p2 p3 p4 p5 =
       update = ap (λ (y : Begin). y .update) g ∙ update-at pid (tokenOn pid n p) (p .entry) (h .goes);
       closes = p4;
       slot = p5;
+      reason = p6;
     }
 
 -- with an empty slot
@@ -118,7 +121,7 @@ unfolding planOf planBy
 token-on packet pid p w new h =
     let v = withSlot Empty w in
     subst (λ (j : Judged). Begun (tokenShape pid (v .transactions) p) (planBy j 0 (v .endpoints 0) (v .transaction) packet v) v) (sym new)
-    (begun-only _ _ _ _ refl (token-by _ _ packet pid (v .transactions) 0 (v .endpoints 0) p v h refl refl refl refl refl refl))
+    (begun-only _ _ _ _ refl (token-by _ _ packet pid (v .transactions) 0 (v .endpoints 0) p v h refl refl refl refl refl refl refl))
 
 pub token-begins : (packet : List ℕ) (pid : ℕ) (p : Place) (w : World) → w .slot ≡ Empty → transactionStatus (newTransaction Nothing 0 0 0 Unknown) packet ≡ judged pid New → Token packet pid 0 (w .endpoints 0) p w
     → Begun (tokenShape pid (w .transactions) p) (planOf packet w) w
@@ -159,7 +162,7 @@ rest-on packet pid p w new r h =
     subst (λ (j : Judged). Begun (tokenShape pid (v .transactions) p) (planBy j x e (v .transaction) packet v) v) (sym new)
     (begun-rest _ _ _ _ refl
     (record {
-      begins = token-by _ _ packet pid (v .transactions) x _ p v h0 refl refl refl refl refl refl;
+      begins = token-by _ _ packet pid (v .transactions) x _ p v h0 refl refl refl refl refl refl refl;
       ends = ends;
       there = r .there;
       end = λ i. endIf (ends i) (end i) e;
@@ -198,9 +201,9 @@ module _ (packet : List ℕ) (pid first : ℕ) (w : World) (style : w .transacti
 
   -- it goes on
   begin-by : (p : Plan) (s : Status) (l : Bool) (m : Middle) → m ≡ middle s → updateFor s pid t (w .endpoints x) ≡ links l Keep
-      → p .resumes ≡ false → p .ends ≡ false → p .begin ≡ m .begin → p .closes ≡ false → p .slot ≡ Current
+      → p .resumes ≡ false → p .ends ≡ false → p .begin ≡ m .begin → p .closes ≡ false → p .slot ≡ Current → p .reason ≡ noReason
       → BeginOnly p false t l Current
-  begin-by p s l m e u p1 p2 p3 p4 p5 =
+  begin-by p s l m e u p1 p2 p3 p4 p5 p6 =
       let g = p3 ∙ ap (λ (y : Middle). y .begin) e in
       record {
         resumes = p1;
@@ -213,6 +216,7 @@ module _ (packet : List ℕ) (pid first : ℕ) (w : World) (style : w .transacti
         update = ap (λ y. y .update) g ∙ u;
         closes = p4;
         slot = p5;
+        reason = p6;
       }
 
   -- it lays nothing by
@@ -237,9 +241,9 @@ module _ (packet : List ℕ) (pid first : ℕ) (w : World) (style : w .transacti
       ∙ ap (λ (y : ℕ). endOf y (w .endpoints x) t (detailOf x w) (w .lastItem) (succeeds s) true) same-endpoint
 
   close-by : (p : Plan) (s : Status) (m : Middle) → m ≡ middle s → updateFor s pid t (w .endpoints x) ≡ none → completesBy s (Simple first) ≡ true → not (eqb x 0) ≡ true
-      → p .resumes ≡ false → p .ends ≡ false → p .begin ≡ m .begin → p .closes ≡ seated m → p .close ≡ endIf (seated m) (closeIn s m) (m .entry) → p .slot ≡ Empty
+      → p .resumes ≡ false → p .ends ≡ false → p .begin ≡ m .begin → p .closes ≡ seated m → p .close ≡ endIf (seated m) (closeIn s m) (m .entry) → p .slot ≡ Empty → p .reason ≡ noReason
       → CloseOnly p t (endOf x (w .endpoints x) t (detailOf x w) (w .lastItem) (succeeds s) true) Empty
-  close-by p s m e u c h p1 p2 p3 p4 p5 p6 =
+  close-by p s m e u c h p1 p2 p3 p4 p5 p6 p7 =
       let on : seated (middle s) ≡ true = ap (λ (y : ℕ). not (eqb y 0)) same-endpoint ∙ h in
       record {
         resumes = p1;
@@ -248,6 +252,7 @@ module _ (packet : List ℕ) (pid first : ℕ) (w : World) (style : w .transacti
         closes = p4 ∙ (ap seated e ∙ on);
         close = p5 ∙ (ap (λ (y : Middle). endIf (seated y) (closeIn s y) (y .entry)) e ∙ (ap (λ (a : Bool). endIf a (closeIn s (middle s)) (w .endpoints x)) on ∙ close-is s u c));
         slot = p6;
+        reason = p7;
       }
 
 -- by its status
@@ -270,19 +275,19 @@ module _ (packet : List ℕ) (pid first : ℕ) (v : World) where
   next-by New h k = not-shaped _ _ _
   next-by Continue h k =
       let m = appending-at packet pid first w h Continue in
-      record { begins = λ q. record { live = refl; plan = inl (begin-by packet pid first w h _ Continue _ _ m refl refl refl refl refl refl); kept = next-kept packet pid first w h (planAt Continue) Continue _ m k refl refl refl }; closes = λ q. absurd (false≢true q) }
+      record { begins = λ q. record { live = refl; plan = inl (begin-by packet pid first w h _ Continue _ _ m refl refl refl refl refl refl refl); kept = next-kept packet pid first w h (planAt Continue) Continue _ m k refl refl refl }; closes = λ q. absurd (false≢true q) }
   next-by Retry h k =
       let m = appending-at packet pid first w h Retry in
-      record { begins = λ q. absurd (false≢true q); closes = λ q. record { live = refl; plan = close-by packet pid first w h _ Retry _ m refl refl q refl refl refl refl refl refl; kept = next-kept packet pid first w h (planAt Retry) Retry _ m k refl refl refl } }
+      record { begins = λ q. absurd (false≢true q); closes = λ q. record { live = refl; plan = close-by packet pid first w h _ Retry _ m refl refl q refl refl refl refl refl refl refl; kept = next-kept packet pid first w h (planAt Retry) Retry _ m k refl refl refl } }
   next-by Done h k =
       let m = appending-at packet pid first w h Done in
-      record { begins = λ q. absurd (false≢true q); closes = λ q. record { live = refl; plan = close-by packet pid first w h _ Done _ m refl refl q refl refl refl refl refl refl; kept = next-kept packet pid first w h (planAt Done) Done _ m k refl refl refl } }
+      record { begins = λ q. absurd (false≢true q); closes = λ q. record { live = refl; plan = close-by packet pid first w h _ Done _ m refl refl q refl refl refl refl refl refl refl; kept = next-kept packet pid first w h (planAt Done) Done _ m k refl refl refl } }
   next-by Fail h k =
       let m = appending-at packet pid first w h Fail in
-      record { begins = λ q. absurd (false≢true q); closes = λ q. record { live = refl; plan = close-by packet pid first w h _ Fail _ m refl refl q refl refl refl refl refl refl; kept = next-kept packet pid first w h (planAt Fail) Fail _ m k refl refl refl } }
+      record { begins = λ q. absurd (false≢true q); closes = λ q. record { live = refl; plan = close-by packet pid first w h _ Fail _ m refl refl q refl refl refl refl refl refl refl; kept = next-kept packet pid first w h (planAt Fail) Fail _ m k refl refl refl } }
   next-by Ambiguous h k =
       let m = appending-at packet pid first w h Ambiguous in
-      record { begins = λ q. record { live = refl; plan = inl (begin-by packet pid first w h _ Ambiguous _ _ m refl refl refl refl refl refl); kept = next-kept packet pid first w h (planAt Ambiguous) Ambiguous _ m k refl refl refl }; closes = λ q. absurd (false≢true q) }
+      record { begins = λ q. record { live = refl; plan = inl (begin-by packet pid first w h _ Ambiguous _ _ m refl refl refl refl refl refl refl); kept = next-kept packet pid first w h (planAt Ambiguous) Ambiguous _ m k refl refl refl }; closes = λ q. absurd (false≢true q) }
   next-by Invalid h k = not-shaped _ _ _
 
   next-on : (s : Status) → w .transaction .style ≡ Simple first → Unkept → transactionStatus (w .transaction) packet ≡ judged pid s
@@ -299,9 +304,20 @@ next-shaped packet j w h k e = by (w .slot) refl (w .transaction .style) refl h
     Claim : World → Type 0
     Claim u = transactionStatus (u .transaction) packet ≡ j → Shaped (nextShape (j .status) (u .transaction .endpoint) (u .endpoints (u .transaction .endpoint)) (broughtTo (u .transaction) (j .pid) packet)) (planOf packet u) u
 
+    -- a malformed packet is Invalid, which has no shape
+    kinds : (s : Status) → j .status ≡ s → (Taken (j .status) → Shaped (nextShape (j .status) (w .transaction .endpoint) (w .endpoints (w .transaction .endpoint)) (broughtTo (w .transaction) (j .pid) packet)) (planOf packet (withSlot Current w)) (withSlot Current w))
+        → Shaped (nextShape (j .status) (w .transaction .endpoint) (w .endpoints (w .transaction .endpoint)) (broughtTo (w .transaction) (j .pid) packet)) (planOf packet (withSlot Current w)) (withSlot Current w)
+    kinds New s g = g (subst Taken (sym s) tt)
+    kinds Continue s g = g (subst Taken (sym s) tt)
+    kinds Retry s g = g (subst Taken (sym s) tt)
+    kinds Done s g = g (subst Taken (sym s) tt)
+    kinds Fail s g = g (subst Taken (sym s) tt)
+    kinds Ambiguous s g = g (subst Taken (sym s) tt)
+    kinds Invalid s g = subst (λ (x : Status). Shaped (nextShape x (w .transaction .endpoint) (w .endpoints (w .transaction .endpoint)) (broughtTo (w .transaction) (j .pid) packet)) (planOf packet (withSlot Current w)) (withSlot Current w)) (sym s) (not-shaped _ _ _)
+
     by : (a : Slot) → w .slot ≡ a → (y : Style) → w .transaction .style ≡ y → isPlain a y ≡ true
         → Shaped (nextShape (j .status) (w .transaction .endpoint) (w .endpoints (w .transaction .endpoint)) (broughtTo (w .transaction) (j .pid) packet)) (planOf packet w) w
-    by Current p (Simple first) q r = subst Claim (λ i. withSlot (sym p i) w) (next-on packet (j .pid) first w (j .status) q k) e
+    by Current p (Simple first) q r = subst Claim (λ i. withSlot (sym p i) w) (λ f. kinds (j .status) refl (λ g. next-on packet (j .pid) first w (j .status) q k (f ∙ judged-is (w .transaction) packet (sym f) g))) e
     by Current p Nothing q r = absurd (false≢true r)
     by Current p (Split sc kind) q r = absurd (false≢true r)
     by Current p (Tokened sc kind token) q r = absurd (false≢true r)

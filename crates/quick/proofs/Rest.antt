@@ -8,6 +8,7 @@ use native.Mathlib.Omega.{arith}
 use lib.Dec.{eqb}
 use lib.ListN.{length, getD, set}
 use lib.Seq.{sets, set-getD}
+use Rattle.usb.specs.Packet.{noReason}
 use Rattle.rows.specs.One.{one}
 use Rattle.rows.specs.Widths.{packetWidth}
 use Rattle.usb.specs.Pid.{SOF}
@@ -88,7 +89,7 @@ module _ (x id pid : ℕ) (k : Desk) (s : Stored (k .table) x) (h : entryAt (k .
 -- ---- the plan
 
 abbrev withRest : Plan → Endpoint → Plan
-withRest q e = record { resumes = q .resumes; resume = q .resume; ends = true; old = q .old; brought = q .brought; end = restEnd e; begin = q .begin; closes = q .closes; close = q .close; slot = q .slot }
+withRest q e = record { resumes = q .resumes; resume = q .resume; ends = true; old = q .old; brought = q .brought; end = restEnd e; begin = q .begin; closes = q .closes; close = q .close; slot = q .slot; reason = q .reason }
 
 -- the sum is that of the plan without the end
 rest-sum : (p : Plan) (e : Endpoint) (row : Bool) (t : Transaction) (l : Bool) (d : Decoder) (held : Counts) (len : ℕ) (room : Counts)
@@ -105,11 +106,11 @@ module _ (packet : List ℕ) (time : ℕ) (s : State) (h : Enters packet s) wher
     e = entryAt (s .table) (p .old)
 
     abbrev k : Desk
-    k = deskBy (handOf time (s .decoder) (heldAt s) (s .table)) s
+    k = deskBy (handOf time noReason (s .decoder) (heldAt s) (s .table)) s
 
     rest-shape : planOf packet (worldAt s) ≡ withRest (onlyBegin p row t l Current) e
     rest-shape =
-        (λ i. let v = planOf packet (worldAt s) in record { resumes = v .resumes; resume = v .resume; ends = q .ends i; old = v .old; brought = v .brought; end = q .end i; begin = v .begin; closes = v .closes; close = v .close; slot = v .slot })
+        (λ i. let v = planOf packet (worldAt s) in record { resumes = v .resumes; resume = v .resume; ends = q .ends i; old = v .old; brought = v .brought; end = q .end i; begin = v .begin; closes = v .closes; close = v .close; slot = v .slot; reason = v .reason })
         ∙ ap (λ (y : Plan). withRest y e) (shape (q .begins))
 
     stored : Stored (s .table) (p .old)

@@ -5,7 +5,11 @@ use mathlib.Core.List.{List}
 use Prim.Native.Nat.{ℕ, _<_}
 use Rattle.details.specs.declared.Detail.{Detail}
 use Rattle.endpoints.specs.declared.Endpoint.{Endpoint}
-use Rattle.transaction.specs.Status.{judged, transactionStatus}
+use lib.ListN.{length}
+use Rattle.usb.specs.Packet.{checkedOf}
+use Rattle.usb.specs.declared.Checked.{Checked}
+use Rattle.transaction.specs.Status.{judged, judgedOf, transactionStatus}
+use Rattle.transaction.specs.StatusLaws.{Taken, judged-is}
 use Rattle.transaction.specs.declared.Judged.{Judged}
 use Rattle.transaction.specs.declared.Status.{Status}
 use Rattle.transaction.specs.declared.Status.the-variants.{New, Continue, Retry, Done, Fail, Ambiguous, Invalid}
@@ -24,6 +28,11 @@ use Rattle.quick.specs.Shaped.{nextShape, broughtTo, isFree, isPlain, Sh
 use Rattle.quick.specs.declared.shape.Shape.{Shape}
 use Rattle.quick.proofs.Packets.{next-shaped}
 
+-- the status, by the check that was made before
+pub status-checked : (t : Transaction) (packet : List ℕ) {c : Checked} {j : Judged} → c ≡ checkedOf packet → j ≡ judgedOf t c (length packet) → j ≡ transactionStatus t packet
+unfolding transactionStatus
+status-checked t packet e h = h ∙ ap (λ (x : Checked). judgedOf t x (length packet)) e
+
 -- ---- a token
 
 new-is : (s : Status) → isNew s ≡ true → s ≡ New
@@ -39,7 +48,8 @@ pub token-asks : (s : Slot) (t : Transaction) (old : Detail) (e : Endpoint) (pac
     → (a && b) ≡ true → (isFree s t old e ≡ true) × (transactionStatus (stateAt s t) packet ≡ judged (j .pid) New)
 token-asks s t old e packet {u} {j} {a} {b} e1 e2 e3 e4 h =
     let g = both a b h in
-    (sym e4 ∙ g .1, sym (e2 ∙ ap (λ (x : Transaction). transactionStatus x packet) e1) ∙ ap (judged (j .pid)) (new-is (j .status) (sym e3 ∙ g .0)))
+    let new = new-is (j .status) (sym e3 ∙ g .0) in
+    (sym e4 ∙ g .1, sym (e2 ∙ ap (λ (x : Transaction). transactionStatus x packet) e1) ∙ (judged-is u packet e2 (subst Taken (sym new) tt) ∙ ap (judged (j .pid)) new))
 
 -- ---- a packet of a plain transaction
 

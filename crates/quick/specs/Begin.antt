@@ -6,6 +6,7 @@ use mathlib.Core.List.{List, [], _∷_}
 use mathlib.Core.Logic.{_⊎_}
 use lib.ListN.{length}
 use lib.Seq.{sets}
+use Rattle.usb.specs.Packet.{noReason}
 use Rattle.rows.specs.One.{one}
 use Rattle.rows.specs.Sets.{opt}
 use Rattle.rows.specs.Widths.{packetWidth, transactionWidth, linkWidth}
@@ -54,6 +55,7 @@ onlyBegin p row t l slot =
       closes = false;
       close = p .close;
       slot = slot;
+      reason = noReason;
     }
 
 pub record BeginOnly (p : Plan) (row : Bool) (t : Transaction) (l : Bool) (next : Slot) : Type 0 where
@@ -67,6 +69,7 @@ pub record BeginOnly (p : Plan) (row : Bool) (t : Transaction) (l : Bool) (next 
   pub update : p .begin .update ≡ links l Keep
   pub closes : p .closes ≡ false
   pub slot : p .slot ≡ next
+  pub reason : p .reason ≡ noReason
 
 -- ---- an old transaction at rest: its end changes no word, so that the packet is begin-only though its plan has that end
 
@@ -75,7 +78,7 @@ restEnd e = record { entry = e; update = links false Last; effect = NoEffect }
 
 -- the plan without it
 abbrev pub unended : Plan → Plan
-unended p = record { resumes = p .resumes; resume = p .resume; ends = false; old = p .old; brought = p .brought; end = p .end; begin = p .begin; closes = p .closes; close = p .close; slot = p .slot }
+unended p = record { resumes = p .resumes; resume = p .resume; ends = false; old = p .old; brought = p .brought; end = p .end; begin = p .begin; closes = p .closes; close = p .close; slot = p .slot; reason = p .reason }
 
 pub record BeginRest (p : Plan) (w : World) (row : Bool) (t : Transaction) (l : Bool) : Type 0 where
   pub begins : BeginOnly (unended p) row t l Current
@@ -96,8 +99,8 @@ abbrev pub beginLink : Bool → List ℕ → Transaction → Transaction
 beginLink l table t = when l (withLink (entryAt table (t .endpoint) .transactions)) t
 
 -- after a packet of so many bytes
-abbrev pub beginDecoder : Bool → Transaction → Bool → ℕ → List ℕ → Decoder → Decoder
-beginDecoder row t l len table d =
+abbrev pub beginDecoder : Bool → Transaction → Bool → ℕ → ℕ → List ℕ → Decoder → Decoder
+beginDecoder row t l len time table d =
     record {
       counts = moreRows (one row) (one l) len (d .counts);
       slot = Current;
@@ -107,6 +110,7 @@ beginDecoder row t l len table d =
       keepalive = d .keepalive;
       waiting = d .waiting;
       finished = d .finished;
+      time = time;
     }
 
 abbrev pub beginTable : Bool → ℕ → List ℕ → List ℕ
@@ -118,7 +122,7 @@ beginState row t l packet time s =
     let h = heldAt s in
     let g = s .logs in
     state
-    (beginDecoder row t l (length packet) (s .table) (s .decoder))
+    (beginDecoder row t l (length packet) time (s .table) (s .decoder))
     (s .devices)
     (beginTable l (t .endpoint) (s .table))
     (logs
@@ -127,7 +131,7 @@ beginState row t l packet time s =
     (g .endpoints)
     (sets (g .packets) (h .packets * packetWidth) (n .bytes ∷ time ∷ []))
     (g .events)
-    (sets (g .transactions) (h .transactions * transactionWidth) (opt row (transactionWords (naming (n .packets)))))
+    (sets (g .transactions) (h .transactions * transactionWidth) (opt row (transactionWords (naming (n .packets) noReason))))
     (g .groups)
     (g .statebytes)
     (g .states)

@@ -4,6 +4,7 @@ use mathlib.Core.Path.{_≡_}
 use mathlib.Core.Bool.{Bool, true, false, _&&_, not}
 use mathlib.Core.List.{List, [], _∷_}
 use lib.Seq.{sets}
+use Rattle.usb.specs.Packet.{noReason}
 use Rattle.rows.specs.Widths.{packetWidth}
 use Rattle.details.specs.declared.Detail.{Detail}
 use Rattle.details.specs.declared.Device.{Device}
@@ -50,6 +51,7 @@ onlyClose p t e slot =
       closes = true;
       close = e;
       slot = slot;
+      reason = noReason;
     }
 
 pub record CloseOnly (p : Plan) (t : Transaction) (e : End) (next : Slot) : Type 0 where
@@ -59,6 +61,7 @@ pub record CloseOnly (p : Plan) (t : Transaction) (e : End) (next : Slot) : Type
   pub closes : p .closes ≡ true
   pub close : p .close ≡ e
   pub slot : p .slot ≡ next
+  pub reason : p .reason ≡ noReason
 
 -- ---- its end, decided
 
@@ -90,11 +93,11 @@ pub record CloseFits (e : End) (len : ℕ) (d : Decoder) (held room : Counts) : 
 -- the record with another transaction
 abbrev pub holding : Transaction → Decoder → Decoder
 holding t d =
-    record { counts = d .counts; slot = d .slot; transaction = t; last = d .last; event = d .event; keepalive = d .keepalive; waiting = d .waiting; finished = d .finished }
+    record { counts = d .counts; slot = d .slot; transaction = t; last = d .last; event = d .event; keepalive = d .keepalive; waiting = d .waiting; finished = d .finished; time = d .time }
 
 -- where the call begins to write, with the T row of t
 abbrev pub closeHand : Transaction → ℕ → Decoder → Counts → List ℕ → Hand
-closeHand t time d held table = handOf time (holding t d) held table
+closeHand t time d held table = handOf time noReason (holding t d) held table
 
 abbrev pub entered : Transaction → ℕ → State → Desk
 entered t time s =
@@ -102,7 +105,7 @@ entered t time s =
 
 abbrev pub closedDecoder : Transaction → Tally → Written → Decoder → Decoder
 closedDecoder t z h d =
-    record { counts = addCounts (d .counts) z; slot = Empty; transaction = tied t h; last = h .last; event = Idle; keepalive = d .keepalive; waiting = z .waiting; finished = d .finished }
+    record { counts = addCounts (d .counts) z; slot = Empty; transaction = tied t h; last = h .last; event = Idle; keepalive = d .keepalive; waiting = z .waiting; finished = d .finished; time = h .stamp .time }
 
 -- with these rows added
 abbrev pub closeState : Transaction → End → Tally → List ℕ → ℕ → State → State

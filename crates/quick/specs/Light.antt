@@ -67,9 +67,9 @@ lightLink l e t = when l (withLink (e .transactions)) t
 abbrev pub lightEntry : Update → ℕ → Endpoint → Endpoint
 lightEntry u pid e = becomeEntry (u .group) pid (when (u .link) moreTransactions e)
 
--- with the counts n, and m endpoints waiting
-abbrev pub lightDecoder : Transaction → End → Counts → ℕ → Decoder → Decoder
-lightDecoder t e n m d =
+-- with the counts n, and m endpoints waiting, of a packet at this time
+abbrev pub lightDecoder : Transaction → End → Counts → ℕ → ℕ → Decoder → Decoder
+lightDecoder t e n m time d =
     record {
       counts = n;
       slot = Empty;
@@ -79,6 +79,7 @@ lightDecoder t e n m d =
       keepalive = d .keepalive;
       waiting = m;
       finished = d .finished;
+      time = time;
     }
 
 abbrev pub lightTable : Transaction → End → List ℕ → List ℕ
@@ -94,7 +95,7 @@ abbrev pub lightState : Transaction → End → Counts → ℕ → List ℕ → 
 lightState t e n m packet time s =
     let h = heldAt s in
     let g = s .logs in
-    state (lightDecoder t e n m (s .decoder)) (s .devices) (lightTable t e (s .table))
+    state (lightDecoder t e n m time (s .decoder)) (s .devices) (lightTable t e (s .table))
     (logs
     (sets (g .bytes) (h .bytes) packet)
     (g .devices)

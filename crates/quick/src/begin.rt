@@ -14,6 +14,7 @@ use rows::width;
 use rules::EventState;
 use rules::Slot;
 use transaction::Transaction;
+use usb::reason::NONE;
 use write::leaf::put_transaction;
 ghost use mathlib.Core.List.{[], _∷_};
 ghost use mathlib.Core.Path.{_≡_};
@@ -25,6 +26,7 @@ ghost use Rattle.rows.specs.Sets.{opt};
 ghost use Rattle.rows.specs.Widths.{packetWidth, transactionWidth, linkWidth};
 ghost use Rattle.endpoints.specs.Link.{T};
 ghost use Rattle.endpoints.specs.Table.{entryAt};
+ghost use Rattle.usb.specs.Packet.{noReason};
 ghost use Rattle.rules.specs.Rows.{naming, transactionWords};
 ghost use Rattle.tally.specs.Tallies.{Countable};
 ghost use Rattle.quick.specs.Begin.{beginLink, beginDecoder, beginTable};
@@ -71,7 +73,7 @@ fn begin_link(
     t
 }
 
-// The packet of these bytes at this time, behind the rows held; t is the transaction then.
+// The packet of these bytes at this time, behind the rows held; t is the transaction then. It is a valid packet: a malformed one has no shape.
 pub fn begin_only(
     row: bool,
     t: Transaction,
@@ -93,15 +95,15 @@ pub fn begin_only(
     requires { ⌜ (held .packets + 1) * packetWidth ≤ length (now packets) ⌝ }
     requires { ⌜ (held .transactions + one row) * transactionWidth ≤ length (now transactions) ⌝ }
     requires { ⌜ (held .links + one l) * linkWidth ≤ length (now links) ⌝ }
-    ensures { λ r. ⌜ r ≡ beginDecoder row t l (length (now (packet .entry))) (now (table .entry)) d ⌝ }
+    ensures { λ r. ⌜ r ≡ beginDecoder row t l (length (now (packet .entry))) time (now (table .entry)) d ⌝ }
     ensures { λ r. ⌜ now (table .exit) ≡ beginTable l (t .endpoint) (now (table .entry)) ⌝ }
     ensures { λ r. ⌜ now (bytes .exit) ≡ sets (now (bytes .entry)) (held .bytes) (now (packet .entry)) ⌝ }
     ensures { λ r. ⌜ now (packets .exit) ≡ sets (now (packets .entry)) (held .packets * packetWidth) (d .counts .bytes ∷ time ∷ []) ⌝ }
-    ensures { λ r. ⌜ now (transactions .exit) ≡ sets (now (transactions .entry)) (held .transactions * transactionWidth) (opt row (transactionWords (naming (d .counts .packets)))) ⌝ }
+    ensures { λ r. ⌜ now (transactions .exit) ≡ sets (now (transactions .entry)) (held .transactions * transactionWidth) (opt row (transactionWords (naming (d .counts .packets) noReason))) ⌝ }
     ensures { λ r. ⌜ now (links .exit) ≡ sets (now (links .entry)) (held .links * linkWidth) (opt l (T ∷ t .endpoint ∷ t .id ∷ 0 ∷ [])) ⌝ }
 {
     let n = d.counts;
-    let stamp = stamp_of(n, time);
+    let stamp = stamp_of(n, time, NONE);
     put_packet(n.bytes, held, packet, time, bytes, packets);
     put_transaction(row, transactions, held.transactions, stamp);
     let transaction = begin_link(l, t, held.links, table, links);
@@ -120,5 +122,6 @@ pub fn begin_only(
         keepalive: d.keepalive,
         waiting: d.waiting,
         finished: d.finished,
+        time,
     }
 }

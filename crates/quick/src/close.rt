@@ -25,6 +25,7 @@ use tally::tally_end;
 use transaction::Transaction;
 use transaction::payload::start_pid;
 use update::effect::total_passes;
+use usb::reason::NONE;
 use write_packet::Hand;
 use write_packet::end_if;
 ghost use mathlib.Core.Bool.{true};
@@ -121,6 +122,7 @@ fn closed_decoder(t: Transaction, tally: Tally, d: Decoder, h: Hand) -> Decoder
         keepalive: d.keepalive,
         waiting: tally.waiting,
         finished: d.finished,
+        time: written.stamp.time,
     }
 }
 
@@ -153,7 +155,7 @@ pub fn close_only(
     put_packet(n.bytes, held, packet, time, bytes, packets);
     let style = t.style;
     let pid = start_pid(style);
-    let hand = hand_of(holding(t, d), held, time, table);
+    let hand = hand_of(holding(t, d), held, time, NONE, table);
     let hand = end_if(
         true,
         t.endpoint,

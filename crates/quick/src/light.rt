@@ -155,7 +155,7 @@ pub fn light_only(
     requires { ⌜ held .bytes + length (now packet) ≤ length (now bytes) ⌝ }
     requires { ⌜ (held .packets + 1) * packetWidth ≤ length (now packets) ⌝ }
     requires { ⌜ (held .links + linkRows (end .update) (end .effect)) * linkWidth ≤ length (now links) ⌝ }
-    ensures { λ r. ⌜ r ≡ lightDecoder t end (moreRows 0 (linkRows (end .update) (end .effect)) (length (now (packet .entry))) (d .counts)) (d .waiting) d ⌝ }
+    ensures { λ r. ⌜ r ≡ lightDecoder t end (moreRows 0 (linkRows (end .update) (end .effect)) (length (now (packet .entry))) (d .counts)) (d .waiting) time d ⌝ }
     ensures { λ r. ⌜ now (table .exit) ≡ lightTable t end (now (table .entry)) ⌝ }
     ensures { λ r. ⌜ now (bytes .exit) ≡ sets (now (bytes .entry)) (held .bytes) (now (packet .entry)) ⌝ }
     ensures { λ r. ⌜ now (packets .exit) ≡ sets (now (packets .entry)) (held .packets * packetWidth) (d .counts .bytes ∷ time ∷ []) ⌝ }
@@ -183,5 +183,6 @@ pub fn light_only(
         keepalive: d.keepalive,
         waiting: d.waiting,
         finished: d.finished,
+        time,
     }
 }

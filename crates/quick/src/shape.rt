@@ -23,7 +23,7 @@ use transaction::Style;
 use transaction::Transaction;
 use transaction::payload::extract_payload;
 use transaction::payload::start_pid;
-use transaction::transaction_status;
+use transaction::status_by;
 use update::decide_early_append;
 use update::decide_early_start;
 use usb::fields::setup_of;
@@ -216,7 +216,9 @@ pub fn shape_of(d: Decoder, near: Near, table: &Table, packet: &[u8]) -> Shape
     let slot = d.slot;
     let t = d.transaction;
     let style = t.style;
-    let j = transaction_status(state_at(slot, t), packet);
+    // By itself: handed on to be checked below another call, the packet's slice is stored by two words and loaded as one, and the load waits (docs/SPEED.md).
+    let checked = usb::check(packet);
+    let j = status_by(state_at(slot, t), checked, packet.len());
     let status = j.status;
     let pid = j.pid;
     let x0 = old_endpoint(slot, t);

@@ -41,7 +41,8 @@ noTransaction = newTransaction Nothing 0 0 0 Unknown
 
 -- with those counts, and nothing else yet
 abbrev pub idleWith : Counts → Decoder
-idleWith n = record { counts = n; slot = Empty; transaction = noTransaction; last = noItem; event = Idle; keepalive = false; waiting = 0; finished = false }
+idleWith n =
+    record { counts = n; slot = Empty; transaction = noTransaction; last = noItem; event = Idle; keepalive = false; waiting = 0; finished = false; time = 0 }
 
 -- "writes one device and three endpoint rows"
 abbrev pub freshDecoder : Decoder

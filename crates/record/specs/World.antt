@@ -1,6 +1,6 @@
 -- To be believed: the world (rules, World) that a record, its devices and its endpoint table stand for.
 -- Hold it to: struct Decoder of decoder.rs, field by field (rules, World)
-use Prim.Native.Nat.{ℕ}
+use Prim.Native.Nat.{ℕ, pred}
 use mathlib.Core.List.{List, []}
 use lib.ListN.{getD}
 use Rattle.details.specs.Search.{blank}
@@ -9,7 +9,7 @@ use Rattle.details.specs.declared.Device.{Device}
 use Rattle.rules.specs.World.{World, stamp}
 use Rattle.record.specs.declared.Decoder.{Decoder}
 
--- nothing is appended yet: the journal is that of one call; and the context is finish's, which has no packet row
+-- nothing is appended yet: the journal is that of one call; and what was brought last is the last packet row
 abbrev pub worldOf : Decoder → List Device → List ℕ → World
 worldOf d devices table =
     record {
@@ -22,7 +22,7 @@ worldOf d devices table =
       lastItem = d .last;
       eventState = d .event;
       keepalive = d .keepalive;
-      context = stamp 0 0;
+      context = stamp (pred (d .counts .packets)) (d .time) 0;
       shelf = [];
       bytes = d .counts .bytes;
       packets = d .counts .packets;

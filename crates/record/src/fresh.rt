@@ -61,6 +61,7 @@ fn idle_with(counts: Counts) -> Decoder
         keepalive: false,
         waiting: 0,
         finished: false,
+        time: 0,
     }
 }
 

@@ -46,6 +46,8 @@ pub struct Decoder {
     pub last: usize,
     // How many endpoints have an ended group that no item has closed.
     pub waiting: usize,
+    // The time of the last packet row; where there is none it is not read.
+    pub time: u64,
     // transaction_state or suspended_transaction, as the slot says; in an empty slot it is not read.
     pub slot: Slot,
     // event_state.

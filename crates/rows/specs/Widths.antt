@@ -20,13 +20,13 @@ packetWidth = 2
 abbrev pub eventWidth : ℕ
 eventWidth = 2
 
--- 5: packet
+-- 5: packet, the reason that it is malformed (02, 1)
 abbrev pub transactionWidth : ℕ
-transactionWidth = 1
+transactionWidth = 2
 
--- 6: endpoint, the endpoint's group, start
+-- 6: endpoint, the endpoint's group, start, and the packet and the time of the call (02, 9)
 abbrev pub groupWidth : ℕ
-groupWidth = 3
+groupWidth = 5
 
 -- 9: group row
 abbrev pub itemWidth : ℕ

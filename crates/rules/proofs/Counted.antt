@@ -9,6 +9,7 @@ use borrow.Author.Tests.{eqb-true, ne-eqb}
 use lib.Dec.{eqb}
 use lib.ListN.{length, length-append}
 use Rattle.rows.specs.Widths.{endpointWidth, groupWidth, packetWidth, transactionWidth, widthOf}
+use Rattle.usb.specs.Packet.{reasonOf}
 use Rattle.usb.specs.Fields.{tokenOf}
 use Rattle.usb.specs.Pid.{SPLIT, MALFORMED}
 use Rattle.transaction.specs.Table.{pick}
@@ -31,7 +32,7 @@ use Rattle.group.specs.declared.Grouped.{Grouped}
 use Rattle.group.specs.declared.GroupStatus.{GroupStatus}
 use Rattle.group.specs.declared.GroupStatus.the-variants as group
 use Rattle.rules.specs.Rows.{Row, BytesRow, DeviceRow, EndpointRow, PacketRow, EventRow, TransactionRow, GroupRow, StateRow, StateBytes, ItemRow, T, G, D, E, RequestRow, Over, written, log}
-use Rattle.rules.specs.World.{withShelf, stamped, World, phase, push, change, cleared, withSlot, withKeepalive, withEventState, withItems, newTransaction}
+use Rattle.rules.specs.World.{withShelf, stamped, World, phase, push, change, cleared, withSlot, withKeepalive, withEventState, withItems, newTransaction, lastStamped}
 use Rattle.rules.specs.Endpoints.{addDevice, deviceFor, pushEndpoint, addEndpointOn, addressFor, found, packetEndpointAt, packetEndpoint, endpointOf, setDetailOn}
 use Rattle.rules.specs.Groups.{closeRow, closeRows, addItem, statesFrom, addGroupEntry, link, linkOnce, pushGroup, over, endActive, addGroup, groupEndAt, groupEnd, groupStartAt, groupStart, groupAppendAt, groupAppend, groupStep, effectStep, grouped, becomes, groupUpdate, undecided, groupEarlyAppend, startsEarly, endEarly, groupEarlyStart}
 use Rattle.rules.specs.Transactions.{transactionEndAt, transactionEnd, appendToken, transactionAppend, pushTransaction, begin as start, typeOf, beginOn, beginSplit, beginPlain, transactionStart, resumeAt, stateAt, completes, brought, extracted, updateAt, updateFrom, isDropped, transactionUpdate}
@@ -379,18 +380,18 @@ module _ (n : World) where
 
   packets : (p : List ℕ) (time : ℕ) (w : World) → Counted w → Counted (handleRawPacket p time w)
   unfolding handleRawPacket
-  packets p time w l = tr-update (w .packets) p (pushPacket (w .bytes) time v) (packet-row (w .bytes) time v (bytes p (withEventState Idle (stamped time w)) l))
+  packets p time w l = tr-update (w .packets) p (pushPacket (w .bytes) time v) (packet-row (w .bytes) time v (bytes p (withEventState Idle (stamped time (reasonOf p) w)) l))
     where
       v : World
-      v = appendBytes p (withEventState Idle (stamped time w))
+      v = appendBytes p (withEventState Idle (stamped time (reasonOf p) w))
 
   events : (kind code time : ℕ) (w : World) → Counted w → Counted (handleEvent kind code time w)
   unfolding handleEvent
   events kind code time w l =
-      ev-update (w .packets) kind (push (EventRow (w .packets) code) (pushPacket (w .bytes) time v)) (packet-row (w .bytes) time v (may (eqb kind 0) (suspend (stamped time w)) (endAll (stamped time w)) l (end-all (stamped time w) l)))
+      ev-update (w .packets) kind (push (EventRow (w .packets) code) (pushPacket (w .bytes) time v)) (packet-row (w .bytes) time v (may (eqb kind 0) (suspend (stamped time 0 w)) (endAll (stamped time 0 w)) l (end-all (stamped time 0 w) l)))
     where
       v : World
-      v = pick (eqb kind 0) (suspend (stamped time w)) (endAll (stamped time w))
+      v = pick (eqb kind 0) (suspend (stamped time 0 w)) (endAll (stamped time 0 w))
 
   details : (g : Found) (number direction kind max : ℕ) (w : World) → Counted w → Counted (setDetailOn g number direction kind max w)
   details (At i) number direction kind max w l = l
@@ -401,4 +402,4 @@ module _ (n : World) where
   counts (packet p time shelf) w l = packets p time (withShelf shelf w) l
   counts (event kind code time) w l = events kind code time w l
   counts (detail a number r kind m) w l = details (deviceFor a w) number r kind m w l
-  counts finishing w l = tr-end false false w l
+  counts finishing w l = tr-end false false (lastStamped w) l

@@ -5,7 +5,7 @@ use mathlib.Core.Bool.{true, false}
 use mathlib.Core.List.{List, [], _∷_, map}
 use Rattle.crc.specs.Crc.{step, bits, bytes, crc5Of, crc16Of}
 use Rattle.usb.specs.Bits.{after}
-use Rattle.usb.specs.Packet.{formatOf, tokenOk, splitOk, dataOk, handshakeOk, formatOk, checkedOf}
+use Rattle.usb.specs.Packet.{formatOf, formatOk, formatReason, reasonOf, checkedOf}
 use Rattle.transaction.specs.Status.{transactionStatus}
 use Rattle.transaction.specs.Payload.{extractPayload}
 use Rattle.details.specs.Details.{detailsOf, stored, withType, withDetail, withGiven, fresh}
@@ -68,11 +68,11 @@ enumerated = runs enumeration (withShelf (replicate 524288 0) decoder.fresh)
 -- max 64, read 2, set 2
 noted : log 11 (enumerated .journal)
     ≡ 3 ∷ 0x0012000001000680 ∷ 18 ∷ 257 ∷ 3 ∷ 0x0020000002000680 ∷ 32 ∷ 10 ∷ 3 ∷ 0x0000000000010900 ∷ 0 ∷ 11 ∷ []
-unfolding enumerated enumeration step bits bytes crc5Of crc16Of after formatOf tokenOk splitOk dataOk handshakeOk formatOk checkedOf transactionStatus extractPayload detailsOf withType withDetail fresh isRead isSetConfiguration isSetInterface kindBy kindOf laid isWhole wholeIn whole isOf firstOf maxOf valueOf chunks applied countSet noteOf withMax deviceAfter countAfter shelfAfter rowAfter setupGroup controlGroup beginGroup repeatGroup otherGroup groupStatus groupUpdate groupEarlyStart groupEarlyAppend transactionUpdate eventUpdate handleRawPacket handleEvent handleDetail finish setIf setFrom isChosen withGiven settingAfter givesEntry entryOf entriesIn entriesBehind entriesOf fitting without leftBy addedBy
+unfolding enumerated enumeration step bits bytes crc5Of crc16Of after formatOf formatOk formatReason reasonOf checkedOf transactionStatus extractPayload detailsOf withType withDetail fresh isRead isSetConfiguration isSetInterface kindBy kindOf laid isWhole wholeIn whole isOf firstOf maxOf valueOf chunks applied countSet noteOf withMax deviceAfter countAfter shelfAfter rowAfter setupGroup controlGroup beginGroup repeatGroup otherGroup groupStatus groupUpdate groupEarlyStart groupEarlyAppend transactionUpdate eventUpdate handleRawPacket handleEvent handleDetail finish setIf setFrom isChosen withGiven settingAfter givesEntry entryOf entriesIn entriesBehind entriesOf fitting without leftBy addedBy
 noted = refl
 
 -- number 0 has max 64; endpoints 2 out and 1 in are bulk with 512 bytes; nothing is known of 1 out
 details-read : map (stored (enumerated .devices 0)) (0 ∷ 1 ∷ 2 ∷ 17 ∷ [])
     ≡ record { kind = 0; given = true; max = 64 } ∷ record { kind = 4; given = false; max = 0 } ∷ record { kind = 2; given = true; max = 512 } ∷ record { kind = 2; given = true; max = 512 } ∷ []
-unfolding enumerated enumeration step bits bytes crc5Of crc16Of after formatOf tokenOk splitOk dataOk handshakeOk formatOk checkedOf transactionStatus extractPayload detailsOf withType withDetail fresh isRead isSetConfiguration isSetInterface kindBy kindOf laid isWhole wholeIn whole isOf firstOf maxOf valueOf chunks applied countSet noteOf withMax deviceAfter countAfter shelfAfter rowAfter setupGroup controlGroup beginGroup repeatGroup otherGroup groupStatus groupUpdate groupEarlyStart groupEarlyAppend transactionUpdate eventUpdate handleRawPacket handleEvent handleDetail finish setIf setFrom isChosen withGiven settingAfter givesEntry entryOf entriesIn entriesBehind entriesOf fitting without leftBy addedBy
+unfolding enumerated enumeration step bits bytes crc5Of crc16Of after formatOf formatOk formatReason reasonOf checkedOf transactionStatus extractPayload detailsOf withType withDetail fresh isRead isSetConfiguration isSetInterface kindBy kindOf laid isWhole wholeIn whole isOf firstOf maxOf valueOf chunks applied countSet noteOf withMax deviceAfter countAfter shelfAfter rowAfter setupGroup controlGroup beginGroup repeatGroup otherGroup groupStatus groupUpdate groupEarlyStart groupEarlyAppend transactionUpdate eventUpdate handleRawPacket handleEvent handleDetail finish setIf setFrom isChosen withGiven settingAfter givesEntry entryOf entriesIn entriesBehind entriesOf fitting without leftBy addedBy
 details-read = refl

@@ -12,3 +12,5 @@ pub mod Tokened
 pub mod Runs
 pub mod Named
 pub mod Enumerated
+pub mod Reasons
+pub mod Stamps

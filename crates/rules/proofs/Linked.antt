@@ -8,7 +8,7 @@ use lib.Dec.{eqb}
 use lib.ListN.{length}
 use Rattle.usb.specs.Pid.{IN, OUT, SPLIT, MALFORMED}
 use Rattle.usb.specs.Fields.{setupDataOf}
-use Rattle.usb.specs.Packet.{checkedOf}
+use Rattle.usb.specs.Packet.{checkedOf, reasonOf}
 use Rattle.usb.specs.declared.Checked.{Checked}
 use Rattle.usb.specs.declared.Checked.the-variants.{Valid, Malformed}
 use Rattle.transaction.specs.Table.{pick, Row as Rule, fits, only, _or_, look}
@@ -31,7 +31,7 @@ use Rattle.endpoints.specs.declared.Phase.{Phase}
 use Rattle.endpoints.specs.declared.Phase.the-variants.{None, Early, Active, Ended}
 use Rattle.group.specs.Step.{isActive}
 use Rattle.rules.specs.Rows.{Row, EventRow}
-use Rattle.rules.specs.World.{withShelf, stamped, World, phase, push, withSlot, withTransaction, withEventState, withKeepalive, withJournal, moreTransactions, moreGroups, withPid, newTransaction}
+use Rattle.rules.specs.World.{withShelf, stamped, World, phase, push, withSlot, withTransaction, withEventState, withKeepalive, withJournal, moreTransactions, moreGroups, withPid, newTransaction, lastStamped}
 use Rattle.rules.specs.Endpoints.{deviceFor, packetEndpoint, endpointOf, setDetailOn}
 use Rattle.rules.specs.Groups.{closePhase, undecided, groupEarlyAppend, link}
 use Rattle.rules.specs.Transactions.{transactionEndAt, transactionEnd, appendToken, transactionAppend, pushTransaction, begin, typeOf, beginOn, beginSplit, beginPlain, transactionStart, resumeAt, stateAt, completes, brought, extracted, updateAt, updateFrom, isDropped, transactionUpdate}
@@ -155,14 +155,14 @@ unfolding handleEvent eventUpdate
 event-links kind code time w l = by (eqb kind 0)
   where
     v : World
-    v = transactionEnd false false (stamped time w)
+    v = transactionEnd false false (stamped time 0 w)
 
     go : (u : World) → Linked u → Linked (eventUpdate (w .packets) kind (push (EventRow (w .packets) code) (pushPacket (w .bytes) time u)))
     go u h = act-links (turnOf (u .eventState) kind .act) (w .packets) (push (EventRow (w .packets) code) (pushPacket (w .bytes) time u)) h
 
-    by : (b : Bool) → Linked (eventUpdate (w .packets) kind (push (EventRow (w .packets) code) (pushPacket (w .bytes) time (pick b (suspend (stamped time w)) (endAll (stamped time w))))))
-    by true = go (suspend (stamped time w)) (suspend-links (w .slot) w l)
-    by false = go (endAll (stamped time w)) (grows (v .slot) (v .transaction) (v .endpoints) _ (λ y. end-excused (v .endpoints y .phase) (v .endpoints y .first)) (end-links (w .slot) false false (stamped time w) refl l))
+    by : (b : Bool) → Linked (eventUpdate (w .packets) kind (push (EventRow (w .packets) code) (pushPacket (w .bytes) time (pick b (suspend (stamped time 0 w)) (endAll (stamped time 0 w))))))
+    by true = go (suspend (stamped time 0 w)) (suspend-links (w .slot) w l)
+    by false = go (endAll (stamped time 0 w)) (grows (v .slot) (v .transaction) (v .endpoints) _ (λ y. end-excused (v .endpoints y .phase) (v .endpoints y .first)) (end-links (w .slot) false false (stamped time 0 w) refl l))
 
 -- ---- transaction_update: after resume no transaction is suspended
 
@@ -238,7 +238,7 @@ none-of (r ∷ rs) d xs h k = by (fits (r .tests) xs && r .guard) (ambiguous (r 
     by false true q i rest = let z : true ≡ false = i in cc
 
 split-sure : (t : Transaction) (sc kind : ℕ) → t .style ≡ Split sc kind → (c : Checked) (n : ℕ) → ambiguous (judgedOf t c n .status) ≡ false
-split-sure t sc kind q Malformed n = refl
+split-sure t sc kind q (Malformed reason) n = refl
 split-sure t sc kind q (Valid pid) n = rw q (none-of (splitRows n) Invalid (kind ∷ sc ∷ t .last ∷ pid ∷ []) refl refl)
 
 sure : (t : Transaction) (sc kind : ℕ) (p : List ℕ) → t .style ≡ Split sc kind → ambiguous (transactionStatus t p .status) ≡ false
@@ -296,7 +296,7 @@ unfolding handleRawPacket transactionUpdate
 packet-links p time w l = by (isDropped (w .slot) (w .transaction))
   where
     v : World
-    v = pushPacket (w .bytes) time (appendBytes p (withEventState Idle (stamped time w)))
+    v = pushPacket (w .bytes) time (appendBytes p (withEventState Idle (stamped time (reasonOf p) w)))
 
     u : World
     u = resumeAt (w .slot) (w .packets) v
@@ -320,7 +320,7 @@ unfolding handleDetail finish
 linked-after (packet p time shelf) w l = packet-links p time (withShelf shelf w) l
 linked-after (event kind code time) w l = event-links kind code time w l
 linked-after (detail a number r kind m) w l = detail-links (deviceFor a w) number r kind m w l
-linked-after finishing w l = end-links (w .slot) false false w refl l
+linked-after finishing w l = end-links (w .slot) false false (lastStamped w) refl l
 
 -- and so of every world that calls leave
 fresh-linked : Linked Decoder.fresh

@@ -8,6 +8,7 @@ use native.Mathlib.Omega.{arith}
 use borrow.Author.Tests.{eqb-false, eqb-true}
 use lib.Dec.{eqb}
 use lib.ListN.{length}
+use Rattle.usb.specs.Packet.{reasonOf}
 use Rattle.usb.specs.Fields.{tokenOf, setupDataOf}
 use Rattle.usb.specs.Pid.{SPLIT, MALFORMED, SOF, SETUP, IN, OUT, PING}
 use Rattle.transaction.specs.Table.{pick, only, _or_}
@@ -30,7 +31,7 @@ use Rattle.group.specs.declared.Effect.the-variants.{NoEffect, NewDevice, Reque
 use Rattle.group.specs.declared.Grouped.{Grouped}
 use Rattle.group.proofs.Laws.{group-keeps}
 use Rattle.rules.specs.Rows.{Row, T, D, EventRow}
-use Rattle.rules.specs.World.{stamped, World, phase, push, change, withSlot, withTransaction, withShelf, withEventState, withKeepalive, withId, withPid, moreTransactions, withPending, withTotal, newTransaction}
+use Rattle.rules.specs.World.{stamped, World, phase, push, change, withSlot, withTransaction, withShelf, withEventState, withKeepalive, withId, withPid, moreTransactions, withPending, withTotal, newTransaction, lastStamped}
 use Rattle.rules.specs.Endpoints.{addDevice, deviceFor, pushEndpoint, addEndpointOn, addressFor, endpointLookup, found, packetEndpointAt, packetEndpoint, numberAt, endpointOf, detailOf, setDetailOn}
 use Rattle.rules.specs.Groups.{addGroupEntry, pushGroup, link, linkOnce, groupStep, effectStep, grouped, becomes, groupUpdate, groupEarlyAppend, undecided}
 use Rattle.rules.specs.Transactions.{transactionEndAt, transactionEnd, appendToken, transactionAppend, pushTransaction, begin, typeOf, beginOn, beginSplit, beginPlain, transactionStart, resumeAt, stateAt, completes, keepPayload, brought, extracted, updateAt, updateFrom, isDropped, transactionUpdate}
@@ -332,7 +333,7 @@ module _ (base : List Row) where
     packets p time w z = then (stays c y f t w v (λ e l. passed (passed l))) (transacting (w .packets) p v (passed (passed z)))
       where
         v : World
-        v = pushPacket (w .bytes) time (appendBytes p (withEventState Idle (stamped time w)))
+        v = pushPacket (w .bytes) time (appendBytes p (withEventState Idle (stamped time (reasonOf p) w)))
 
     subgroup-adds : (n : ℕ) (w : World) → Moves c y w (eventAddSubgroup n w)
     subgroup-adds n w = again (ending c y f t false false w)
@@ -404,9 +405,9 @@ module _ (base : List Row) where
             let k : Moves (m .c′) (m .y′) v u = stays (m .c′) (m .y′) (m .fits) (m .three) v u (λ e l. passed (passed l)) in
             then m (then k (turning (m .c′) (m .y′) (m .fits) (m .three) (w .packets) kind u))
 
-        by : (q : Bool) → Moves c y w (eventUpdate (w .packets) kind (push (EventRow (w .packets) code) (pushPacket (w .bytes) time (pick q (suspend (stamped time w)) (endAll (stamped time w))))))
-        by true = go (stays c y f t w (suspend (stamped time w)) (λ e l. l))
-        by false = go (then (stays c y f t w (stamped time w) (λ e l. l)) (ending-all c y f t (stamped time w)))
+        by : (q : Bool) → Moves c y w (eventUpdate (w .packets) kind (push (EventRow (w .packets) code) (pushPacket (w .bytes) time (pick q (suspend (stamped time 0 w)) (endAll (stamped time 0 w))))))
+        by true = go (stays c y f t w (suspend (stamped time 0 w)) (λ e l. l))
+        by false = go (then (stays c y f t w (stamped time 0 w) (λ e l. l)) (ending-all c y f t (stamped time 0 w)))
 
     details : (g : Found) (number direction kind max : ℕ) (w : World) → Moves c y w (setDetailOn g number direction kind max w)
     details (At i) number direction kind max w = stays c y f t w _ (λ e l. l)
@@ -418,4 +419,4 @@ module _ (base : List Row) where
         let m = packets c y f t p time (withShelf shelf w) z in record { c′ = m .c′; y′ = m .y′; fits = m .fits; three = m .three; keeps = m .keeps }
     calls (event kind code time) w z = events kind code time w
     calls (detail a number r kind m) w z = details (deviceFor a w) number r kind m w
-    calls finishing w z = ending c y f t false false w
+    calls finishing w z = then (stays c y f t w (lastStamped w) (λ e l. l)) (ending c y f t false false (lastStamped w))

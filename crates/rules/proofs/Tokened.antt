@@ -5,6 +5,7 @@ use mathlib.Core.List.{List, []}
 use Prim.Native.Nat.{ℕ, _≤_}
 use native.Mathlib.Omega.{arith}
 use lib.Dec.{eqb}
+use Rattle.usb.specs.Packet.{reasonOf}
 use Rattle.usb.specs.Pid.{SPLIT, MALFORMED}
 use Rattle.transaction.specs.Table.{pick}
 use Rattle.transaction.specs.Status.{transactionStatus}
@@ -18,7 +19,7 @@ use Rattle.details.specs.Kind.{Unknown}
 use Rattle.details.specs.declared.Found.{Found}
 use Rattle.details.specs.declared.Found.the-variants.{At, Nothing}
 use Rattle.rules.specs.Rows.{Row, EventRow}
-use Rattle.rules.specs.World.{withShelf, stamped, World, push, withSlot, withJournal, withKeepalive, withEventState}
+use Rattle.rules.specs.World.{withShelf, stamped, World, push, withSlot, withJournal, withKeepalive, withEventState, lastStamped}
 use Rattle.rules.specs.Endpoints.{deviceFor, found, packetEndpoint, numberAt, endpointOf, setDetailOn}
 use Rattle.rules.specs.Transactions.{transactionEndAt, transactionEnd, appendToken, transactionAppend, pushTransaction, typeOf, beginOn, beginSplit, beginPlain, transactionStart, resumeAt, stateAt, completes, brought, extracted, updateAt, updateFrom, isDropped, transactionUpdate}
 use Rattle.rules.specs.Events.{eventSubgroupStart, eventAddGroup, Act, nothing, single, group, subgroup, keepalive, turnOf, eventAct, eventUpdate}
@@ -116,7 +117,7 @@ unfolding handleRawPacket transactionUpdate
 packets p time w s h = by (isDropped (w .slot) (w .transaction))
   where
     v : World
-    v = pushPacket (w .bytes) time (appendBytes p (withEventState Idle (stamped time w)))
+    v = pushPacket (w .bytes) time (appendBytes p (withEventState Idle (stamped time (reasonOf p) w)))
 
     u : World
     u = resumeAt (w .slot) (w .packets) v
@@ -151,9 +152,9 @@ events : (kind code time : ℕ) (w : World) → Tokened w → Tokened (handleEve
 unfolding handleEvent eventUpdate
 events kind code time w h = by (eqb kind 0)
   where
-    by : (b : Bool) → Tokened (eventUpdate (w .packets) kind (push (EventRow (w .packets) code) (pushPacket (w .bytes) time (pick b (suspend (stamped time w)) (endAll (stamped time w))))))
-    by true = acts (turnOf (w .eventState) kind .act) (w .packets) (push (EventRow (w .packets) code) (pushPacket (w .bytes) time (suspend (stamped time w)))) (suspends (w .slot) (w .transaction .style) (w .transaction .endpoint) h)
-    by false = acts (turnOf (endAll (stamped time w) .eventState) kind .act) (w .packets) (push (EventRow (w .packets) code) (pushPacket (w .bytes) time (endAll (stamped time w)))) (ends false false (stamped time w) h)
+    by : (b : Bool) → Tokened (eventUpdate (w .packets) kind (push (EventRow (w .packets) code) (pushPacket (w .bytes) time (pick b (suspend (stamped time 0 w)) (endAll (stamped time 0 w))))))
+    by true = acts (turnOf (w .eventState) kind .act) (w .packets) (push (EventRow (w .packets) code) (pushPacket (w .bytes) time (suspend (stamped time 0 w)))) (suspends (w .slot) (w .transaction .style) (w .transaction .endpoint) h)
+    by false = acts (turnOf (endAll (stamped time 0 w) .eventState) kind .act) (w .packets) (push (EventRow (w .packets) code) (pushPacket (w .bytes) time (endAll (stamped time 0 w)))) (ends false false (stamped time 0 w) h)
 
 details : (g : Found) (number direction kind max : ℕ) (w : World) → Tokened w → Tokened (setDetailOn g number direction kind max w)
 details (At i) number direction kind max w h = h
@@ -166,7 +167,7 @@ unfolding handleDetail finish
 tokened-after (packet p time shelf) w s h = packets p time (withShelf shelf w) s h
 tokened-after (event kind code time) w s h = events kind code time w h
 tokened-after (detail a number r kind m) w s h = details (deviceFor a w) number r kind m w h
-tokened-after finishing w s h = ends false false w h
+tokened-after finishing w s h = ends false false (lastStamped w) h
 
 -- and so of every world that calls leave
 fresh-tokened : Tokened Decoder.fresh

@@ -1,10 +1,11 @@
 -- To be believed: the public functions of decoder.rs, and the detail call of 01. handle_metadata is left out.
--- Hold it to: Decoder::new, handle_raw_packet, handle_event and finish of decoder.rs; 01, "Modules in port order", 3: "A detail call sets both"
+-- Hold it to: Decoder::new, handle_raw_packet, handle_event and finish of decoder.rs; 01, "Modules in port order", 3: "A detail call sets both"; 02, 9: "rows written by finish hold the last packet's number and time"
 use mathlib.Core.Bool.{false}
 use mathlib.Core.List.{List, [], _∷_}
 use Prim.Native.Nat.{ℕ, zero, suc, pred, _+_}
 use lib.Dec.{eqb}
 use lib.ListN.{length}
+use Rattle.usb.specs.Packet.{noReason, reasonOf}
 use Rattle.transaction.specs.Table.{pick}
 use Rattle.transaction.specs.declared.Style.the-variants.{Nothing}
 use Rattle.details.specs.Details as details
@@ -14,7 +15,7 @@ use Rattle.endpoints.specs.declared.Endpoint.{Endpoint}
 use Rattle.endpoints.specs.declared.Phase.{Phase}
 use Rattle.endpoints.specs.declared.Phase.the-variants.{None, Early, Active, Ended}
 use Rattle.rules.specs.Rows.{Row, BytesRow, PacketRow, EventRow, Over}
-use Rattle.rules.specs.World.{World, _▷_, noItem, withEndpoints, withSlot, withEventState, withKeepalive, withBytes, withPackets, withJournal, push, newTransaction, makeWorld, stamp, stamped}
+use Rattle.rules.specs.World.{World, _▷_, noItem, withEndpoints, withSlot, withEventState, withKeepalive, withBytes, withPackets, withJournal, push, newTransaction, makeWorld, stamp, stamped, lastStamped}
 use Rattle.rules.specs.Endpoints.{addDevice, deviceFor, addEndpoint, setDetailOn}
 use Rattle.rules.specs.Transactions.{transactionEnd, transactionUpdate}
 use Rattle.rules.specs.Events.{LsKeepalive, eventUpdate}
@@ -25,7 +26,7 @@ use Rattle.rules.specs.declared.EventState.the-variants.{Idle}
 -- ---- fn new
 
 abbrev pub nothingYet : World
-nothingYet = makeWorld (λ j. newEndpoint 0 0) 0 (λ j. details.fresh 0) 0 Empty (newTransaction Nothing 0 0 0 Unknown) noItem Idle false (stamp 0 0) []
+nothingYet = makeWorld (λ j. newEndpoint 0 0) 0 (λ j. details.fresh 0) 0 Empty (newTransaction Nothing 0 0 0 Unknown) noItem Idle false (stamp 0 0 0) []
     0 0 0 0 0 0 []
 
 -- the default device, and the special endpoints: EVENT_EP_NUM, INVALID_EP_NUM, FRAMING_EP_NUM
@@ -44,7 +45,7 @@ pushPacket start time w = w ▷ push (PacketRow start time) ▷ withPackets (suc
 
 unfoldable pub handleRawPacket : List ℕ → ℕ → World → World
 handleRawPacket packet time w =
-    w ▷ stamped time
+    w ▷ stamped time (reasonOf packet)
     ▷ withEventState Idle
     ▷ appendBytes packet
     ▷ pushPacket (w .bytes) time
@@ -95,7 +96,7 @@ interrupt kind w = pick (eqb kind LsKeepalive) (suspend w) (endAll w)
 
 unfoldable pub handleEvent : ℕ → ℕ → ℕ → World → World
 handleEvent kind code time w =
-    w ▷ stamped time
+    w ▷ stamped time noReason
     ▷ interrupt kind
     ▷ pushPacket (w .bytes) time
     ▷ push (EventRow (w .packets) code)
@@ -104,7 +105,7 @@ handleEvent kind code time w =
 -- ---- fn finish
 
 unfoldable pub finish : World → World
-finish w = transactionEnd false false w
+finish w = w ▷ lastStamped ▷ transactionEnd false false
 
 -- ---- the detail call (01, Details and tables)
 

@@ -83,7 +83,7 @@ addEndpointState x start w =
 abbrev pub addGroupEntry : ℕ → Bool → World → World
 addGroupEntry x start w =
     w ▷ addEndpointState x start
-    ▷ push (GroupRow (grouping x (lastGroup x w) start))
+    ▷ push (GroupRow (grouping x (lastGroup x w) start (w .context)))
     ▷ withGroups (suc (w .groups))
 
 -- ---- fn add_group; what becomes of the new group is said by its callers

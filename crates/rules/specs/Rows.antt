@@ -1,24 +1,29 @@
 -- To be believed: the rows that the rules append, and the twelve logs that they go to (01, Trace and listing). A journal has the rows of all logs, the newest
 -- first.
--- Hold it to: the vectors of capture.rs that decoder.rs pushes to; 01, "Trace and listing": what a line of each kind has; 02, 2: "The request row stays and gains a note"
+-- Hold it to: the vectors of capture.rs that decoder.rs pushes to; 01, "Trace and listing": what a line of each kind has; 02, 2: "The request row stays and gains a note"; 02, 1: "a transaction row
+-- carries that of the packet it names, 0 if valid or an event"; 02, 9: "the packet number and time of the call that wrote it"
 use mathlib.Core.Bool.{Bool}
 use mathlib.Core.List.{List, [], _∷_, _++_}
 use Prim.Native.Nat.{ℕ}
 use lib.Dec.{eqb}
 use Rattle.rows.specs.One.{one}
 use Rattle.transaction.specs.Table.{pick}
+use Rattle.rules.specs.declared.Stamp.{Stamp}
 
 -- ---- rows that a change may lengthen are records: a new field stands here, in its words, and where the row is pushed
 
--- transaction_index: the packet that the transaction begins with
+-- transaction_index: the packet that the transaction begins with, and the reason that it is malformed (02, 1; usb, Packet: reasonOf)
 pub record Named : Type 0 where
   pub packet : ℕ
+  pub reason : ℕ
 
--- group_index: the endpoint, its group, and whether the row is the group's start or its end
+-- group_index: the endpoint, its group, and whether the row is the group's start or its end; the packet number and time of the call that wrote it (02, 9)
 pub record Group : Type 0 where
   pub endpoint : ℕ
   pub group : ℕ
   pub start : Bool
+  pub packet : ℕ
+  pub time : ℕ
 
 -- where the Rust calls decode_request: the endpoint, the setup bytes as one number, the payload's length, and the note of what was taken (02, 2;
 -- descriptors, Complete: noteOf)
@@ -28,20 +33,20 @@ pub record Asked : Type 0 where
   pub length : ℕ
   pub note : ℕ
 
-abbrev pub naming : ℕ → Named
-naming packet = record { packet = packet }
+abbrev pub naming : ℕ → ℕ → Named
+naming packet reason = record { packet = packet; reason = reason }
 
-abbrev pub grouping : ℕ → ℕ → Bool → Group
-grouping x g start = record { endpoint = x; group = g; start = start }
+abbrev pub grouping : ℕ → ℕ → Bool → Stamp → Group
+grouping x g start c = record { endpoint = x; group = g; start = start; packet = c .packet; time = c .time }
 
 abbrev pub asking : ℕ → ℕ → ℕ → ℕ → Asked
 asking x setup n note = record { endpoint = x; setup = setup; length = n; note = note }
 
 abbrev pub transactionWords : Named → List ℕ
-transactionWords r = r .packet ∷ []
+transactionWords r = r .packet ∷ r .reason ∷ []
 
 abbrev pub groupWords : Group → List ℕ
-groupWords r = r .endpoint ∷ r .group ∷ one (r .start) ∷ []
+groupWords r = r .endpoint ∷ r .group ∷ one (r .start) ∷ r .packet ∷ r .time ∷ []
 
 abbrev pub requestWords : Asked → List ℕ
 requestWords r = r .endpoint ∷ r .setup ∷ r .length ∷ r .note ∷ []

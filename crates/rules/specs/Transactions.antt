@@ -61,9 +61,9 @@ transactionAppend pid packet w =
 
 -- ---- fn transaction_start
 
--- self.capture.transaction_index.push(packet_id)
+-- self.capture.transaction_index.push(packet_id), with the packet's reason (02, 1)
 abbrev pub pushTransaction : ℕ → World → World
-pushTransaction id w = w ▷ push (TransactionRow (naming id)) ▷ withTransactions (suc (w .transactions))
+pushTransaction id w = w ▷ push (TransactionRow (naming id (w .context .reason))) ▷ withTransactions (suc (w .transactions))
 
 abbrev pub begin : Transaction → World → World
 begin t w = w ▷ withTransaction t ▷ withSlot Current

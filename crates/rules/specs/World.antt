@@ -35,7 +35,7 @@ pub record World : Type 0 where
   pub eventState : EventState
   -- ls_keepalive_item: whether there is one
   pub keepalive : Bool
-  -- what the call that is running brings: its packet row's number and time. It is no part of the state: each call that has a packet row sets it first
+  -- what the call that is running brings: its packet row's number and time, and the reason that its packet is malformed (02, 1). Each call that has a packet row sets it first, so before a call it is what the last of these brought
   pub context : Stamp
   -- 02, 2: what a caller lends to keep control payloads and descriptors in: 8,192 bytes for each device, in their order (descriptors, Complete)
   pub shelf : List ℕ
@@ -176,12 +176,19 @@ withJournal a w = makeWorld (w .endpoints) (w .count) (w .devices) (w .deviceCou
 
 -- ---- what a call brings
 
-abbrev pub stamp : ℕ → ℕ → Stamp
-stamp packet time = record { packet = packet; time = time }
+abbrev pub stamp : ℕ → ℕ → ℕ → Stamp
+stamp packet time reason = record { packet = packet; time = time; reason = reason }
 
 -- the next packet row will be the call's own
-abbrev pub stamped : ℕ → World → World
-stamped time w = withContext (stamp (w .packets) time) w
+abbrev pub stamped : ℕ → ℕ → World → World
+stamped time reason w = withContext (stamp (w .packets) time reason) w
+
+-- 02, 9: "rows written by finish hold the last packet's number and time, or zero and zero if there was none"
+abbrev pub lastOf : ℕ → Stamp → Stamp
+lastOf packets c = pick (eqb packets 0) (stamp 0 0 0) c
+
+abbrev pub lastStamped : World → World
+lastStamped w = withContext (lastOf (w .packets) (w .context)) w
 
 -- ---- what is appended
 

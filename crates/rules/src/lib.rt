@@ -20,8 +20,9 @@ pub enum EventState {
     ValidHostChirp,
 }
 
-// What the call that is running brings: the number of its packet row, and its time.
+// What the call that is running brings: the number of its packet row, its time, and the reason that the packet is malformed; 0 where it is valid, or an event.
 pub struct Stamp {
     pub packet: u64,
     pub time: u64,
+    pub reason: u64,
 }

@@ -16,9 +16,11 @@ use Rattle.start.specs.Fresh.{Makes, unmade, noDevices}
 use Rattle.start.specs.FreshLaws.{made-on}
 use Rattle.events.specs.Call.{FinishCall}
 use Rattle.step.specs.Block.{Stand, stand, Takes}
+use Rattle.run.specs.NotMade.{notMade}
 use Rattle.run.specs.Run.{Runs, Ran}
 use Rattle.run.specs.Run.Ran.{wrong, refused, runs}
 use Rattle.run.specs.Run.Runs.{ends, stops}
+use Rattle.run.specs.declared.Done.{Done}
 
 -- ---- the records, and finish
 
@@ -47,8 +49,15 @@ module _ {trace t : List ℕ} {l : Logs} {shelf : List ℕ} {d : Device} {h : He
       (subst (λ (x : ℕ). Ran trace t l shelf (headerAnswer (headerOf trace)) x (stand (state r (replicate 64 d) t l) shelf)) (sym (v ∙ ap headerPlace f))
       (subst (λ (x : State). Ran trace t l shelf (headerAnswer (headerOf trace)) (headerPlace (headerOf trace)) (stand x shelf)) (sym left) (wrong (λ z. n (g ∙ z)))))
 
-  pub ran-refused : {b : ℕ} {s : State} → Makes (replicate 64 d) t l b s → a ≡ 0 → (b ≡ 0 → ⊥) → Ran trace t l shelf b 0 (stand s shelf)
-  ran-refused m z n = refused (sym (answered trace f k) ∙ z) (made-on e m) n
+  pub ran-refused : {b : ℕ} {d′ : Decoder} {v : List Device} {t′ : List ℕ} {l′ : Logs} {r : Done}
+      → Makes (replicate 64 d) t l b (state d′ v t′ l′)
+      → a ≡ 0
+      → (b ≡ 0 → ⊥)
+      → r ≡ notMade b d′ v
+      → Ran trace t l shelf (r .answer) (r .place) (stand (state (r .decoder) (r .devices) t′ l′) shelf)
+  ran-refused {t′ = t′} {l′} m z n q =
+      subst (λ (r : Done). Ran trace t l shelf (r .answer) (r .place) (stand (state (r .decoder) (r .devices) t′ l′) shelf)) (sym q)
+      (refused (sym (answered trace f k) ∙ z) (made-on e m) n)
 
   pub ran-made : {b j p : ℕ} {s : State} {s′ : Stand} → Makes (replicate 64 d) t l b s → a ≡ 0 → b ≡ 0 → Runs trace 5 stopped (stand s shelf) j p s′ → Ran trace t l shelf j p s′
   ran-made {s = s} m z y r = runs (sym (answered trace f k) ∙ z) (subst (λ (x : ℕ). Makes noDevices t l x s) y (made-on e m)) r

@@ -1,2 +1,3 @@
+pub mod NotMade
 pub mod Run
 pub mod RunLaws

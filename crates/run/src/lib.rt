@@ -15,6 +15,7 @@ ghost use mathlib.Core.Path.{_≡_};
 ghost use Rattle.trace.specs.Clock.{stopped};
 ghost use Rattle.call.specs.State.{state, logs};
 ghost use Rattle.step.specs.Block.{stand};
+ghost use Rattle.run.specs.NotMade.{notMade};
 ghost use Rattle.run.specs.Run.{Runs, Ran};
 
 // A run's end: the answer (0: finished), its place in the trace, and the decoder.
@@ -108,6 +109,18 @@ fn records(
     }
 }
 
+// A decoder that can't be made is told at 0.
+fn not_made(answer: u8, decoder: Decoder, devices: [Device; 64]) -> Done
+    ensures { λ r. ⌜ r ≡ notMade answer decoder devices ⌝ }
+{
+    Done {
+        answer,
+        place: 0,
+        decoder,
+        devices,
+    }
+}
+
 // The trace on the lent table, logs and shelf: 10 or 11 for its header, what a decoder that can't be made answers, or what its records come to.
 pub fn run(
     trace: &[u8],
@@ -158,19 +171,13 @@ pub fn run(
         requests,
     );
     let answer = made.answer;
-    let decoder = made.decoder;
     let devices = made.devices;
     if answer != 0 {
-        return Done {
-            answer,
-            place: 0,
-            decoder,
-            devices,
-        };
+        return not_made(answer, made.decoder, devices);
     }
     records(
         trace,
-        decoder,
+        made.decoder,
         devices,
         table,
         bytes,

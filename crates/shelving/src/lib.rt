@@ -42,14 +42,14 @@ pub fn sized(shelf: &Shelf)
 // The packet's payload is laid by where `keeps`: in the part of the device `device`, behind `count` bytes. A request completes where `asks`: on the device `place`,
 // with these setup data and a payload of this length, on the endpoint `endpoint`. Where not, the device is the first.
 pub struct Reading {
-    pub keeps: bool,
     pub device: usize,
     pub count: usize,
-    pub asks: bool,
     pub endpoint: usize,
     pub place: usize,
     pub setup: u64,
     pub length: u64,
+    pub keeps: bool,
+    pub asks: bool,
 }
 
 // The note of the request's row, 0 where none completes, and the device's row then.

@@ -8,6 +8,7 @@ use mathlib.Core.Path.{_≡_, refl, sym, ap, _∙_}
 use borrow.Author.Tests.{eqb-false}
 use lib.Dec.{eqb}
 use lib.ListN.{length}
+use Rattle.usb.specs.Packet.{reasonOf}
 use Rattle.usb.specs.Fields.{setupDataOf}
 use Rattle.usb.specs.Pid.{OUT, SPLIT, MALFORMED}
 use Rattle.transaction.proofs.Laws.{extract-keeps}
@@ -30,7 +31,7 @@ use Rattle.rules.proofs.Linked.{token-slot, resume-links, extract-links}
 use Rattle.rules.proofs.Seen.{Seen, append-seen}
 use Rattle.rules.proofs.Tokened.{resumes}
 use Rattle.rules.specs.Rows.{Row, EventRow}
-use Rattle.rules.specs.World.{withShelf, World, stamped, push, withSlot, withTransaction, withEventState, withKeepalive, withId, withPid, moreTransactions, newTransaction}
+use Rattle.rules.specs.World.{withShelf, World, stamped, push, withSlot, withTransaction, withEventState, withKeepalive, withId, withPid, moreTransactions, newTransaction, lastStamped}
 use Rattle.rules.specs.Endpoints.{deviceFor, packetEndpoint, endpointOf, typed, detailed, setEndpointType, setDetailOn}
 use Rattle.rules.specs.Groups.{addGroupEntry, pushGroup, link, groupUpdate, groupEarlyAppend}
 use Rattle.rules.specs.Transactions.{brought, transactionEndAt, transactionEnd, appendToken, transactionAppend, pushTransaction, begin, typeOf, beginOn, beginSplit, beginPlain, transactionStart, resumeAt, stateAt, completes, extracted, updateAt, updateFrom, isDropped, transactionUpdate}
@@ -232,7 +233,7 @@ module _ (n : ℕ) where
   packet-fits p time w t l f = by (isDropped (w .slot) (w .transaction)) refl
     where
       v : World
-      v = pushPacket (w .bytes) time (appendBytes p (withEventState Idle (stamped time w)))
+      v = pushPacket (w .bytes) time (appendBytes p (withEventState Idle (stamped time (reasonOf p) w)))
 
       g : Fits n v
       g = longer (omega arith) f
@@ -324,9 +325,9 @@ module _ (n : ℕ) where
       go : (u : World) → Fits n u → Fits n (eventUpdate (w .packets) kind (push (EventRow (w .packets) code) (pushPacket (w .bytes) time u)))
       go u g = act-fits (turnOf (u .eventState) kind .act) (w .packets) (push (EventRow (w .packets) code) (pushPacket (w .bytes) time u)) (longer (omega arith) g)
 
-      by : (b : Bool) → Fits n (eventUpdate (w .packets) kind (push (EventRow (w .packets) code) (pushPacket (w .bytes) time (pick b (suspend (stamped time w)) (endAll (stamped time w))))))
-      by true = go (suspend (stamped time w)) (suspend-fits (stamped time w) f)
-      by false = go (endAll (stamped time w)) (active-fits (transactionEnd false false (stamped time w)) (fail-fits false (stamped time w) f))
+      by : (b : Bool) → Fits n (eventUpdate (w .packets) kind (push (EventRow (w .packets) code) (pushPacket (w .bytes) time (pick b (suspend (stamped time 0 w)) (endAll (stamped time 0 w))))))
+      by true = go (suspend (stamped time 0 w)) (suspend-fits (stamped time 0 w) f)
+      by false = go (endAll (stamped time 0 w)) (active-fits (transactionEnd false false (stamped time 0 w)) (fail-fits false (stamped time 0 w) f))
 
   -- ---- every call
 
@@ -339,7 +340,7 @@ module _ (n : ℕ) where
   call-fits (packet p time shelf) w t l f = packet-fits p time (withShelf shelf w) t l f
   call-fits (event kind code time) w t l f = event-fits kind code time w f
   call-fits (detail a number r kind m) w t l f = detail-fits (deviceFor a w) number r kind m w f
-  call-fits finishing w t l f = fail-fits false w f
+  call-fits finishing w t l f = fail-fits false (lastStamped w) f
 
 pub fit-after : (k : Call) (n : ℕ) (w : World) → Fit n w → Tokened w → Linked w → Fit n (call k w)
 fit-after k n w f t l = done n (holds (call k w .slot)) (call k w .transaction .endpoint) (call k w) (λ q. q) (call-fits n k w t l (begun n w f))

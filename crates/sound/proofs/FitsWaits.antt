@@ -174,7 +174,7 @@ none-of (r ∷ rs) k s l pid h = by (fits (r .tests) (k ∷ s ∷ l ∷ pid ∷ 
         shut false t u v = refl
 
 split-goes-on : (t : Transaction) (sc kind : ℕ) → t .style ≡ Split sc kind → (c : Checked) (n : ℕ) → closing (judgedOf t c n .status) ≡ true → ¬ (judgedOf t c n .pid ≡ OUT)
-split-goes-on t sc kind q Malformed n h = absurd (true≢false (sym h))
+split-goes-on t sc kind q (Malformed reason) n h = absurd (true≢false (sym h))
 split-goes-on t sc kind q (Valid pid) n h = λ z. absurd (true≢false (sym (rw (q, z) at h) ∙ none-of (splitRows n) kind sc (t .last) OUT refl))
 
 pub split-on : (t : Transaction) (sc kind : ℕ) (p : List ℕ) → t .style ≡ Split sc kind → closing (transactionStatus t p .status) ≡ true → ¬ (transactionStatus t p .pid ≡ OUT)

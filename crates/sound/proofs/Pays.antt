@@ -8,6 +8,7 @@ use native.Mathlib.Omega.{arith}
 use borrow.Author.Tests.{eqb-false}
 use lib.Dec.{eqb}
 use lib.ListN.{length}
+use Rattle.usb.specs.Packet.{reasonOf}
 use Rattle.usb.specs.Pid.{DATA0, DATA1, SPLIT, MALFORMED}
 use Rattle.usb.specs.Fields.{setupDataOf}
 use Rattle.transaction.specs.Payload.{takesSetup, withSetup, withPayload, extractPayload}
@@ -23,7 +24,7 @@ use Rattle.details.specs.Kind.{Unknown}
 use Rattle.details.specs.declared.Found.{Found}
 use Rattle.details.specs.declared.Found.the-variants.{At, Nothing}
 use Rattle.rules.specs.Rows.{EventRow}
-use Rattle.rules.specs.World.{withShelf, World, stamped, eventEp, push, withSlot, withTransaction, withEventState, withKeepalive, moreTransactions, moreGroups, withId, withPid, newTransaction}
+use Rattle.rules.specs.World.{withShelf, World, stamped, eventEp, push, withSlot, withTransaction, withEventState, withKeepalive, moreTransactions, moreGroups, withId, withPid, newTransaction, lastStamped}
 use Rattle.endpoints.specs.Table.{newEndpoint}
 use Rattle.rules.specs.Endpoints.{addDevice, deviceFor, pushEndpoint, addEndpointOn, found, packetEndpointAt, packetEndpoint, endpointOf, setDetailOn}
 use Rattle.rules.specs.Transactions.{brought, transactionEnd, appendToken, transactionAppend, pushTransaction, begin, typeOf, beginOn, beginSplit, beginPlain, transactionStart, resumeAt, stateAt, completes, extracted, updateAt, updateFrom, isDropped, transactionUpdate}
@@ -183,7 +184,7 @@ unfolding handleRawPacket transactionUpdate
 packet-pays p time w l h paid = by (isDropped (w .slot) (w .transaction))
   where
     v : World
-    v = pushPacket (w .bytes) time (appendBytes p (withEventState Idle (stamped time w)))
+    v = pushPacket (w .bytes) time (appendBytes p (withEventState Idle (stamped time (reasonOf p) w)))
 
     u : World
     u = resumeAt (w .slot) (w .packets) v
@@ -236,9 +237,9 @@ event-pays kind code time w p = by (eqb kind 0)
     go : (u : World) → Paid u → Paid (eventUpdate (w .packets) kind (push (EventRow (w .packets) code) (pushPacket (w .bytes) time u)))
     go u h = act-pays (turnOf (u .eventState) kind .act) (w .packets) (push (EventRow (w .packets) code) (pushPacket (w .bytes) time u)) h
 
-    by : (b : Bool) → Paid (eventUpdate (w .packets) kind (push (EventRow (w .packets) code) (pushPacket (w .bytes) time (pick b (suspend (stamped time w)) (endAll (stamped time w))))))
-    by true = go (suspend (stamped time w)) (λ i h. (omega (arith, suspend-le (w .slot) (w .transaction) i, p i h)))
-    by false = go (endAll (stamped time w)) (end-pays false false (stamped time w) p)
+    by : (b : Bool) → Paid (eventUpdate (w .packets) kind (push (EventRow (w .packets) code) (pushPacket (w .bytes) time (pick b (suspend (stamped time 0 w)) (endAll (stamped time 0 w))))))
+    by true = go (suspend (stamped time 0 w)) (λ i h. (omega (arith, suspend-le (w .slot) (w .transaction) i, p i h)))
+    by false = go (endAll (stamped time 0 w)) (end-pays false false (stamped time 0 w) p)
 
 -- ---- every call
 
@@ -252,4 +253,4 @@ unfolding handleDetail finish
 paid-after (packet p time shelf) w l h paid = packet-pays p time (withShelf shelf w) l h paid
 paid-after (event kind code time) w l h paid = event-pays kind code time w paid
 paid-after (detail a number r kind m) w l h paid = detail-pays (deviceFor a w) number r kind m w paid
-paid-after finishing w l h paid = end-pays false false w paid
+paid-after finishing w l h paid = end-pays false false (lastStamped w) paid

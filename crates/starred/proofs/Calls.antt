@@ -236,7 +236,7 @@ module _ (id : ℕ) (w : World) (h : isCurrent (w .slot) ≡ false) where
 keepalive-world : (code time : ℕ) (w : World) → (handleEvent LsKeepalive code time w .slot ≡ suspendAt (w .slot)) × (handleEvent LsKeepalive code time w .transaction ≡ w .transaction)
 unfolding handleEvent eventUpdate
 keepalive-world code time w =
-    let v = push (EventRow (w .packets) code) (pushPacket (w .bytes) time (suspend (stamped time w))) in
+    let v = push (EventRow (w .packets) code) (pushPacket (w .bytes) time (suspend (stamped time 0 w))) in
     act-holds (w .packets) v (suspended (w .slot)) (turnOf (w .eventState) LsKeepalive .act)
 
 event-tests : (ill finished full over : Bool) → ill ≡ false → finished ≡ false → over ≡ false → firstOf (eventTests ill finished LsKeepalive full over) ≡ cond full 7 0

@@ -9,7 +9,7 @@ use Rattle.crc.specs.Crc as crc
 use Rattle.usb.specs.Bits.{after}
 use Rattle.usb.specs.Pid.{OUT, SETUP, DATA0}
 use Rattle.usb.specs.Types.{Isochronous, Bulk}
-use Rattle.usb.specs.Packet.{formatOf, tokenOk, splitOk, dataOk, handshakeOk, formatOk, checkedOf}
+use Rattle.usb.specs.Packet.{formatOf, formatOk, formatReason, reasonOf, checkedOf}
 use Rattle.usb.specs.declared.Checked.the-variants.{Valid}
 use Rattle.details.specs.Kind.{Unknown}
 use Rattle.endpoints.specs.declared.Endpoint.{Endpoint}
@@ -92,7 +92,7 @@ abbrev _and_ : {A B : Type 0} → A → B → A × B
 a and b = (a, b)
 
 pub starred : Starred
-unfolding crc.step crc.bits crc.bytes crc.crc5Of crc.crc16Of after formatOf tokenOk splitOk dataOk handshakeOk formatOk checkedOf repeatGroup otherGroup groupStatus
+unfolding crc.step crc.bits crc.bytes crc.crc5Of crc.crc16Of after formatOf formatOk formatReason reasonOf checkedOf repeatGroup otherGroup groupStatus
 starred =
     refl
     and refl

@@ -1,10 +1,11 @@
 -- To be believed: 01's starred bench cases, in its order; lines in quotation marks are its. `Starred`: each of them holds (Cases.antt says what that means),
 -- and proofs/Held.antt proves it.
--- Hold it to: 01, "Bench cases", the starred ones in their order
+-- Hold it to: 01, "Bench cases", the starred ones in their order; 02, 1, for the reasons
 use Prim.Native.Nat.{ℕ}
 use mathlib.Core.Bool.{true, false}
 use mathlib.Core.List.{List, [], _∷_}
 use Rattle.usb.specs.Pid.{OUT, SETUP, DATA1, ACK}
+use Rattle.usb.specs.Packet.{isEmpty, badPid, wrongLength, badCrc}
 use Rattle.usb.specs.Types.{Isochronous, Bulk}
 use Rattle.usb.specs.declared.Checked.the-variants.{Valid, Malformed}
 use Rattle.details.specs.Kind.{Unknown}
@@ -23,20 +24,20 @@ ten = 0xC3 ∷ 0x80 ∷ 0x06 ∷ 0x00 ∷ 0x01 ∷ 0x00 ∷ 0x00 ∷ 0x40 ∷ 0x
 
 abbrev pub cases : List Case
 cases =
-    -- "empty packet: Malformed."
-    check [] Malformed
+    -- "empty packet: Malformed." (the reasons are 02's, 1)
+    check [] (Malformed isEmpty)
     -- "`2D 00 10`: SETUP to 0, 0."
     ∷ check (0x2D ∷ 0x00 ∷ 0x10 ∷ []) (Valid SETUP)
     ∷ token (0x2D ∷ 0x00 ∷ 0x10 ∷ []) (record { address = 0; number = 0 })
     -- "`2D 00 11`: Malformed."
-    ∷ check (0x2D ∷ 0x00 ∷ 0x11 ∷ []) Malformed
+    ∷ check (0x2D ∷ 0x00 ∷ 0x11 ∷ []) (Malformed badCrc)
     -- "`4B 00 00`: DATA1, empty payload."
     ∷ check (0x4B ∷ 0x00 ∷ 0x00 ∷ []) (Valid DATA1)
     ∷ payload (0x4B ∷ 0x00 ∷ 0x00 ∷ []) []
     -- "`D2` ACK; `D2 00` and `D3` Malformed."
     ∷ check (0xD2 ∷ []) (Valid ACK)
-    ∷ check (0xD2 ∷ 0x00 ∷ []) Malformed
-    ∷ check (0xD3 ∷ []) Malformed
+    ∷ check (0xD2 ∷ 0x00 ∷ []) (Malformed wrongLength)
+    ∷ check (0xD3 ∷ []) (Malformed badPid)
     -- "SETUP then DATA0 of 11 bytes Continue, of 10 Invalid."
     ∷ data0 SETUP any (only 11) eleven Continue
     ∷ data0 SETUP any (only 10) ten Invalid

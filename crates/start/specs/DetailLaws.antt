@@ -96,6 +96,7 @@ same-decoder s f h =
       keepalive = d .keepalive;
       waiting = (sound s h .0 .waiting ∙ waiting-entries (s .table) (n .endpoints)) i;
       finished = d .finished;
+      time = d .time;
     }
   where
     none : (m : ℕ) → m ≡ m + 0

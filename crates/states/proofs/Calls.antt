@@ -6,6 +6,7 @@ use mathlib.Core.List.{List, _∷_}
 use mathlib.Core.Path.{_≡_, refl, sym, ap, subst}
 use lib.Dec.{eqb}
 use lib.ListN.{length}
+use Rattle.usb.specs.Packet.{reasonOf}
 use Rattle.transaction.specs.Table.{pick}
 use Rattle.details.specs.Details.{numberOf}
 use Rattle.details.specs.declared.Found.{Found}
@@ -17,7 +18,7 @@ use Rattle.descriptors.specs.Complete.{noteBy}
 use Rattle.group.specs.declared.Effect.{Effect}
 use Rattle.group.specs.declared.Effect.the-variants.{NoEffect, NewDevice, Request, PendingData, IndexData}
 use Rattle.rules.specs.Rows.{Row, BytesRow, DeviceRow, EndpointRow, PacketRow, EventRow, TransactionRow, naming, GroupRow, grouping, ItemRow, T, G, D, E, RequestRow, asking, Over}
-use Rattle.rules.specs.World.{World, stamped, eventEp, lastGroup, push, change, cleared, withTransaction, withEventState, withKeepalive, withShelf, changeDevice}
+use Rattle.rules.specs.World.{World, stamped, eventEp, lastGroup, push, change, cleared, withTransaction, withEventState, withKeepalive, withShelf, changeDevice, lastStamped}
 use Rattle.rules.specs.Endpoints.{addDevice, deviceFor, pushEndpoint, typed, setDetailOn}
 use Rattle.rules.specs.Groups.{closeRow, closeRows, addItem, statesFrom, addGroupEntry, link, pushGroup, over, askedOf, effectStep, becomes}
 use Rattle.rules.specs.Transactions.{transactionEnd, pushTransaction, isDropped}
@@ -58,7 +59,7 @@ module _ (b : ℕ) where
   -- ---- the rows of groups
 
   entry-keeps : (x : ℕ) (start : Bool) → Keeps (addGroupEntry x start)
-  entry-keeps x start w h = other (GroupRow (grouping x (lastGroup x w) start)) refl refl (state _ _ (few _ 0 (w .count)) (many _ 0 (w .count)) h)
+  entry-keeps x start w h = other (GroupRow (grouping x (lastGroup x w) start (w .context))) refl refl (state _ _ (few _ 0 (w .count)) (many _ 0 (w .count)) h)
     where
       few : (f : ℕ → Endpoint) (i n : ℕ) → length (statesFrom f i n) ≤ n
       few f i n = omega (arith, length-states f i n)
@@ -133,7 +134,7 @@ module _ (b : ℕ) where
   -- ---- the steps of a call
 
   row-keeps : (id : ℕ) → Keeps (pushTransaction id)
-  row-keeps id w h = other (TransactionRow (naming id)) refl refl h
+  row-keeps id w h = other (TransactionRow (naming id (w .context .reason))) refl refl h
 
   endpoint-keeps : (d address : ℕ) → Keeps (pushEndpoint d address)
   endpoint-keeps d address w h = other (EndpointRow d (numberOf address) (address / 128)) refl refl (wider (omega arith) h)
@@ -174,7 +175,7 @@ module _ (b : ℕ) where
   packet-keeps bytes time w h = by (isDropped (w .slot) (w .transaction)) refl
     where
       rowed : In (world1 bytes time w)
-      rowed = packet-row (w .bytes) time (appendBytes bytes (withEventState Idle (stamped time w))) (other (BytesRow bytes) refl refl h)
+      rowed = packet-row (w .bytes) time (appendBytes bytes (withEventState Idle (stamped time (reasonOf bytes) w))) (other (BytesRow bytes) refl refl h)
 
       by : (c : Bool) → isDropped (w .slot) (w .transaction) ≡ c → In (handleRawPacket bytes time w)
       by true q = subst In (sym (dropped-is bytes time w q)) rowed
@@ -210,15 +211,15 @@ module _ (b : ℕ) where
   unfolding handleEvent eventUpdate
   event-keeps kind code time w h = by (eqb kind 0)
     where
-      by : (c : Bool) → In (eventUpdate (w .packets) kind (push (EventRow (w .packets) code) (pushPacket (w .bytes) time (pick c (suspend (stamped time w)) (endAll (stamped time w))))))
+      by : (c : Bool) → In (eventUpdate (w .packets) kind (push (EventRow (w .packets) code) (pushPacket (w .bytes) time (pick c (suspend (stamped time 0 w)) (endAll (stamped time 0 w))))))
       by c =
-          let v = pick c (suspend (stamped time w)) (endAll (stamped time w)) in
+          let v = pick c (suspend (stamped time 0 w)) (endAll (stamped time 0 w)) in
           let u = push (EventRow (w .packets) code) (pushPacket (w .bytes) time v) in
           turn-keeps (turnOf (u .eventState) kind .act) (w .packets) u (other (EventRow (w .packets) code) refl refl (packet-row (w .bytes) time v (before c)))
         where
-          before : (c : Bool) → In (pick c (suspend (stamped time w)) (endAll (stamped time w)))
+          before : (c : Bool) → In (pick c (suspend (stamped time 0 w)) (endAll (stamped time 0 w)))
           before true = h
-          before false = all-keeps (stamped time w) h
+          before false = all-keeps (stamped time 0 w) h
 
   -- ---- every call
 
@@ -231,4 +232,4 @@ module _ (b : ℕ) where
   call-keeps (packet bytes time shelf) w h = packet-keeps bytes time (withShelf shelf w) h
   call-keeps (event kind code time) w h = event-keeps kind code time w h
   call-keeps (detail a number r kind m) w h = detail-keeps (deviceFor a w) number r kind m w h
-  call-keeps finishing w h = end-keeps w h
+  call-keeps finishing w h = end-keeps (lastStamped w) h

@@ -12,6 +12,8 @@ use Rattle.details.specs.Search.{blank, lastOf}
 use Rattle.details.specs.Lookup.{isDevice, foundDevice}
 use Rattle.details.specs.declared.Device.{Device}
 use Rattle.details.specs.declared.Found.the-variants.{At}
+use Rattle.packet.specs.After.{Placed}
+use Rattle.packet.specs.declared.change.Change.{Change}
 use Rattle.usb.specs.Fields.{tokenOf}
 use Rattle.usb.specs.declared.fields.Token.{Token}
 use Rattle.details.specs.declared.Found.{Found}
@@ -35,6 +37,22 @@ found-same {a} {v} h n x few = by n few
         let r = by m (omega arith) in
         λ i. cond (eqb (e i) x) (At m) (r i)
 
+-- one row, stored in both
+module _ {n : ℕ} {a : List ℕ} {v : List Device} (h : Addressed n a v) (many : length v ≡ 64) (i : ℕ) (few : i < 64) (d : Device) where
+  pub addressed-set : Addressed n (set a i (d .address)) (set v i d)
+  addressed-set = record { size = length-set a i (d .address) ∙ h .size; each = λ j u. by j u (eqb j i) refl }
+    where
+      same : getD (set a i (d .address)) i 0 ≡ getD (set v i d) i blank .address
+      same =
+          let z = h .size in
+          getD-set-same a i (d .address) 0 (omega arith) ∙ sym (ap (λ (y : Device). y .address) (getD-set-same v i d blank (omega arith)))
+
+      by : (j : ℕ) → j < n → (b : Bool) → eqb j i ≡ b → getD (set a i (d .address)) j 0 ≡ getD (set v i d) j blank .address
+      by j u true e = subst (λ (k : ℕ). getD (set a i (d .address)) k 0 ≡ getD (set v i d) k blank .address) (sym (eqb-true j i e)) same
+      by j u false e =
+          let o = eqb-false j i e in
+          getD-set-other a i j (d .address) 0 o ∙ (h .each j u ∙ sym (ap (λ (y : Device). y .address) (getD-set-other v i j d blank o)))
+
 pub addressed-none : {a : List ℕ} {v : List Device} → length a ≡ 64 → Addressed 0 a v
 addressed-none h = record { size = h; each = λ j u. absurd (omega arith) }
 
@@ -51,6 +69,14 @@ addressed-next {i} {a} {v} h few = record { size = length-set a i _ ∙ h .size;
     by : (j : ℕ) → j < i + 1 → (b : Bool) → eqb j i ≡ b → getD (set a i (getD v i blank .address)) j 0 ≡ getD v j blank .address
     by j u true e = subst (λ (k : ℕ). getD (set a i (getD v i blank .address)) k 0 ≡ getD v k blank .address) (sym (eqb-true j i e)) same
     by j u false e = let o = eqb-false j i e in getD-set-other a i j (getD v i blank .address) 0 o ∙ h .each j (omega arith)
+
+-- what a packet changes, made in both
+pub addressed-made : {a : List ℕ} {v : List Device} → Addressed 64 a v → length v ≡ 64 → (c : Change) {packet requests : List ℕ} → Placed c packet requests → (x r y : Device)
+    → Addressed 64 (set (set (set a (c .place) (x .address)) (c .reading .place) (r .address)) (c .at) (y .address)) (set (set (set v (c .place) x) (c .reading .place) r) (c .at) y)
+addressed-made {a} {v} h many c p x r y =
+    let first = length-set v (c .place) x ∙ many in
+    let second = length-set (set v (c .place) x) (c .reading .place) r ∙ first in
+    addressed-set (addressed-set (addressed-set h many (c .place) (p .place) x) first (c .reading .place) (p .owner) r) second (c .at) (p .at) y
 
 -- where a packet's details are looked for, as the code finds it
 pub sight-by : (a : List ℕ) (d : Decoder) (table packet : List ℕ) {t : Token} {f : Found} {p : ℕ} {e : Endpoint}

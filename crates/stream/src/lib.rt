@@ -9,11 +9,15 @@ use crate::sight::near_by;
 use crate::sight::sight_of;
 use details::Device;
 use endpoints::Table;
+use packet::change::added_by;
 use packet::change::is_change;
-use packet::change::make_change;
+use packet::change::row_by;
 use quick::quick_in;
 use record::Decoder;
 use shelving::Shelf;
+use shelving::put_request;
+use shelving::shelve;
+use shelving::sized;
 use step::eight;
 use step::goes_on;
 use trace::clock::Clock;
@@ -132,10 +136,24 @@ pub fn run_packets(
         taken += 1;
         eights += eight(answer);
         let c = r.change;
+        // Row by row, as make_change (packet) does it: handed to that, all devices would be copied in and out, and all addresses taken anew (docs/SPEED.md).
         if is_change(c) {
-            let changed = make_change(c, devices, &records[begin..end], shelf, requests);
-            addresses = addresses_of(changed);
-            devices = changed;
+            let t = c.reading;
+            sized(shelf);
+            let place = c.place;
+            let row = row_by(c, devices[place]);
+            devices[place] = row;
+            addresses[place] = row.address;
+            let place = t.place;
+            let s = shelve(shelf, t, devices[place], &records[begin..end]);
+            let kept = s.row;
+            devices[place] = kept;
+            addresses[place] = kept.address;
+            put_request(requests, c.row, t, s.note);
+            let place = c.at;
+            let added = added_by(c, devices[place]);
+            devices[place] = added;
+            addresses[place] = added.address;
         }
     }
 }

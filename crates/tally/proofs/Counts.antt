@@ -5,10 +5,11 @@ use mathlib.Core.List.{List}
 use Prim.Native.Nat.{ℕ, _+_, _/_}
 use native.Mathlib.Omega.{arith}
 use lib.ListN.{length}
+use Rattle.rules.specs.declared.Stamp.{Stamp}
 use Rattle.details.specs.declared.Device.{Device}
 use Rattle.rows.specs.Widths.{requestWidth}
 use Rattle.rules.specs.Rows.{Row, log}
-use Rattle.rules.specs.World.{World, withShelf}
+use Rattle.rules.specs.World.{World, withContext, withShelf}
 use Rattle.tally.specs.Tally.{wordsIn, inLog, wordsFor, Adds}
 use Rattle.rules.specs.World.{waitingOf}
 use Rattle.tally.specs.declared.add.Tally.{Tally}
@@ -26,7 +27,7 @@ use Rattle.plan.specs.declared.Plan.{Plan}
 use Rattle.tally.specs.Has.{Has}
 use Rattle.tally.specs.Suited.{PlanSuits, EndingSuits}
 use Rattle.tally.specs.Tallies.{tallyPlan, tallyEnding, addCounts, roomFor}
-use Rattle.tally.proofs.Counted.{adds-shelf, played-adds, ending-adds}
+use Rattle.tally.proofs.Counted.{adds-shelf, adds-from, played-adds, ending-adds}
 
 abbrev counts : ℕ → ℕ → ℕ → ℕ → ℕ → ℕ → ℕ → ℕ → ℕ → ℕ → ℕ → ℕ → Counts
 counts bytes devices endpoints packets events transactions groups statebytes states items links requests =
@@ -105,6 +106,6 @@ pub played-full : (p : Plan) (packet : List ℕ) (time : ℕ) (h : List ℕ) (s 
     → isFull s (played p packet time (withShelf h (worldAt s))) ≡ not (roomFor (heldAt s) (s .decoder .counts) (tallyPlan p (length packet) (s .decoder .counts .endpoints) (waitingOf (worldAt s))) (roomOf (s .logs)))
 played-full p packet time h s b u = state-full s b (adds-shelf h (played-adds p packet time (withShelf h (worldAt s)) u))
 
-pub ending-full : (e : Ending) (s : State) → Begun (s .table) (s .decoder .counts) → EndingSuits e (worldAt s)
-    → isFull s (endPlayed e (worldAt s)) ≡ not (roomFor (heldAt s) (s .decoder .counts) (tallyEnding e (s .decoder .counts .endpoints) (waitingOf (worldAt s))) (roomOf (s .logs)))
-ending-full e s b h = state-full s b (ending-adds e (worldAt s) h)
+pub ending-full : (c : Stamp) (e : Ending) (s : State) → Begun (s .table) (s .decoder .counts) → EndingSuits e (withContext c (worldAt s))
+    → isFull s (endPlayed e (withContext c (worldAt s))) ≡ not (roomFor (heldAt s) (s .decoder .counts) (tallyEnding e (s .decoder .counts .endpoints) (waitingOf (worldAt s))) (roomOf (s .logs)))
+ending-full c e s b h = state-full s b (adds-from c (ending-adds e (withContext c (worldAt s)) h))

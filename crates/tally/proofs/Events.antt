@@ -55,7 +55,7 @@ pub keepalive-adds : (code time : ℕ) (w : World) → 0 < w .count
     → Adds (tallyKeepalive (rules.turnOf (w .eventState) rules.LsKeepalive .act) (w .keepalive) (w .count) (waitingOf w)) w (handleEvent rules.LsKeepalive code time w)
 unfolding tallyKeepalive handleEvent
 keepalive-adds code time w h =
-    rows-adds (w .bytes) (w .packets) rules.LsKeepalive code time (suspended (w .slot)) h (same-adds (suspendAt (w .slot)) (w .transaction) (w .eventState) (w .keepalive) (stamp (w .packets) time) (w .devices) (adds-none w))
+    rows-adds (w .bytes) (w .packets) rules.LsKeepalive code time (suspended (w .slot)) h (same-adds (suspendAt (w .slot)) (w .transaction) (w .eventState) (w .keepalive) (stamp (w .packets) time 0) (w .devices) (adds-none w))
 
 -- ---- every active group ends: a row in no log
 
@@ -102,6 +102,6 @@ pub keepalive-full : (code time : ℕ) (s : State) → Begun (s .table) (s .deco
     → isFull s (handleEvent rules.LsKeepalive code time (worldAt s)) ≡ not (roomFor (heldAt s) (s .decoder .counts) (tallyKeepalive (rules.turnOf (s .decoder .event) rules.LsKeepalive .act) (s .decoder .keepalive) (s .decoder .counts .endpoints) (waitingOf (worldAt s))) (roomOf (s .logs)))
 keepalive-full code time s b h = state-full s b (keepalive-adds code time (worldAt s) h)
 
-pub event-full : (e : Ending) (kind code time : ℕ) (s : State) → Begun (s .table) (s .decoder .counts) → 0 < s .decoder .counts .endpoints → EndingSuits e (stamped time (worldAt s)) → EndingActs e
-    → isFull s (eventPlayed e kind code time (stamped time (worldAt s))) ≡ not (roomFor (heldAt s) (s .decoder .counts) (tallyEvent e (rules.turnOf (s .decoder .event) kind .act) (s .decoder .counts .endpoints) (waitingOf (worldAt s)) (activesOf (worldAt s))) (roomOf (s .logs)))
-event-full e kind code time s b h g f = state-full s b (adds-from _ (event-played-adds e kind code time (stamped time (worldAt s)) h g f))
+pub event-full : (e : Ending) (kind code time : ℕ) (s : State) → Begun (s .table) (s .decoder .counts) → 0 < s .decoder .counts .endpoints → EndingSuits e (stamped time 0 (worldAt s)) → EndingActs e
+    → isFull s (eventPlayed e kind code time (stamped time 0 (worldAt s))) ≡ not (roomFor (heldAt s) (s .decoder .counts) (tallyEvent e (rules.turnOf (s .decoder .event) kind .act) (s .decoder .counts .endpoints) (waitingOf (worldAt s)) (activesOf (worldAt s))) (roomOf (s .logs)))
+event-full e kind code time s b h g f = state-full s b (adds-from _ (event-played-adds e kind code time (stamped time 0 (worldAt s)) h g f))

@@ -5,13 +5,16 @@ use mathlib.Core.List.{List}
 use Prim.Native.Nat.{ℕ, zero, suc, _+_, _<_, _≤_, _^_}
 use native.Mathlib.Omega.{arith}
 use lib.ListN.{length}
+use Rattle.plan.proofs.Ends.{ending-context}
+use Rattle.plan.specs.declared.Ending.{Ending}
+use Rattle.rules.specs.declared.Stamp.{Stamp}
 use Rattle.transaction.specs.declared.Transaction.{Transaction}
 use Rattle.endpoints.specs.Phases.{count, inPhase, waiting}
 use Rattle.endpoints.specs.PhasesLaws.{count-ext, phase-entry}
 use Rattle.endpoints.specs.Table.{entryAt}
 use Rattle.endpoints.specs.Word as word
 use Rattle.details.specs.declared.Device.{Device}
-use Rattle.rules.specs.World.{World, withShelf}
+use Rattle.rules.specs.World.{World, withContext, withShelf}
 use Rattle.rules.specs.declared.Slot.{Slot}
 use Rattle.rules.specs.declared.Slot.the-variants.{Empty, Current, Suspended}
 use Rattle.rules.specs.World.{endedIn, waitingOf}
@@ -90,10 +93,10 @@ packet-over-is packet time shelf s room h t =
     played-over (planOf packet w) packet time w (plan-totals packet time w (three h) (old-stands h)) t
 
 -- answer 7 of finish
-pub finish-full-is : (s : State) (room : Counts) → WellFormed (s .decoder) (s .devices) (s .table) room
-    → isFull s (endPlayed (endingOf (worldAt s)) (worldAt s))
+pub finish-full-is : (c : Stamp) (s : State) (room : Counts) → WellFormed (s .decoder) (s .devices) (s .table) room
+    → isFull s (endPlayed (endingOf (worldAt s)) (withContext c (worldAt s)))
     ≡ not (roomFor (heldAt s) (s .decoder .counts) (tallyEnding (endingOf (worldAt s)) (s .decoder .counts .endpoints) (s .decoder .waiting)) (roomOf (s .logs)))
-finish-full-is s room h =
+finish-full-is c s room h =
     let e = endingOf (worldAt s) in
-    ending-full e s (h .begun) (ending-suits (worldAt s) (current-stands h))
+    ending-full c e s (h .begun) (subst (λ (a : Ending). EndingSuits a (withContext c (worldAt s))) (ending-context c (worldAt s)) (ending-suits (withContext c (worldAt s)) (current-stands h)))
     ∙ ap (λ (m : ℕ). not (roomFor (heldAt s) (s .decoder .counts) (tallyEnding e (s .decoder .counts .endpoints) m) (roomOf (s .logs)))) (waiting-is h)

@@ -66,7 +66,7 @@ module _ {t : Tally} {w₀ w : World} (a : Adds t w₀ w) where
 
   pub transaction-adds : (packet : ℕ) → Adds (addTransaction t) w₀ (pushTransaction packet w)
   transaction-adds packet =
-      record { words = (λ k. omega (arith, row k (TransactionRow (naming packet)) (w .journal), more 5 k (t .transactions * transactionWidth) 1 ((t .transactions + 1) * transactionWidth) (omega arith), a .words k)); waiting = a .waiting; bytes = a .bytes; devices = a .devices; endpoints = a .endpoints; packets = a .packets; transactions = omega (arith, a .transactions); groups = a .groups; statebytes = a .statebytes; items = a .items }
+      record { words = (λ k. omega (arith, row k (TransactionRow (naming packet (w .context .reason))) (w .journal), more 5 k (t .transactions * transactionWidth) transactionWidth ((t .transactions + 1) * transactionWidth) (omega arith), a .words k)); waiting = a .waiting; bytes = a .bytes; devices = a .devices; endpoints = a .endpoints; packets = a .packets; transactions = omega (arith, a .transactions); groups = a .groups; statebytes = a .statebytes; items = a .items }
 
   -- ---- effects
 

@@ -8,9 +8,9 @@ use mathlib.Core.List.{List, [], _∷_, _++_}
 use lib.Dec.{eqb, ltb}
 use lib.ListN.{length, getD, length-append, length-map}
 use Rattle.text.specs.Words as words
-use Rattle.text.specs.Words.{space, newline, inEnd, outEnd, startEnd, endEnd}
+use Rattle.text.specs.Words.{space, newline, inEnd, outEnd}
 use Rattle.text.specs.Numbers.{digit, digits, decimal, hexBytes}
-use Rattle.text.specs.Lines.{fields, line, deviceLine, endpointLine, packetLine, eventLine, transactionLine, groupLine, stateLine, itemLine, linkLine, noteEnd, requestLine, refusedLine, longest}
+use Rattle.text.specs.Lines.{fields, line, deviceLine, endpointLine, packetLine, eventLine, transactionLine, groupTail, groupLine, stateLine, itemLine, linkLine, noteEnd, requestLine, refusedLine, longest}
 
 chosen : (n : ℕ) (b : Bool) (x y : List ℕ) → length x ≤ n → length y ≤ n → length (cond b x y) ≤ n
 chosen n true x y f g = f
@@ -60,13 +60,17 @@ module _ (row : ℕ) (w : List ℕ) where
   event-fits = within words.event (row ∷ getD w 0 0 ∷ getD w 1 0 ∷ []) newline (omega arith)
 
   pub transaction-fits : length (transactionLine row w) ≤ longest
-  transaction-fits = within words.transaction (row ∷ getD w 0 0 ∷ []) newline (omega arith)
+  transaction-fits = within words.transaction (row ∷ getD w 0 0 ∷ getD w 1 0 ∷ []) newline (omega arith)
+
+  tail-length : (start packet time : ℕ) → length (groupTail start packet time) ≤ 49
+  unfolding groupTail
+  tail-length start packet time =
+      chosen 49 (eqb start 1) _ _ (omega (arith, line-length words.starts (packet ∷ time ∷ []) newline)) (omega (arith, line-length words.ends (packet ∷ time ∷ []) newline))
 
   pub group-fits : length (groupLine row w) ≤ longest
   unfolding groupLine
   group-fits =
-      within words.group (row ∷ getD w 0 0 ∷ getD w 1 0 ∷ []) (cond (eqb (getD w 2 0) 1) startEnd endEnd)
-      (omega (arith, chosen 7 (eqb (getD w 2 0) 1) startEnd endEnd (omega arith) (omega arith)))
+      simp length-append (omega (arith, line-length words.group (row ∷ getD w 0 0 ∷ getD w 1 0 ∷ []) [], tail-length (getD w 2 0) (getD w 3 0) (getD w 4 0)))
 
   pub state-fits : length w ≤ 128 → length (stateLine row w) ≤ longest
   unfolding stateLine

@@ -1,13 +1,13 @@
 -- To be believed: Document 01, "Trace and listing": a line for each kind of row, from the row's number and its words.
 -- Assumes nothing.
--- Hold it to: 01, "Trace and listing": what a line of each kind has; 02, 2: "gains a note of what was taken"
+-- Hold it to: 01, "Trace and listing": what a line of each kind has; 02, 2: "gains a note of what was taken"; 02, 1: "transaction lines gain the reason as a last number"; 02, 9: "The listing appends both numbers to the group lines"
 use Prim.Native.Nat.{ℕ, _+_, _/_, _%_}
 use mathlib.Core.Bool.{cond}
 use mathlib.Core.List.{List, [], _∷_, _++_, map}
 use lib.Dec.{eqb}
 use lib.ListN.{getD}
 use Rattle.text.specs.Words as words
-use Rattle.text.specs.Words.{space, newline, eventEnd, invalidEnd, framingEnd, inEnd, outEnd, startEnd, endEnd, noneEnd}
+use Rattle.text.specs.Words.{space, newline, eventEnd, invalidEnd, framingEnd, inEnd, outEnd, noneEnd}
 use Rattle.text.specs.Numbers.{decimal, hexSetup, letter}
 
 -- each number after a space
@@ -31,6 +31,9 @@ third w = getD w 2 0
 abbrev fourth : List ℕ → ℕ
 fourth w = getD w 3 0
 
+abbrev fifth : List ℕ → ℕ
+fifth w = getD w 4 0
+
 -- device: address
 abbrev pub deviceLine : ℕ → List ℕ → List ℕ
 deviceLine row w = line words.device (row ∷ first w ∷ []) newline
@@ -51,13 +54,17 @@ packetLine row w = line words.packet (row ∷ first w ∷ second w ∷ []) newli
 abbrev pub eventLine : ℕ → List ℕ → List ℕ
 eventLine row w = line words.event (row ∷ first w ∷ second w ∷ []) newline
 
--- transaction: packet
+-- transaction: packet, its reason
 abbrev pub transactionLine : ℕ → List ℕ → List ℕ
-transactionLine row w = line words.transaction (row ∷ first w ∷ []) newline
+transactionLine row w = line words.transaction (row ∷ first w ∷ second w ∷ []) newline
 
--- group: endpoint, the endpoint's group, 1 for its start
+-- group: endpoint, the endpoint's group; 1 for its start; the packet and the time of the call (02, 9)
+unfoldable pub groupTail : ℕ → ℕ → ℕ → List ℕ
+groupTail start packet time =
+    cond (eqb start 1) (line words.starts (packet ∷ time ∷ []) newline) (line words.ends (packet ∷ time ∷ []) newline)
+
 unfoldable pub groupLine : ℕ → List ℕ → List ℕ
-groupLine row w = line words.group (row ∷ first w ∷ second w ∷ []) (cond (eqb (third w) 1) startEnd endEnd)
+groupLine row w = line words.group (row ∷ first w ∷ second w ∷ []) [] ++ groupTail (third w) (fourth w) (fifth w)
 
 -- state: a letter for each of its bytes
 unfoldable pub stateLine : ℕ → List ℕ → List ℕ

@@ -111,13 +111,13 @@ inEnd = 0x20 ∷ 0x69 ∷ 0x6E ∷ 0x0A ∷ []
 abbrev pub outEnd : List ℕ
 outEnd = 0x20 ∷ 0x6F ∷ 0x75 ∷ 0x74 ∷ 0x0A ∷ []
 
--- ` start` and the end of the line
-abbrev pub startEnd : List ℕ
-startEnd = 0x20 ∷ 0x73 ∷ 0x74 ∷ 0x61 ∷ 0x72 ∷ 0x74 ∷ 0x0A ∷ []
+-- ` start`
+abbrev pub starts : List ℕ
+starts = 0x20 ∷ 0x73 ∷ 0x74 ∷ 0x61 ∷ 0x72 ∷ 0x74 ∷ []
 
--- ` end` and the end of the line
-abbrev pub endEnd : List ℕ
-endEnd = 0x20 ∷ 0x65 ∷ 0x6E ∷ 0x64 ∷ 0x0A ∷ []
+-- ` end`
+abbrev pub ends : List ℕ
+ends = 0x20 ∷ 0x65 ∷ 0x6E ∷ 0x64 ∷ []
 
 -- ` none` and the end of the line
 abbrev pub noneEnd : List ℕ

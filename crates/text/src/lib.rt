@@ -92,11 +92,22 @@ pub fn event_line(out: &mut [u8], at: usize, row: u64, packet: u64, code: u64) -
     line(out, at, b"event", &[row, packet, code], b"\n")
 }
 
-pub fn transaction_line(out: &mut [u8], at: usize, row: u64, packet: u64) -> usize
-    requires { ⌜ Room (now out) at (lines.transactionLine row (packet ∷ [])) ⌝ }
-    ensures { λ r. ⌜ Appended (now (out .entry)) at (lines.transactionLine row (packet ∷ [])) (now (out .exit)) r ⌝ }
+pub fn transaction_line(out: &mut [u8], at: usize, row: u64, packet: u64, reason: u64) -> usize
+    requires { ⌜ Room (now out) at (lines.transactionLine row (packet ∷ reason ∷ [])) ⌝ }
+    ensures { λ r. ⌜ Appended (now (out .entry)) at (lines.transactionLine row (packet ∷ reason ∷ [])) (now (out .exit)) r ⌝ }
 {
-    line(out, at, b"transaction", &[row, packet], b"\n")
+    line(out, at, b"transaction", &[row, packet, reason], b"\n")
+}
+
+// Whether it is the group's start or its end, and the packet and the time of the call.
+fn group_tail(out: &mut [u8], at: usize, start: u64, packet: u64, time: u64) -> usize
+    requires { ⌜ Room (now out) at (lines.groupTail start packet time) ⌝ }
+    ensures { λ r. ⌜ Appended (now (out .entry)) at (lines.groupTail start packet time) (now (out .exit)) r ⌝ }
+{
+    if start == 1 {
+        return line(out, at, b" start", &[packet, time], b"\n");
+    }
+    line(out, at, b" end", &[packet, time], b"\n")
 }
 
 pub fn group_line(
@@ -106,14 +117,14 @@ pub fn group_line(
     endpoint: u64,
     group: u64,
     start: u64,
+    packet: u64,
+    time: u64,
 ) -> usize
-    requires { ⌜ Room (now out) at (lines.groupLine row (endpoint ∷ group ∷ start ∷ [])) ⌝ }
-    ensures { λ r. ⌜ Appended (now (out .entry)) at (lines.groupLine row (endpoint ∷ group ∷ start ∷ [])) (now (out .exit)) r ⌝ }
+    requires { ⌜ Room (now out) at (lines.groupLine row (endpoint ∷ group ∷ start ∷ packet ∷ time ∷ [])) ⌝ }
+    ensures { λ r. ⌜ Appended (now (out .entry)) at (lines.groupLine row (endpoint ∷ group ∷ start ∷ packet ∷ time ∷ [])) (now (out .exit)) r ⌝ }
 {
-    if start == 1 {
-        return line(out, at, b"group", &[row, endpoint, group], b" start\n");
-    }
-    line(out, at, b"group", &[row, endpoint, group], b" end\n")
+    let next = line(out, at, b"group", &[row, endpoint, group], b"");
+    group_tail(out, next, start, packet, time)
 }
 
 pub fn state_line(out: &mut [u8], at: usize, row: u64, states: &[u8]) -> usize

@@ -4,7 +4,7 @@ use mathlib.Core.List.{List}
 use Prim.Native.Nat.{ℕ}
 use lib.ListN.{length}
 use Rattle.usb.specs.Pid.{MALFORMED}
-use Rattle.usb.specs.Packet.{checkedOf}
+use Rattle.usb.specs.Packet.{noReason, checkedOf}
 use Rattle.usb.specs.declared.Checked.{Checked}
 use Rattle.usb.specs.declared.Checked.the-variants.{Valid, Malformed}
 use Rattle.transaction.specs.declared.Status.{Status}
@@ -22,12 +22,16 @@ statusOf (Simple first) t next len = simpleStatus first (t .last) next (t .kind)
 statusOf (Split sc kind) t next len = splitStatus kind sc (t .last) next len
 statusOf (Token sc kind pid) t next len = splitStatus kind sc (t .last) next len
 
+-- of a valid packet, and of a malformed one, whose reason goes on upward (02, 1)
 abbrev pub judged : ℕ → Status → Judged
-judged p s = record { pid = p; status = s }
+judged p s = record { pid = p; status = s; reason = noReason }
+
+abbrev pub malformed : ℕ → Judged
+malformed reason = record { pid = MALFORMED; status = Invalid; reason = reason }
 
 -- a malformed packet is Invalid whatever the transaction is
 abbrev pub judgedOf : Transaction → Checked → ℕ → Judged
-judgedOf t Malformed len = judged MALFORMED Invalid
+judgedOf t (Malformed reason) len = malformed reason
 judgedOf t (Valid next) len = judged next (statusOf (t .style) t next len)
 
 unfoldable pub transactionStatus : Transaction → List ℕ → Judged

@@ -5,8 +5,9 @@ mod split;
 
 use usb::Checked;
 use usb::pid::MALFORMED;
+use usb::reason::NONE;
 ghost use mathlib.Core.Path.{_≡_};
-ghost use Rattle.transaction.specs.Status.{statusOf, transactionStatus};
+ghost use Rattle.transaction.specs.Status.{statusOf, judgedOf, transactionStatus};
 
 // TransactionStatus of the Rust.
 pub enum Status {
@@ -54,10 +55,11 @@ pub struct Transaction {
     pub payload: u64,
 }
 
-// The PID of a packet, and what the packet is to the transaction.
+// The PID of a packet, what the packet is to the transaction, and why it is malformed; 0 where it is not.
 pub struct Judged {
     pub pid: u8,
     pub status: Status,
+    pub reason: u8,
 }
 
 // The status of a valid packet with the PID next and of len bytes.
@@ -74,17 +76,31 @@ fn status_of(t: Transaction, next: u8, len: usize) -> Status
     }
 }
 
-// The status of the next packet.
+// The status of the next packet, which was checked and has len bytes.
+pub fn status_by(t: Transaction, checked: Checked, len: usize) -> Judged
+    ensures { λ r. ⌜ r ≡ judgedOf t checked len ⌝ }
+{
+    match checked {
+        Checked::Valid(next) => {
+            let status = status_of(t, next, len);
+            Judged {
+                pid: next,
+                status,
+                reason: NONE,
+            }
+        }
+        Checked::Malformed(reason) => Judged {
+            pid: MALFORMED,
+            status: Status::Invalid,
+            reason,
+        },
+    }
+}
+
+// The same of a packet, which is checked here.
 pub fn transaction_status(t: Transaction, packet: &[u8]) -> Judged
     ensures { λ r. ⌜ r ≡ transactionStatus t (now (packet .entry)) ⌝ }
 {
     let checked = usb::check(packet);
-    let Checked::Valid(next) = checked else {
-        return Judged {
-            pid: MALFORMED,
-            status: Status::Invalid,
-        };
-    };
-    let status = status_of(t, next, packet.len());
-    Judged { pid: next, status }
+    status_by(t, checked, packet.len())
 }

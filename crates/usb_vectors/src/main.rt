@@ -80,7 +80,7 @@ fn answer(packet: &[u8]) -> u8 {
     let checked = usb::check(packet);
     match checked {
         Checked::Valid(pid) => pid,
-        Checked::Malformed => 0,
+        Checked::Malformed(_) => 0,
     }
 }
 

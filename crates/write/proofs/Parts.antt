@@ -6,6 +6,7 @@ use mathlib.Core.List.{List, [], _∷_}
 use mathlib.Core.Path.{_≡_, refl, _∙_}
 use lib.ListN.{length}
 use lib.Seq.{sets, length-sets}
+use Rattle.rules.specs.Rows.{grouping, groupWords}
 use Rattle.rows.specs.Widths.{groupWidth, linkWidth}
 use Rattle.rows.specs.One.{one}
 use Rattle.endpoints.specs.Link as kind
@@ -27,7 +28,7 @@ started n x t = nextStates (alter x moreGroups t) n x true
 -- the room of a start's parts
 module _ (n x : ℕ) (m : Memory) (r : Room (startGroup n x m)) where
   pub room-groups : (m .written .groups + 1) * groupWidth ≤ length (m .groups)
-  room-groups = omega (arith, r .groups, length-sets (m .groups) (m .written .groups * groupWidth) (x ∷ lastNumber x (alter x moreGroups (m .table)) ∷ 1 ∷ []))
+  room-groups = omega (arith, r .groups, length-sets (m .groups) (m .written .groups * groupWidth) (groupWords (grouping x (lastNumber x (alter x moreGroups (m .table))) true (m .written .stamp))))
 
   pub room-states : m .written .states + 1 ≤ length (m .states)
   room-states = omega (arith, r .states, length-sets (m .states) (m .written .states) ((m .written .firsts .statebytes + m .written .statebytes) ∷ []))
@@ -68,7 +69,7 @@ pub start-is : (n x : ℕ) (on : Bool) (a : Memory) {d₁ d₂ d₃ : Written} {
     → nth ≡ lastNumber x t₁
     → d₂ ≡ groupWritten n d₁
     → t₂ ≡ nextStates t₁ n x true
-    → g₂ ≡ sets (a .groups) (d₁ .groups * groupWidth) (x ∷ nth ∷ one true ∷ [])
+    → g₂ ≡ sets (a .groups) (d₁ .groups * groupWidth) (groupWords (grouping x nth true (d₁ .stamp)))
     → m₂ ≡ sets (a .statebytes) (d₁ .statebytes) (stateBytes (nextStates t₁ n x true) 0 n)
     → s₂ ≡ sets (a .states) (d₁ .states) ((d₁ .firsts .statebytes + d₁ .statebytes) ∷ [])
     → d₃ ≡ itemWritten (waiting t₂ n) x d₂

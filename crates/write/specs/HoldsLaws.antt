@@ -25,7 +25,7 @@ use Rattle.endpoints.specs.declared.Phase.{Phase}
 use Rattle.endpoints.specs.declared.Phase.the-variants.{None, Early, Active, Ended}
 use Rattle.transaction.specs.Payload.{startPid}
 use Rattle.transaction.specs.Table.{pick}
-use Rattle.rules.specs.Rows.{Row, GroupRow, grouping, StateRow, StateBytes, ItemRow, T, G, E, Over, written, log}
+use Rattle.rules.specs.Rows.{Row, GroupRow, grouping, StateRow, StateBytes, ItemRow, T, G, E, Over, written, log, groupWords}
 use Rattle.rules.specs.World.{World, push, change, lastGroup, withTransaction, withLink, moreTransactions, moreGroups, cleared}
 use Rattle.rules.specs.Groups.{addGroupEntry, addItem, link, pushGroup, over, closePhase, closeRow, closeRows, statesFrom}
 use Rattle.write.specs.Memory.{Memory, Room, groupRow, itemRow, linkRow, altered, alter, withWritten, tied, entryRow, endRow, linkStep, startGroup}
@@ -237,13 +237,19 @@ module _ {n id pid : ℕ} {m₀ m : Memory} {w : World} (h : Holds n id pid m₀
         groupCount = omega (arith, h .groupCount);
         stateByteCount = omega (arith, h .stateByteCount, h .count);
         itemCount = h .itemCount;
-        groups = append (h .groups) _ (x ∷ nth ∷ one start ∷ []) (simp (e, append-nil)) refl (omega arith);
+        groups = append (h .groups) _ (groupWords (grouping x nth start (m .written .stamp))) words refl (omega arith);
         statebytes = append (h .statebytes) _ (stateBytes (nextStates (m .table) n x start) 0 n) (simp (append-nil, bytes)) refl (omega (arith, length-states (nextStates (m .table) n x start) 0 n));
         states = append (h .states) _ ((m .written .firsts .statebytes + m .written .statebytes) ∷ []) (simp (append-nil, h .stateByteCount)) refl (omega arith);
         items = keep (h .items) _ (simp append-nil);
         links = keep (h .links) _ (simp append-nil);
       }
     where
+      bare : log 6 (addGroupEntry x start w .journal) ≡ log 6 (w .journal) ++ groupWords (grouping x (lastGroup x w) start (w .context))
+      bare = simp append-nil
+
+      words : log 6 (addGroupEntry x start w .journal) ≡ log 6 (w .journal) ++ groupWords (grouping x nth start (m .written .stamp))
+      words = bare ∙ λ i. log 6 (w .journal) ++ groupWords (grouping x (sym e i) start ((h .context ∙ sym (h .stamp)) i))
+
       bytes : stateBytes (nextStates (m .table) n x start) 0 n ≡ statesFrom (after w x start) 0 (w .count)
       bytes =
           states-from (nextStates (m .table) n x start) (after w x start) n 0 (λ j u v. ap (λ (a : Endpoint). a .state) (stated x start j (omega arith)))

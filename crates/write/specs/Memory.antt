@@ -55,7 +55,7 @@ groupRow n x nth start m =
     record {
       written = groupWritten n (m .written);
       table = nextStates (m .table) n x start;
-      groups = sets (m .groups) (m .written .groups * groupWidth) (groupWords (grouping x nth start));
+      groups = sets (m .groups) (m .written .groups * groupWidth) (groupWords (grouping x nth start (m .written .stamp)));
       statebytes = sets (m .statebytes) (m .written .statebytes) (stateBytes (nextStates (m .table) n x start) 0 n);
       states = sets (m .states) (m .written .states) ((m .written .firsts .statebytes + m .written .statebytes) ∷ []);
       items = m .items;

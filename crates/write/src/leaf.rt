@@ -25,7 +25,7 @@ pub fn last(n: u64) -> u64
     if n == 0 { 0 } else { n - 1 }
 }
 
-// add_group_entry with add_endpoint_state: the start or the end of endpoint x's group nth, and the states of all n endpoints then.
+// add_group_entry with add_endpoint_state: the start or the end of endpoint x's group nth, with the packet and the time of the call, and the states of all n endpoints then.
 pub fn group_row(
     d: Written,
     n: usize,
@@ -44,7 +44,7 @@ pub fn group_row(
     requires { ⌜ Numbers d ⌝ }
     ensures { λ r. ⌜ r ≡ groupWritten n d ⌝ }
     ensures { λ r. ⌜ now (table .exit) ≡ nextStates (now (table .entry)) n x start ⌝ }
-    ensures { λ r. ⌜ now (groups .exit) ≡ sets (now (groups .entry)) (d .groups * groupWidth) (groupWords (grouping x nth start)) ⌝ }
+    ensures { λ r. ⌜ now (groups .exit) ≡ sets (now (groups .entry)) (d .groups * groupWidth) (groupWords (grouping x nth start (d .stamp))) ⌝ }
     ensures { λ r. ⌜ now (statebytes .exit) ≡ sets (now (statebytes .entry)) (d .statebytes) (stateBytes (nextStates (now (table .entry)) n x start) 0 n) ⌝ }
     ensures { λ r. ⌜ now (states .exit) ≡ sets (now (states .entry)) (d .states) ((d .firsts .statebytes + d .statebytes) ∷ []) ⌝ }
 {
@@ -55,12 +55,15 @@ pub fn group_row(
     let start_byte = d.firsts.statebytes + m as u64;
     states::add_endpoint_state(statebytes, m, table, n, x, start);
     rows::put1(states, s, start_byte);
-    rows::put3(
+    let stamp = d.stamp;
+    rows::put5(
         groups,
         g * width::GROUP,
         x as u64,
         nth,
         entry::flag_word(start),
+        stamp.packet,
+        stamp.time,
     );
     let mut d = d;
     d.groups = g + 1;
@@ -69,12 +72,18 @@ pub fn group_row(
     d
 }
 
-// A transaction row, where `on`, of the call that brings the stamp: its packet. It is row n.
+// A transaction row, where `on`, of the call that brings the stamp: its packet, and that one's reason. It is row n.
 pub fn put_transaction(on: bool, transactions: &mut [u64], n: usize, stamp: Stamp)
-    requires { ⌜ n * transactionWidth + length (opt on (transactionWords (naming (stamp .packet)))) ≤ length (now transactions) ⌝ }
-    ensures { λ r. ⌜ now (transactions .exit) ≡ sets (now (transactions .entry)) (n * transactionWidth) (opt on (transactionWords (naming (stamp .packet)))) ⌝ }
+    requires { ⌜ n * transactionWidth + length (opt on (transactionWords (naming (stamp .packet) (stamp .reason)))) ≤ length (now transactions) ⌝ }
+    ensures { λ r. ⌜ now (transactions .exit) ≡ sets (now (transactions .entry)) (n * transactionWidth) (opt on (transactionWords (naming (stamp .packet) (stamp .reason)))) ⌝ }
 {
-    rows::put1_if(on, transactions, n * width::TRANSACTION, stamp.packet);
+    rows::put2_if(
+        on,
+        transactions,
+        n * width::TRANSACTION,
+        stamp.packet,
+        stamp.reason,
+    );
 }
 
 // add_item: the item of the last group row, and an E row for each endpoint that waits; then none waits any more.

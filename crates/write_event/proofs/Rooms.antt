@@ -6,6 +6,7 @@ use mathlib.Core.List.{List, [], _∷_}
 use mathlib.Core.Path.{_≡_, refl, sym, ap, _∙_, subst}
 use lib.ListN.{length}
 use lib.Seq.{sets, length-sets}
+use Rattle.rules.specs.Rows.{grouping, groupWords}
 use Rattle.endpoints.specs.Word as word
 use Rattle.rows.specs.Widths.{groupWidth, linkWidth}
 use Rattle.rows.specs.One.{one}
@@ -32,7 +33,7 @@ lastLink t = pred (entryAt t 0 .transactions)
 
 module _ (n : ℕ) (start : Bool) (m : Memory) (r : Room (eventGrouped n start m)) where
   pub room-groups : (m .written .groups + 1) * groupWidth ≤ length (m .groups)
-  room-groups = omega (arith, r .groups, length-sets (m .groups) (m .written .groups * groupWidth) (0 ∷ lastNumber 0 (alter 0 moreGroups (m .table)) ∷ one start ∷ []))
+  room-groups = omega (arith, r .groups, length-sets (m .groups) (m .written .groups * groupWidth) (groupWords (grouping 0 (lastNumber 0 (alter 0 moreGroups (m .table))) start (m .written .stamp))))
 
   pub room-states : m .written .states + 1 ≤ length (m .states)
   room-states = omega (arith, r .states, length-sets (m .states) (m .written .states) ((m .written .firsts .statebytes + m .written .statebytes) ∷ []))

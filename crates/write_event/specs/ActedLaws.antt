@@ -46,7 +46,7 @@ pub record Acted (row group : Bool) (packet : ℕ) (w v : World) : Type 0 where
   pub totals : (j : ℕ) → v .endpoints j .total ≡ w .endpoints j .total
   pub transactions : v .transactions ≡ w .transactions + one row
   pub lastItem : v .lastItem ≡ pick group eventEp (w .lastItem)
-  pub rows : log 5 (v .journal) ≡ log 5 (w .journal) ++ opt row (packet ∷ [])
+  pub rows : log 5 (v .journal) ≡ log 5 (w .journal) ++ opt row (packet ∷ w .context .reason ∷ [])
   pub outside : (k : ℕ) → Outside k → log k (v .journal) ≡ log k (w .journal)
 
 -- ls_keepalive_item after the act
@@ -86,7 +86,7 @@ subgroup-acted packet w =
       transactions = omega arith;
       lastItem = refl;
       rows = append-nil _;
-      outside = λ k o. row-else (T eventEp (w .transactions)) (TransactionRow (naming packet) ∷ w .journal) k (o 10 (omega arith) (omega arith)) ∙ row-else (TransactionRow (naming packet)) (w .journal) k (o 5 (omega arith) (omega arith));
+      outside = λ k o. row-else (T eventEp (w .transactions)) (TransactionRow (naming packet (w .context .reason)) ∷ w .journal) k (o 10 (omega arith) (omega arith)) ∙ row-else (TransactionRow (naming packet (w .context .reason))) (w .journal) k (o 5 (omega arith) (omega arith));
     }
   where
     same : (b : Bool) (e : Endpoint) → pick b (moreTransactions e) e .total ≡ e .total

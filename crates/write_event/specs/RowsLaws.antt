@@ -76,7 +76,7 @@ module _ (w : World) where
 
   pub transaction-alike : (packet : ℕ) → Alike w (pushTransaction packet w)
   transaction-alike packet =
-      record { endpoints = refl; count = refl; context = refl; transaction = refl; lastItem = refl; groupCount = refl; stateBytes = refl; itemCount = refl; logs = λ k u v. row-below (TransactionRow (naming packet)) (w .journal) k (omega arith) u }
+      record { endpoints = refl; count = refl; context = refl; transaction = refl; lastItem = refl; groupCount = refl; stateBytes = refl; itemCount = refl; logs = λ k u v. row-below (TransactionRow (naming packet (w .context .reason))) (w .journal) k (omega arith) u }
 
   pub packet-alike : (start time : ℕ) → Alike w (pushPacket start time w)
   packet-alike start time =

@@ -11,7 +11,7 @@ use Rattle.rows.specs.Sets.{opt}
 use Rattle.write.specs.declared.Written.{Written}
 use Rattle.endpoints.specs.Table.{entryAt}
 use Rattle.group.specs.declared.Effect.the-variants.{NewDevice, IndexData}
-use Rattle.rules.specs.Rows.{naming, transactionWords}
+use Rattle.rules.specs.Rows.{Named, transactionWords}
 use Rattle.write_packet.specs.Asked.{RoomEffect}
 use Rattle.write_packet.specs.Desk.{Desk, desk, plus, totalWords, effectDesk}
 use Rattle.write_packet.specs.declared.Hand.{Hand}
@@ -33,9 +33,9 @@ row1-fits true a at l h = omega (arith, length-sets l at (a ∷ []))
 row1-fits false a at l h = omega arith
 
 -- of a transaction row
-pub row-fits : (b : Bool) (id at : ℕ) (l : List ℕ) → plus b at * transactionWidth ≤ length (sets l (at * transactionWidth) (opt b (transactionWords (naming id)))) → at * transactionWidth + length (opt b (transactionWords (naming id))) ≤ length l
-row-fits true id at l h = omega (arith, length-sets l (at * transactionWidth) (transactionWords (naming id)))
-row-fits false id at l h = omega arith
+pub row-fits : (b : Bool) (r : Named) (at : ℕ) (l : List ℕ) → plus b at * transactionWidth ≤ length (sets l (at * transactionWidth) (opt b (transactionWords r))) → at * transactionWidth + length (opt b (transactionWords r)) ≤ length l
+row-fits true r at l h = omega (arith, length-sets l (at * transactionWidth) (transactionWords r))
+row-fits false r at l h = omega arith
 
 pub row3-fits : (b : Bool) (x y z at : ℕ) (l : List ℕ) → plus b at * 3 ≤ length (sets l (at * 3) (opt b (x ∷ y ∷ z ∷ []))) → at * 3 + length (opt b (x ∷ y ∷ z ∷ [])) ≤ length l
 row3-fits true x y z at l h = omega (arith, length-sets l (at * 3) (x ∷ y ∷ z ∷ []))

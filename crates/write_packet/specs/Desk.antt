@@ -86,7 +86,7 @@ abbrev pub newEntry : ℕ → ℕ → ℕ → List ℕ → List ℕ
 newEntry n place number t = storeAt t n (newEndpoint place number)
 
 abbrev pub transactionWordsIf : Stamp → Begin → List ℕ
-transactionWordsIf c s = opt (s .row) (transactionWords (naming (c .packet)))
+transactionWordsIf c s = opt (s .row) (transactionWords (naming (c .packet) (c .reason)))
 
 abbrev pub deviceWords : Begin → List ℕ
 deviceWords s = opt (s .device) (s .owner ∷ [])

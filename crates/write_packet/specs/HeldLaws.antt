@@ -20,7 +20,7 @@ use Rattle.transaction.specs.Table.{pick}
 use Rattle.transaction.specs.declared.Transaction.{Transaction}
 use Rattle.group.specs.declared.Effect.{Effect}
 use Rattle.group.specs.declared.Effect.the-variants.{NoEffect, NewDevice, Request, PendingData, IndexData}
-use Rattle.rules.specs.Rows.{Row, TransactionRow, naming, transactionWords, DeviceRow, D, log}
+use Rattle.rules.specs.Rows.{Named, Row, TransactionRow, naming, transactionWords, DeviceRow, D, log}
 use Rattle.rules.specs.World.{World, push, change, changeDevice, withTransaction, withPending, withTotal}
 use Rattle.rules.specs.Endpoints.{addDevice, pushEndpoint, typed}
 use Rattle.rules.specs.Groups.{becomes, decodeRequest, effectStep}
@@ -131,10 +131,10 @@ holds-others h d c t l js e6 e7 e8 e9 e10 =
       links = keep (h .links) js e10;
     }
 
-abbrev transactionIf : Bool → ℕ → Desk → Desk
-transactionIf b id k =
+abbrev transactionIf : Bool → Named → Desk → Desk
+transactionIf b r k =
     desk (record { written = k .hand .written; transactions = plus b (k .hand .transactions); devices = k .hand .devices; endpoints = k .hand .endpoints })
-    (k .table) (k .devices) (k .endpoints) (sets (k .transactions) (k .hand .transactions * transactionWidth) (opt b (transactionWords (naming id)))) (k .groups) (k .statebytes) (k .states) (k .items) (k .links)
+    (k .table) (k .devices) (k .endpoints) (sets (k .transactions) (k .hand .transactions * transactionWidth) (opt b (transactionWords r))) (k .groups) (k .statebytes) (k .states) (k .items) (k .links)
 
 abbrev deviceIf : Bool → ℕ → Desk → Desk
 deviceIf b a k =
@@ -153,14 +153,14 @@ toldDesk linked link k =
     (k .table) (k .devices) (k .endpoints) (k .transactions) (k .groups) (k .statebytes) (k .states) (k .items) (k .links)
 
 module _ {k₀ k : Desk} {w : World} (h : HoldsAll k₀ w k) where
-  held-transaction : (b : Bool) (id : ℕ) → HoldsAll k₀ (when b (pushTransaction id) w) (transactionIf b id k)
+  held-transaction : (b : Bool) (id : ℕ) → HoldsAll k₀ (when b (pushTransaction id) w) (transactionIf b (naming id (w .context .reason)) k)
   held-transaction false id = h
   held-transaction true id =
       record {
-        memory = holds-others (h .memory) (w .devices) (w .deviceCount) (suc (w .transactions)) (w .shelf) (TransactionRow (naming id) ∷ w .journal) (append-nil _) (append-nil _) (append-nil _) (append-nil _) (append-nil _);
+        memory = holds-others (h .memory) (w .devices) (w .deviceCount) (suc (w .transactions)) (w .shelf) (TransactionRow (naming id (w .context .reason)) ∷ w .journal) (append-nil _) (append-nil _) (append-nil _) (append-nil _) (append-nil _);
         devices = keep (h .devices) _ (append-nil _);
         endpoints = keep (h .endpoints) _ (append-nil _);
-        transactions = append (h .transactions) _ (id ∷ []) refl refl (omega arith);
+        transactions = append (h .transactions) _ (id ∷ w .context .reason ∷ []) refl refl (omega arith);
         deviceCount = h .deviceCount;
         count = h .count;
         table = h .table;
@@ -292,9 +292,13 @@ types-count true p f w = refl
 types-count false p f w = refl
 
 module _ {k₀ k : Desk} {w : World} (id : ℕ) (s : Begin) (fits : BeginFits id s w) (h : HoldsAll k₀ w k) (own : k₀ .hand .written .stamp .packet ≡ id) where
-  -- the transaction row names the call's packet
-  rowed : HoldsAll k₀ (when (s .row) (pushTransaction id) w) (transactionIf (s .row) (k .hand .written .stamp .packet) k)
-  rowed = subst (λ (i : ℕ). HoldsAll k₀ (when (s .row) (pushTransaction id) w) (transactionIf (s .row) i k)) (sym (ap (λ (c : Stamp). c .packet) (h .memory .stamp) ∙ own)) (held-transaction h (s .row) id)
+  -- the transaction row names the call's packet, with its reason
+  names : naming id (w .context .reason) ≡ naming (k .hand .written .stamp .packet) (k .hand .written .stamp .reason)
+  names =
+      λ i. naming (sym (ap (λ (c : Stamp). c .packet) (h .memory .stamp) ∙ own) i) (ap (λ (c : Stamp). c .reason) (h .memory .context ∙ sym (h .memory .stamp)) i)
+
+  rowed : HoldsAll k₀ (when (s .row) (pushTransaction id) w) (transactionIf (s .row) (naming (k .hand .written .stamp .packet) (k .hand .written .stamp .reason)) k)
+  rowed = subst (λ (r : Named). HoldsAll k₀ (when (s .row) (pushTransaction id) w) (transactionIf (s .row) r k)) names (held-transaction h (s .row) id)
 
   pub opened-holds : HoldsAll k₀ (withTransaction (s .transaction) (opened id s w)) (openedDesk s k)
   unfolding opened

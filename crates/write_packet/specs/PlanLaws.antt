@@ -9,6 +9,7 @@ use lib.ListN.{length}
 use Rattle.rows.specs.Widths.{endpointWidth, transactionWidth}
 use Rattle.transaction.specs.Payload.{startPid}
 use Rattle.rules.specs.Rows.{Row, BytesRow, PacketRow, log}
+use Rattle.usb.specs.Packet.{reasonOf}
 use Rattle.rules.specs.World.{World, _▷_, withTransaction, stamp, stamped}
 use Rattle.rules.specs.declared.EventState.{EventState}
 use Rattle.rules.specs.declared.EventState.the-variants.{Idle}
@@ -86,9 +87,9 @@ holds-aside h s e b n p js l =
       table = h .table;
     }
 
-pub all-start : (packet : List ℕ) (time : ℕ) (w : World) (k : Desk) → w .journal ≡ [] → k .hand .written .stamp ≡ stamp (w .packets) time → Matches (stamped time w) k → HoldsAll k (world1 packet time w) k
+pub all-start : (packet : List ℕ) (time : ℕ) (w : World) (k : Desk) → w .journal ≡ [] → k .hand .written .stamp ≡ stamp (w .packets) time (reasonOf packet) → Matches (stamped time (reasonOf packet) w) k → HoldsAll k (world1 packet time w) k
 all-start packet time w k e c m =
-    holds-aside (holds-entry (stamped time w) k e (sym c) m) (w .slot) Idle (w .keepalive) (w .bytes + length packet) (suc (w .packets)) (PacketRow (w .bytes) time ∷ BytesRow packet ∷ w .journal)
+    holds-aside (holds-entry (stamped time (reasonOf packet) w) k e (sym c) m) (w .slot) Idle (w .keepalive) (w .bytes + length packet) (suc (w .packets)) (PacketRow (w .bytes) time ∷ BytesRow packet ∷ w .journal)
     (λ k a b. rw (a, b) (simp append-nil))
 
 -- room is what the journal's rows need

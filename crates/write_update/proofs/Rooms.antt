@@ -7,6 +7,7 @@ use mathlib.Core.List.{List, [], _∷_}
 use mathlib.Core.Path.{_≡_, refl, sym, ap, _∙_, subst}
 use lib.ListN.{length}
 use lib.Seq.{sets, length-sets}
+use Rattle.rules.specs.Rows.{grouping, groupWords}
 use Rattle.rows.specs.Widths.{groupWidth, linkWidth}
 use Rattle.rows.specs.One.{one}
 use Rattle.endpoints.specs.Link as kind
@@ -62,7 +63,7 @@ module _ {m : Memory} where
   room-group-row : (n x nth : ℕ) (start : Bool) → Room (groupRow n x nth start m) → Room m
   room-group-row n x nth start r =
       record {
-        groups = omega (arith, r .groups, length-sets (m .groups) (m .written .groups * groupWidth) (x ∷ nth ∷ one start ∷ []));
+        groups = omega (arith, r .groups, length-sets (m .groups) (m .written .groups * groupWidth) (groupWords (grouping x nth start (m .written .stamp))));
         states = omega (arith, r .states, length-sets (m .states) (m .written .states) ((m .written .firsts .statebytes + m .written .statebytes) ∷ []));
         statebytes = omega (arith, r .statebytes, length-sets (m .statebytes) (m .written .statebytes) (stateBytes (nextStates (m .table) n x start) 0 n));
         items = r .items;
@@ -106,7 +107,7 @@ when-room false g step r = r
 end-row-asks : (b : Bool) (n x : ℕ) (m : Memory) → Room (when b (endRow n x) m)
     → (when b (groupWritten n) (m .written) .groups * groupWidth ≤ length (m .groups)) × ((when b (groupWritten n) (m .written) .statebytes ≤ length (m .statebytes)) × ((when b (groupWritten n) (m .written) .states ≤ length (m .states)) × Numbers (m .written)))
 end-row-asks true n x m r = (
-  omega (arith, r .groups, length-sets (m .groups) (m .written .groups * groupWidth) (x ∷ lastNumber x (alter x (withPhase Ended) (m .table)) ∷ 0 ∷ [])),
+  omega (arith, r .groups, length-sets (m .groups) (m .written .groups * groupWidth) (groupWords (grouping x (lastNumber x (alter x (withPhase Ended) (m .table))) false (m .written .stamp)))),
   (
     omega (arith, r .statebytes, length-sets (m .statebytes) (m .written .statebytes) (stateBytes (nextStates (alter x (withPhase Ended) (m .table)) n x false) 0 n)),
     (omega (arith, r .states, length-sets (m .states) (m .written .states) ((m .written .firsts .statebytes + m .written .statebytes) ∷ [])), room-end-row {m = m} n x r .numbers),

@@ -33,10 +33,10 @@ slice-aggregate-print : tie.Need-slice-aggregate-print
 slice-aggregate-print c = sym (length-take-le _ _ (search needs))
 
 slice-aggregate-print-2 : tie.Need-slice-aggregate-print-2
-slice-aggregate-print-2 c = zeros 416988
+slice-aggregate-print-2 c = zeros 379548
 
 print-requires : tie.Need-print-requires
-print-requires c κs = subst (λ (k : ℕ). textRoom noRows ≤ k) (zeros 416988) (omega (arith, own-room))
+print-requires c κs = subst (λ (k : ℕ). textRoom noRows ≤ k) (zeros 379548) (omega (arith, own-room))
 
 -- the text ends within the buffer
 within : (c : tie.After-print) → c .print .result ≤ length (c .print .last .1 .0)

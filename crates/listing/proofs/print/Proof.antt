@@ -32,25 +32,25 @@ slice-aggregate-show-5 : tie.Need-slice-aggregate-show-5
 slice-aggregate-show-5 c = zeros 256
 
 slice-aggregate-show-6 : tie.Need-slice-aggregate-show-6
-slice-aggregate-show-6 c = zeros 384
+slice-aggregate-show-6 c = zeros 768
 
 slice-aggregate-show-7 : tie.Need-slice-aggregate-show-7
-slice-aggregate-show-7 c = zeros 768
+slice-aggregate-show-7 c = zeros 960
 
 slice-aggregate-show-8 : tie.Need-slice-aggregate-show-8
-slice-aggregate-show-8 c = zeros 8192
+slice-aggregate-show-8 c = zeros 6144
 
 slice-aggregate-show-9 : tie.Need-slice-aggregate-show-9
-slice-aggregate-show-9 c = zeros 256
+slice-aggregate-show-9 c = zeros 192
 
 slice-aggregate-show-10 : tie.Need-slice-aggregate-show-10
-slice-aggregate-show-10 c = zeros 256
+slice-aggregate-show-10 c = zeros 192
 
 slice-aggregate-show-11 : tie.Need-slice-aggregate-show-11
-slice-aggregate-show-11 c = zeros 2560
+slice-aggregate-show-11 c = zeros 2304
 
 slice-aggregate-show-12 : tie.Need-slice-aggregate-show-12
-slice-aggregate-show-12 c = zeros 192
+slice-aggregate-show-12 c = zeros 256
 
 show-requires : tie.Need-show-requires
 show-requires c κs = show-requires·Start c .pre

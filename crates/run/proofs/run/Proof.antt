@@ -10,7 +10,7 @@ returns : tie.Need-returns
 returns c = ran-wrong (returns·fresh-device c .fresh-device .ensures) (returns·check-header c .check-header .ensures) (returns·header-answer c .header-answer .ensures) (returns·Then1 c .if1 .taken) (returns·refused-decoder c .refused-decoder .ensures) (c .header-place .ensures)
 
 returns-2 : tie.Need-returns-2
-returns-2 c = ran-refused (returns-2·fresh-device c .fresh-device .ensures) (returns-2·check-header c .check-header .ensures) (returns-2·header-answer c .header-answer .ensures) (returns-2·fresh c .fresh .ensures) (returns-2·Else1 c .if1 .left) (c .if2 .taken)
+returns-2 c = ran-refused (returns-2·fresh-device c .fresh-device .ensures) (returns-2·check-header c .check-header .ensures) (returns-2·header-answer c .header-answer .ensures) (returns-2·fresh c .fresh .ensures) (returns-2·Else1 c .if1 .left) (returns-2·Then2 c .if2 .taken) (c .not-made .ensures)
 
 returns-3 : tie.Need-returns-3
 returns-3 c = ran-made (returns-3·fresh-device c .fresh-device .ensures) (returns-3·check-header c .check-header .ensures) (returns-3·header-answer c .header-answer .ensures) (returns-3·fresh c .fresh .ensures) (returns-3·Else1 c .if1 .left) (returns-3·Else2 c .if2 .left) (returns-3·records c .records .ensures)
@@ -25,6 +25,7 @@ run-spec =
     (λ c κs. tt)
     (λ c κs. tt)
     returns
+    (λ c κs. tt)
     (λ c κs. tt)
     (λ c. refl)
     (λ c. returns-2·fresh c .fresh .kept .1 .1 .1 .0)

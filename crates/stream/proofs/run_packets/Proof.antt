@@ -5,15 +5,18 @@ use mathlib.Core.List.{List}
 use mathlib.Core.Path.{_≡_, refl, sym, _∙_}
 use borrow.Author.Needs.{needs}
 use borrow.Author.Tests.{not-true, not-false}
-use lib.ListN.{length}
+use lib.ListN.{length, set}
 use Rattle.rows.specs.WidthsLaws.{each-log, log-number}
 use Rattle.trace.specs.Trace.{nextAt}
 use Rattle.call.specs.State.{State, state, Logs, logs}
 use Rattle.call.specs.StateLaws.{SameSizes}
 use Rattle.packet.specs.Lent.{Lent}
 use Rattle.packet.proofs.Answers.{withRequests, with-parts}
-use Rattle.packet.proofs.Changes.{changed-none, shelved-none, requested-none}
+use Rattle.packet.specs.After.{changed, shelved, requested}
+use Rattle.packet.specs.declared.change.Change.{Change}
+use Rattle.packet.proofs.Changes.{changed-by, shelved-by, requested-by, changed-none, shelved-none, requested-none}
 use Rattle.step.specs.Block.{Stand, stand}
+use Rattle.stream.proofs.Addresses.{addressed-made}
 use Rattle.stream.proofs.Leading.{eight-small}
 use Rattle.stream.proofs.Streaming.{Streaming, IsPart, bytesOf, part-is, streaming-start, streaming-ends, streaming-unfinished, streaming-ready, streaming-bounds, streaming-further, streaming-counts, streaming-short, streaming-place, streaming-owner, streaming-number, streaming-lent, streaming-stops, streaming-more}
 use Rattle.stream.proofs.run_packets.Statement.{statement}
@@ -125,14 +128,20 @@ quick-in-requires c κs =
 
 -- ---- behind it
 
-sub-make-change : tie.Need-sub-make-change Inv-loop μ-loop
-sub-make-change c = streaming-bounds (sub-make-change·At-loop c .loop .inv) (part (sub-make-change·Else1 c)) .0
+sub-shelve : tie.Need-sub-shelve Inv-loop μ-loop
+sub-shelve c = streaming-bounds (sub-shelve·At-loop c .loop .inv) (part (sub-shelve·Else1 c)) .0
 
-part-make-change-start : tie.Need-part-make-change-start Inv-loop μ-loop
-part-make-change-start c = streaming-bounds (part-make-change-start·At-loop c .loop .inv) (part (part-make-change-start·Else1 c)) .0
+part-shelve-start : tie.Need-part-shelve-start Inv-loop μ-loop
+part-shelve-start c = streaming-bounds (part-shelve-start·At-loop c .loop .inv) (part (part-shelve-start·Else1 c)) .0
 
-part-make-change-end : tie.Need-part-make-change-end Inv-loop μ-loop
-part-make-change-end c = streaming-bounds (part-make-change-end·At-loop c .loop .inv) (part (part-make-change-end·Else1 c)) .1
+part-shelve-end : tie.Need-part-shelve-end Inv-loop μ-loop
+part-shelve-end c = streaming-bounds (part-shelve-end·At-loop c .loop .inv) (part (part-shelve-end·Else1 c)) .1
+
+shelve-requires : tie.Need-shelve-requires Inv-loop μ-loop
+shelve-requires c κs =
+    let h = shelve-requires·quick-in c .quick-in .ensures .0 in
+    let l = shelve-requires·sized c .sized .ensures in
+    (omega (arith, l), (h .device, (h .owner, h .long)))
 
 returns-2 : tie.Need-returns-2 Inv-loop μ-loop
 returns-2 c =
@@ -162,18 +171,39 @@ loop-less c =
     let f = streaming-further (loop-less·At-loop c .loop .inv) (part (loop-less·Else1 c)) in
     omega arith
 
+-- the change that a packet told, and the packet
+abbrev told : tie.After-added-by Inv-loop μ-loop → Change
+told c = added-by·quick-in c .quick-in .result .change
+
+abbrev bytes-of : tie.After-added-by Inv-loop μ-loop → List ℕ
+bytes-of c = bytesOf (added-by·Start c .args .records .now) (added-by·part-of c .part-of .result)
+
+-- what it leaves is the change, made
+devices-made : (c : tie.After-added-by Inv-loop μ-loop)
+    → set (set (set (added-by·At-loop c .loop .devices) (told c .place) (added-by·row-by c .row-by .result)) (told c .reading .place) (added-by·shelve c .shelve .result .row)) (told c .at) (c .added-by .result)
+    ≡ changed (told c) (bytes-of c) (added-by·At-loop c .loop .shelf) (added-by·At-loop c .loop .devices)
+devices-made c = changed-by (told c) (bytes-of c) (added-by·At-loop c .loop .shelf) (added-by·At-loop c .loop .devices) (added-by·row-by c .row-by .ensures) (added-by·shelve c .shelve .ensures .row) (c .added-by .ensures)
+
+shelf-made : (c : tie.After-added-by Inv-loop μ-loop) → added-by·shelve c .shelve .last .0 ≡ shelved (told c) (bytes-of c) (added-by·At-loop c .loop .shelf) (added-by·At-loop c .loop .devices)
+shelf-made c = shelved-by (told c) (bytes-of c) (added-by·At-loop c .loop .shelf) (added-by·At-loop c .loop .devices) (added-by·row-by c .row-by .ensures) (added-by·shelve c .shelve .ensures .stored)
+
+requests-made : (c : tie.After-added-by Inv-loop μ-loop)
+    → added-by·put-request c .put-request .last .0 ≡ requested (told c) (bytes-of c) (added-by·At-loop c .loop .shelf) (added-by·At-loop c .loop .devices) (added-by·At-loop c .loop .requests)
+requests-made c =
+    let g = added-by·At-loop c .loop in
+    requested-by (told c) (bytes-of c) (g .shelf) (g .devices) (g .requests) (added-by·row-by c .row-by .ensures) (added-by·shelve c .shelve .ensures .note) (added-by·put-request c .put-request .ensures)
+
 loop-again : tie.Need-loop-again Inv-loop μ-loop
 loop-again c =
     let g = loop-again·At-loop c .loop in
     let m = loop-again·quick-in c in
-    let x = loop-again·make-change c .make-change in
-    let e = x .ensures in
+    let q = loop-again·put-request c .put-request in
     streaming-more (g .inv) (part (loop-again·Else1 c)) (loop-again·tick c .tick .ensures)
-    (with-parts _ _ _ _ (e .0) (e .1 .1) (e .1 .0) (m .quick-in .ensures .1 (g .devices) (lends (loop-again·near-by c)) (g .shelf)))
+    (with-parts _ _ _ _ (devices-made c) (requests-made c) (shelf-made c) (m .quick-in .ensures .1 (g .devices) (lends (loop-again·near-by c)) (g .shelf)))
     (sym (loop-again·goes-on c .goes-on .ensures) ∙ not-false _ (loop-again·Else2 c .if2 .left))
     (loop-again·eight c .eight .ensures)
-    (c .addresses-of2 .ensures)
-    (sizes-with m (x .last .1 .1 .1 .1 .0) (x .kept .1 .1 .1 .1 .0))
+    (addressed-made (g .inv .addressed) (g .inv .many) (told c) (m .quick-in .ensures .0) (loop-again·row-by c .row-by .result) (loop-again·shelve c .shelve .result .row) (c .added-by .result))
+    (sizes-with m (q .last .0) (q .kept .0))
 
 loop-less-2 : tie.Need-loop-less-2 Inv-loop μ-loop
 loop-less-2 c =
@@ -247,11 +277,29 @@ run-packets-spec =
     (λ c κs. tt)
     add-eights
     (λ c κs. tt)
-    sub-make-change
-    part-make-change-start
-    part-make-change-end
-    (λ c κs. make-change-requires·quick-in c .quick-in .ensures .0)
     (λ c κs. tt)
+    (λ c. let h = mul-row-by·quick-in c .quick-in .ensures .0 .place in omega (arith, h))
+    (λ c. array-copy-out-row-by·quick-in c .quick-in .ensures .0 .place)
+    (λ c κs. tt)
+    (λ c. let h = mul-devices·quick-in c .quick-in .ensures .0 .place in omega (arith, h))
+    (λ c. array-set-from-devices·quick-in c .quick-in .ensures .0 .place)
+    (λ c. array-write-addresses·quick-in c .quick-in .ensures .0 .place)
+    (λ c. let h = mul-shelve·quick-in c .quick-in .ensures .0 .owner in omega (arith, h))
+    (λ c. array-copy-out-shelve·quick-in c .quick-in .ensures .0 .owner)
+    sub-shelve
+    part-shelve-start
+    part-shelve-end
+    shelve-requires
+    (λ c. let h = mul-devices-2·quick-in c .quick-in .ensures .0 .owner in omega (arith, h))
+    (λ c. array-set-from-devices-2·quick-in c .quick-in .ensures .0 .owner)
+    (λ c. array-write-addresses-2·quick-in c .quick-in .ensures .0 .owner)
+    (λ c κs. put-request-requires·quick-in c .quick-in .ensures .0 .room)
+    (λ c. let h = mul-added-by·quick-in c .quick-in .ensures .0 .at in omega (arith, h))
+    (λ c. array-copy-out-added-by·quick-in c .quick-in .ensures .0 .at)
+    (λ c κs. tt)
+    (λ c. let h = mul-devices-3·quick-in c .quick-in .ensures .0 .at in omega (arith, h))
+    (λ c. array-set-from-devices-3·quick-in c .quick-in .ensures .0 .at)
+    (λ c. array-write-addresses-3·quick-in c .quick-in .ensures .0 .at)
     loop-less
     loop-again
     loop-less-2

@@ -10,12 +10,13 @@ use oracle::generate::Random;
 use oracle::packets::{data, handshake, sof, split, token};
 use oracle::program::Program;
 use oracle::usb::PID::{self, *};
-use oracle::usb::validate_packet;
+use oracle::usb::{REASONS, reason_of, validate_packet};
 use oracle::{compare, library, report};
 use port::Library;
 
-fn rust_check(packet: &[u8]) -> u8 {
-    validate_packet(packet).map_or(0, |pid| pid as u8)
+/// What the port must answer: the PID where the Rust says that a packet is valid, else 256 times the reason, which is ours (change request 1).
+fn expected_check(packet: &[u8]) -> u16 {
+    validate_packet(packet).map_or(256 * reason_of(packet) as u16, |pid| pid as u16)
 }
 
 /// A valid packet of any PID.
@@ -46,27 +47,29 @@ fn of_length(random: &mut Random, length: u64, first: u8) -> Vec<u8> {
     packet
 }
 
+#[derive(Default)]
 struct Tally {
     compared: u64,
-    valid: u64,
+    /// How many were valid, and how many malformed for each reason.
+    reasons: [u64; 5],
     differences: u64,
 }
 
 impl Tally {
     fn compare(&mut self, packet: &[u8]) {
-        let (rust, port) = (rust_check(packet), library::check(packet));
+        let (expected, port) = (expected_check(packet), library::check(packet));
         self.compared += 1;
-        self.valid += (rust != 0) as u64;
-        if rust != port {
+        self.reasons[reason_of(packet) as usize] += 1;
+        if expected != port {
             self.differences += 1;
-            println!("differs: {packet:02X?}: the Rust {rust:02X}, the port {port:02X}");
+            println!("differs: {packet:02X?}: {expected:04X} expected, the port {port:04X}");
         }
     }
 }
 
 fn packets(count: u64) -> bool {
     let mut random = Random::new(8);
-    let mut tally = Tally { compared: 0, valid: 0, differences: 0 };
+    let mut tally = Tally::default();
     for first in 0..=255 {
         for length in [0, 1, 2, 3, 4, 5, 11, 1026, 1027, 1028] {
             tally.compare(&of_length(&mut random, length, first));
@@ -86,8 +89,9 @@ fn packets(count: u64) -> bool {
         packet.truncate(place);
         tally.compare(&packet);
     }
-    println!("packets: {} compared, {} of them valid, {} differences", tally.compared, tally.valid, tally.differences);
-    tally.differences == 0
+    let reasons: Vec<String> = REASONS.iter().zip(tally.reasons).map(|(name, n)| format!("{name} {n}")).collect();
+    println!("packets: {} compared ({}), {} differences", tally.compared, reasons.join(", "), tally.differences);
+    tally.differences == 0 && !tally.reasons.contains(&0)
 }
 
 // ---- group_status
@@ -174,7 +178,7 @@ fn number(text: &str) -> Result<u64, String> {
 const LISTING: &str = "target/bin/listing";
 
 const USAGE: &str = "usage: compare COMMAND
-  packets N               N packets through both packet checks
+  packets N               N packets through both packet checks: PID, or the reason of a malformed one
   groups N                N states through both group_status
   traces N SEED [PROGRAM] N traces through the library with several rooms and through the program: all rows and bytes, every listing
   table N SEED [PROGRAM]  the same, with a table of how often each case of decoder.rs was met

@@ -9,13 +9,12 @@ use std::path::{Path, PathBuf};
 use std::process::{Command, ExitCode};
 
 use oracle::bench::{packets_of, run as decode};
-use oracle::calls::{BYTES, ENDPOINTS, LOGS, Mechanism, Rows, STATE_BYTES, WIDTHS, count, log_words};
+use oracle::calls::{BYTES, Calls, ENDPOINTS, LOGS, Mechanism, Rows, STATE_BYTES, WIDTHS};
 use oracle::decoder::machine::Machine;
-use oracle::descriptors::Descriptors;
 use oracle::generate::download;
 use oracle::library;
 use oracle::mixed::mixed;
-use oracle::trace::{Reader, Record};
+use oracle::trace::{Reader, Record, run as play};
 use oracle::usb::validate_packet;
 
 use system::{Logs, processor_time};
@@ -84,10 +83,9 @@ fn packets(trace: &[u8]) -> (Vec<Range<usize>>, u64) {
     (packets, records)
 }
 
-/// How the rows of the port differ from the Rust's, if they do.
-fn difference(rust: &Machine, port: &Logs, rows: &Rows) -> Option<String> {
-    let capture = rust.capture();
-    let counted = count(capture);
+/// How the rows of the port differ from the Rust's and from what change requests add to them, if they do.
+fn difference(rust: &Calls<Machine>, port: &Logs, rows: &Rows) -> Option<String> {
+    let (capture, counted) = (rust.machine.capture(), rust.rows());
     if let Some(log) = (0..12).find(|log| counted.0[*log] != rows.0[*log]) {
         return Some(format!("{}: the Rust has {} rows, the port {}", LOGS[log], counted.0[log], rows.0[log]));
     }
@@ -96,7 +94,7 @@ fn difference(rust: &Machine, port: &Logs, rows: &Rows) -> Option<String> {
         match log {
             BYTES => port.bytes(log, length) != capture.packet_data.rows,
             STATE_BYTES => port.bytes(log, length) != capture.endpoint_states.rows,
-            _ => port.words(log, length) != log_words(capture, log),
+            _ => port.words(log, length) != rust.log_words(log),
         }
     };
     (0..12).find(|log| differs(*log)).map(|log| format!("{}: as many rows, but not the same", LOGS[log]))
@@ -126,7 +124,9 @@ impl Case {
         let room = room(trace.len(), records);
         let mut again = Logs::new(&room);
         let rows = again.run(&trace).map_err(|e| format!("{name}: {e}"))?;
-        if let Some(text) = difference(&decode::<Machine>(Descriptors::DEFAULT, &trace)?, &again, &rows) {
+        let rust =
+            play::<Machine>(&trace, Rows::LARGEST, 0).map_err(|r| format!("{name}: the Rust is refused with {}", r.answer))?;
+        if let Some(text) = difference(&rust, &again, &rows) {
             return Err(format!("{name}: {text}"));
         }
         Ok(Case { name, file, trace, turns: plan.turns, packets, room, rows, again, least: [f64::MAX; 6] })
@@ -142,7 +142,7 @@ impl Case {
                 left.push(fresh.run(trace));
                 fresh
             }),
-            time(|| decode::<Machine>(Descriptors::Off, trace)),
+            time(|| decode::<Machine>(trace)),
             time(|| left.push(self.again.run(trace))),
             time(|| packets().map(|packet| library::check(packet) as u64).sum::<u64>()),
             time(|| packets().map(|packet| validate_packet(packet).map_or(0, |pid| pid as u64)).sum::<u64>()),
@@ -202,7 +202,7 @@ fn peak_here(side: &str, file: &str) -> Result<(), String> {
     let trace = std::fs::read(file).map_err(|e| format!("{file}: {e}"))?;
     match side {
         "port" => drop(black_box(Logs::new(&room(trace.len(), read(&trace))).run(&trace)?)),
-        _ => drop(black_box(decode::<Machine>(Descriptors::Off, &trace)?)),
+        _ => drop(black_box(decode::<Machine>(&trace)?)),
     }
     let status = std::fs::read_to_string("/proc/self/status").map_err(|e| e.to_string())?;
     let line = status.lines().find_map(|line| line.strip_prefix("VmHWM:")).ok_or("no VmHWM in /proc/self/status")?;

@@ -92,7 +92,7 @@ put-event-requires : tie.Need-put-event-requires
 put-event-requires c κs =
     let a = put-event-requires·written-of c in
     let s = first a in
-    puts-at (begun s) (s .args .kind) (flags a) (written-of·stamp-of a .stamp-of .result) (ap (λ (x : Stamp). x .packet) (stamp-is a)) (held-is a) (event-puts (begun s) (s .pre .0) (written-of·known a .known .ensures) (s .pre .1 .0) (s .args .kind) (s .args .code) (s .args .time) (s .pre .1 .1) (byte a) (fits a))
+    puts-at (begun s) (s .args .kind) (flags a) (written-of·stamp-of a .stamp-of .result) (ap (λ (x : Stamp). x .packet) (stamp-is a)) (ap (λ (x : Stamp). x .reason) (stamp-is a)) (held-is a) (event-puts (begun s) (s .pre .0) (written-of·known a .known .ensures) (s .pre .1 .0) (s .args .kind) (s .args .code) (s .args .time) (s .pre .1 .1) (byte a) (fits a))
 
 -- the memory behind settle
 module _ (c : tie.After-settle) where
@@ -151,7 +151,7 @@ returns-2 c =
     (flags a .row)
     (put .0 ∙ ap (λ (n : Counts). sets (begun s .logs .packets) (n .packets * packetWidth) (s .args .d .counts .bytes ∷ written-of·stamp-of a .stamp-of .result .time ∷ [])) (held-is a))
     (put .1 .0 ∙ ap (λ (n : Counts). sets (begun s .logs .events) (n .events * eventWidth) (written-of·stamp-of a .stamp-of .result .packet ∷ s .args .code ∷ [])) (held-is a))
-    (put .1 .1 ∙ ap (λ (n : Counts). sets (begun s .logs .transactions) (n .transactions * transactionWidth) (opt (written-of·adds-row a .adds-row .result) (written-of·stamp-of a .stamp-of .result .packet ∷ []))) (held-is a))
+    (put .1 .1 ∙ ap (λ (n : Counts). sets (begun s .logs .transactions) (n .transactions * transactionWidth) (opt (written-of·adds-row a .adds-row .result) (written-of·stamp-of a .stamp-of .result .packet ∷ written-of·stamp-of a .stamp-of .result .reason ∷ []))) (held-is a))
 
 pub event-in-spec : {M : Type 1} → statement M
 event-in-spec =

@@ -4,8 +4,7 @@ use native.Mathlib.Omega.{arith}
 use mathlib.Core.Path.{_≡_, sym, ap, _∙_}
 use Rattle.transaction.specs.Payload.{startPid}
 use Rattle.write.specs.Memory.{memory}
-use Rattle.rules.specs.World.{stamp}
-use Rattle.call.specs.Share.{writtenOf}
+use Rattle.call.specs.Share.{lastStamp, writtenOf}
 use Rattle.call.specs.State.{State, state, logs, heldAt}
 use Rattle.events.specs.declared.sum.Sum.{Sum}
 use Rattle.events.proofs.Refuses.{flipped}
@@ -42,8 +41,8 @@ byte : (c : tie.After-start-pid) → startPid (start-pid·Start c .args .d .tran
 byte c = let b : c .start-pid .result < 256 = omega (arith, c .start-pid .ok) in rw (c .start-pid .ensures) at b
 
 -- where it begins to write
-written : (c : tie.After-written-of) → c .written-of .result ≡ writtenOf (stamp 0 0) (heldAt (begun (written-of·Start c))) (written-of·Start c .args .d) (written-of·Start c .args .table .now)
-written c = c .written-of .ensures ∙ λ i. writtenOf (written-of·no-stamp c .no-stamp .ensures i) (written-of·held-of c .held-of .ensures i) (written-of·Start c .args .d) (written-of·Start c .args .table .now)
+written : (c : tie.After-written-of) → c .written-of .result ≡ writtenOf (lastStamp (written-of·Start c .args .d)) (heldAt (begun (written-of·Start c))) (written-of·Start c .args .d) (written-of·Start c .args .table .now)
+written c = c .written-of .ensures ∙ λ i. writtenOf (written-of·last-stamp c .last-stamp .ensures i) (written-of·held-of c .held-of .ensures i) (written-of·Start c .args .d) (written-of·Start c .args .table .now)
 
 end-here-requires : tie.Need-end-here-requires
 end-here-requires c κs =

@@ -48,10 +48,10 @@ module _ (d : Decoder) (held : Counts) (none : Change) (packet : List ℕ) (time
       let f : fitsDropped d held (length packet) room ≡ false = ne-eqb _ _ (rw e at h) in
       record { answer = rw f (ap (λ (x : Sum). x .answer) e); decoder = rw f refl; change = refl; bytes = rw f refl; packets = rw f refl }
 
-  dropped : (x : Decoder) (b′ p′ : List ℕ) → s .answer ≡ 0 → x ≡ droppedDecoder d s → b′ ≡ sets b (held .bytes) packet → p′ ≡ sets p (held .packets * 2) (d .counts .bytes ∷ time ∷ []) → Drops d held none packet time room b p (record { answer = 8; decoder = x; change = none }) b′ p′
+  dropped : (x : Decoder) (b′ p′ : List ℕ) → s .answer ≡ 0 → x ≡ droppedDecoder d time s → b′ ≡ sets b (held .bytes) packet → p′ ≡ sets p (held .packets * 2) (d .counts .bytes ∷ time ∷ []) → Drops d held none packet time room b p (record { answer = 8; decoder = x; change = none }) b′ p′
   dropped x b′ p′ h q g k =
       let f : fitsDropped d held (length packet) room ≡ true = eq-eqb _ _ (rw e at h) in
-      record { answer = rw f refl; decoder = rw f (q ∙ ap (droppedDecoder d) e); change = refl; bytes = rw f g; packets = rw f k }
+      record { answer = rw f refl; decoder = rw f (q ∙ ap (droppedDecoder d time) e); change = refl; bytes = rw f g; packets = rw f k }
 
 sum-dropped-requires : tie.Need-sum-dropped-requires
 sum-dropped-requires c κs = let s = sum-dropped-requires·Start c in (s .pre .0, (s .pre .1 .0, s .pre .1 .1 .0))

@@ -94,12 +94,12 @@ add-at c =
 
 loop-less : tie.Need-loop-less Inv-loop μ-loop
 loop-less c =
-    let f = doing-further (loop-less·At-loop c .loop .inv) (loop-less·cut-at c .cut-at .ensures) (loop-less·block c .block .ensures) refl (loop-less·put-block c .put-block .ensures) (loop-less·goes-on c .goes-on .ensures) (not-false _ (c .if1 .left)) in
+    let f = doing-further (loop-less·At-loop c .loop .inv) (loop-less·cut-at c .cut-at .ensures) (loop-less·block c .block .ensures) refl (loop-less·put-block c .put-block .ensures) (loop-less·goes-on c .goes-on .ensures) (not-false _ (loop-less·Else1 c .if1 .left)) in
     omega (arith, f)
 
 loop-again : tie.Need-loop-again Inv-loop μ-loop
 loop-again c =
-    doing-more (loop-again·At-loop c .loop .inv) (loop-again·cut-at c .cut-at .ensures) (loop-again·block c .block .ensures) refl (loop-again·put-block c .put-block .ensures) (loop-again·goes-on c .goes-on .ensures) (not-false _ (c .if1 .left))
+    doing-more (loop-again·At-loop c .loop .inv) (loop-again·cut-at c .cut-at .ensures) (loop-again·block c .block .ensures) refl (loop-again·put-block c .put-block .ensures) (loop-again·goes-on c .goes-on .ensures) (not-false _ (loop-again·Else1 c .if1 .left))
     (sizes (loop-again·block c))
 
 pub run-blocks-spec : {M : Type 1} → statement M

@@ -8,7 +8,7 @@ use lib.Seq.{sets}
 use Rattle.rows.specs.One.{one}
 use Rattle.rows.specs.Sets.{opt}
 use Rattle.rows.specs.Widths.{transactionWidth}
-use Rattle.rules.specs.Rows.{naming, transactionWords}
+use Rattle.rules.specs.Rows.{Named, naming, transactionWords}
 use Rattle.rules.specs.World.{stamp}
 use Rattle.rules.specs.declared.Stamp.{Stamp}
 use Rattle.rules.specs.declared.EventState.the-variants.{Idle}
@@ -20,14 +20,14 @@ use Rattle.quick.proofs.begin.begin_only.Tie as tie
 mod Places
 use Places.*
 
-row-fits : (b : Bool) (n p m : ℕ) → (n + one b) * transactionWidth ≤ m → n * transactionWidth + length (opt b (transactionWords (naming p))) ≤ m
-row-fits true n p m h = omega arith
-row-fits false n p m h = omega arith
+row-fits : (b : Bool) (n : ℕ) (r : Named) (m : ℕ) → (n + one b) * transactionWidth ≤ m → n * transactionWidth + length (opt b (transactionWords r)) ≤ m
+row-fits true n r m h = omega arith
+row-fits false n r m h = omega arith
 
 put-transaction-requires : tie.Need-put-transaction-requires
 put-transaction-requires c κs =
     let s = put-transaction-requires·Start c in
-    row-fits (s .args .row) (s .args .held .transactions) (put-transaction-requires·stamp-of c .stamp-of .result .packet) _ (s .pre .1 .1 .1 .1 .1 .0)
+    row-fits (s .args .row) (s .args .held .transactions) (let x = put-transaction-requires·stamp-of c .stamp-of .result in naming (x .packet) (x .reason)) _ (s .pre .1 .1 .1 .1 .1 .0)
 
 returns : tie.Need-returns
 returns c =
@@ -36,8 +36,8 @@ returns c =
     let p = returns·put-packet c .put-packet .ensures in
     let d = s .args .d in
     let counts = returns·more-rows c .more-rows .ensures ∙ λ i. moreRows (returns·flag-word c .flag-word .ensures i) (returns·flag-word2 c .flag-word2 .ensures i) (length (s .args .packet .now)) (d .counts) in (
-      λ i. record { counts = counts i; slot = Current; transaction = l .0 i; last = d .last; event = Idle; keepalive = d .keepalive; waiting = d .waiting; finished = d .finished },
-      (l .1 .0, (p .0, (p .1, (returns·put-transaction c .put-transaction .ensures ∙ ap (λ (x : Stamp). sets (s .args .transactions .now) (s .args .held .transactions * transactionWidth) (opt (s .args .row) (transactionWords (naming (x .packet))))) (returns·stamp-of c .stamp-of .ensures), l .1 .1)))),
+      λ i. record { counts = counts i; slot = Current; transaction = l .0 i; last = d .last; event = Idle; keepalive = d .keepalive; waiting = d .waiting; finished = d .finished; time = s .args .time },
+      (l .1 .0, (p .0, (p .1, (returns·put-transaction c .put-transaction .ensures ∙ ap (λ (x : Stamp). sets (s .args .transactions .now) (s .args .held .transactions * transactionWidth) (opt (s .args .row) (transactionWords (naming (x .packet) (x .reason))))) (returns·stamp-of c .stamp-of .ensures), l .1 .1)))),
     )
 
 pub begin-only-spec : {M : Type 1} → statement M

@@ -16,35 +16,38 @@ returns·Then1 c = c .before .before
 abbrev pub returns·refused-decoder : tie.After-header-place → tie.After-refused-decoder
 returns·refused-decoder c = c .before
 
-abbrev pub returns-2·fresh-device : tie.Then2 → tie.After-fresh-device
+abbrev pub returns-2·fresh-device : tie.After-not-made → tie.After-fresh-device
 returns-2·fresh-device c = c .before .before .before .before .before .before .before .before .before .before .before .before .before .before .before .before .before .before .before .before .before .before .before .before
 
-abbrev pub returns-2·check-header : tie.Then2 → tie.After-check-header
+abbrev pub returns-2·check-header : tie.After-not-made → tie.After-check-header
 returns-2·check-header c = c .before .before .before .before .before .before .before .before .before .before .before .before .before .before .before .before .before .before .before .before .before .before .before
 
-abbrev pub returns-2·header-answer : tie.Then2 → tie.After-header-answer
+abbrev pub returns-2·header-answer : tie.After-not-made → tie.After-header-answer
 returns-2·header-answer c = c .before .before .before .before .before .before .before .before .before .before .before .before .before .before .before .before .before .before .before .before .before .before
 
-abbrev pub returns-2·fresh : tie.Then2 → tie.After-fresh
+abbrev pub returns-2·fresh : tie.After-not-made → tie.After-fresh
 returns-2·fresh c = c .before .before .before .before .before .before .before
 
-abbrev pub returns-2·Else1 : tie.Then2 → tie.Else1
+abbrev pub returns-2·Else1 : tie.After-not-made → tie.Else1
 returns-2·Else1 c = c .before .before .before .before .before .before .before .before .before .before .before .before .before .before .before .before .before .before .before .before .before
 
+abbrev pub returns-2·Then2 : tie.After-not-made → tie.Then2
+returns-2·Then2 c = c .before
+
 abbrev pub returns-3·fresh-device : tie.After-slice-known26 → tie.After-fresh-device
-returns-3·fresh-device c = c .before .before .before .before .before .before .before .before .before .before .before .before .before .before .before .before .before .before .before .before .before .before .before .before .before .before .before .before .before .before .before .before .before .before .before .before .before .before .before .before .before .before .before .before .before .before .before .before .before .before .before .before .before .before .before .before .before .before .before .before .before .before .before
+returns-3·fresh-device c = c .before .before .before .before .before .before .before .before .before .before .before .before .before .before .before .before .before .before .before .before .before .before .before .before .before .before .before .before .before .before .before .before .before .before .before .before .before .before .before .before .before .before .before .before .before .before .before .before .before .before .before .before .before .before .before .before .before .before .before .before .before .before
 
 abbrev pub returns-3·check-header : tie.After-slice-known26 → tie.After-check-header
-returns-3·check-header c = c .before .before .before .before .before .before .before .before .before .before .before .before .before .before .before .before .before .before .before .before .before .before .before .before .before .before .before .before .before .before .before .before .before .before .before .before .before .before .before .before .before .before .before .before .before .before .before .before .before .before .before .before .before .before .before .before .before .before .before .before .before .before
+returns-3·check-header c = c .before .before .before .before .before .before .before .before .before .before .before .before .before .before .before .before .before .before .before .before .before .before .before .before .before .before .before .before .before .before .before .before .before .before .before .before .before .before .before .before .before .before .before .before .before .before .before .before .before .before .before .before .before .before .before .before .before .before .before .before .before
 
 abbrev pub returns-3·header-answer : tie.After-slice-known26 → tie.After-header-answer
-returns-3·header-answer c = c .before .before .before .before .before .before .before .before .before .before .before .before .before .before .before .before .before .before .before .before .before .before .before .before .before .before .before .before .before .before .before .before .before .before .before .before .before .before .before .before .before .before .before .before .before .before .before .before .before .before .before .before .before .before .before .before .before .before .before .before .before
+returns-3·header-answer c = c .before .before .before .before .before .before .before .before .before .before .before .before .before .before .before .before .before .before .before .before .before .before .before .before .before .before .before .before .before .before .before .before .before .before .before .before .before .before .before .before .before .before .before .before .before .before .before .before .before .before .before .before .before .before .before .before .before .before .before .before
 
 abbrev pub returns-3·fresh : tie.After-slice-known26 → tie.After-fresh
-returns-3·fresh c = c .before .before .before .before .before .before .before .before .before .before .before .before .before .before .before .before .before .before .before .before .before .before .before .before .before .before .before .before .before .before .before .before .before .before .before .before .before .before .before .before .before .before .before .before .before .before
+returns-3·fresh c = c .before .before .before .before .before .before .before .before .before .before .before .before .before .before .before .before .before .before .before .before .before .before .before .before .before .before .before .before .before .before .before .before .before .before .before .before .before .before .before .before .before .before .before .before .before
 
 abbrev pub returns-3·Else1 : tie.After-slice-known26 → tie.Else1
-returns-3·Else1 c = c .before .before .before .before .before .before .before .before .before .before .before .before .before .before .before .before .before .before .before .before .before .before .before .before .before .before .before .before .before .before .before .before .before .before .before .before .before .before .before .before .before .before .before .before .before .before .before .before .before .before .before .before .before .before .before .before .before .before .before .before
+returns-3·Else1 c = c .before .before .before .before .before .before .before .before .before .before .before .before .before .before .before .before .before .before .before .before .before .before .before .before .before .before .before .before .before .before .before .before .before .before .before .before .before .before .before .before .before .before .before .before .before .before .before .before .before .before .before .before .before .before .before .before .before .before .before
 
 abbrev pub returns-3·Else2 : tie.After-slice-known26 → tie.Else2
 returns-3·Else2 c = c .before .before .before .before .before .before .before .before .before .before .before .before .before .before .before .before .before .before .before .before .before .before .before .before .before .before .before .before .before .before .before .before .before .before .before .before .before .before .before

@@ -100,23 +100,29 @@ quick-in-requires·Else1 c = c .before .before .before .before .before .before .
 abbrev pub quick-in-requires·near-by : {Inv : tie.InvT-loop} {μ : tie.MeasureT-loop} → tie.After-quick-in-arg13 Inv μ → tie.After-near-by Inv μ
 quick-in-requires·near-by c = c .before .before .before .before .before .before .before .before .before .before .before .before .before .before
 
-abbrev pub sub-make-change·At-loop : {Inv : tie.InvT-loop} {μ : tie.MeasureT-loop} → tie.Then3 Inv μ → tie.At-loop Inv μ
-sub-make-change·At-loop c = c .before .before .before .before .before .before .before .before .before .before .before .before .before .before .before .before .before .before .before .before .before .before .before .before .before .before .before .before .before .before .before .before .before .before .before .before .before .before .before .before .before .before .before .before .before .before .before .before .before .before .before .before
+abbrev pub sub-shelve·At-loop : {Inv : tie.InvT-loop} {μ : tie.MeasureT-loop} → tie.After-shelve-arg2 Inv μ → tie.At-loop Inv μ
+sub-shelve·At-loop c = c .before .before .before .before .before .before .before .before .before .before .before .before .before .before .before .before .before .before .before .before .before .before .before .before .before .before .before .before .before .before .before .before .before .before .before .before .before .before .before .before .before .before .before .before .before .before .before .before .before .before .before .before .before .before .before .before .before .before .before
 
-abbrev pub sub-make-change·Else1 : {Inv : tie.InvT-loop} {μ : tie.MeasureT-loop} → tie.Then3 Inv μ → tie.Else1 Inv μ
-sub-make-change·Else1 c = c .before .before .before .before .before .before .before .before .before .before .before .before .before .before .before .before .before .before .before .before .before .before .before .before .before .before .before .before .before .before .before .before .before .before .before .before .before .before .before .before .before .before .before .before .before .before .before .before
+abbrev pub sub-shelve·Else1 : {Inv : tie.InvT-loop} {μ : tie.MeasureT-loop} → tie.After-shelve-arg2 Inv μ → tie.Else1 Inv μ
+sub-shelve·Else1 c = c .before .before .before .before .before .before .before .before .before .before .before .before .before .before .before .before .before .before .before .before .before .before .before .before .before .before .before .before .before .before .before .before .before .before .before .before .before .before .before .before .before .before .before .before .before .before .before .before .before .before .before .before .before .before .before
 
-abbrev pub part-make-change-start·At-loop : {Inv : tie.InvT-loop} {μ : tie.MeasureT-loop} → tie.Then3 Inv μ → tie.At-loop Inv μ
-part-make-change-start·At-loop c = c .before .before .before .before .before .before .before .before .before .before .before .before .before .before .before .before .before .before .before .before .before .before .before .before .before .before .before .before .before .before .before .before .before .before .before .before .before .before .before .before .before .before .before .before .before .before .before .before .before .before .before .before
+abbrev pub part-shelve-start·At-loop : {Inv : tie.InvT-loop} {μ : tie.MeasureT-loop} → tie.After-shelve-arg2 Inv μ → tie.At-loop Inv μ
+part-shelve-start·At-loop c = c .before .before .before .before .before .before .before .before .before .before .before .before .before .before .before .before .before .before .before .before .before .before .before .before .before .before .before .before .before .before .before .before .before .before .before .before .before .before .before .before .before .before .before .before .before .before .before .before .before .before .before .before .before .before .before .before .before .before .before
 
-abbrev pub part-make-change-start·Else1 : {Inv : tie.InvT-loop} {μ : tie.MeasureT-loop} → tie.Then3 Inv μ → tie.Else1 Inv μ
-part-make-change-start·Else1 c = c .before .before .before .before .before .before .before .before .before .before .before .before .before .before .before .before .before .before .before .before .before .before .before .before .before .before .before .before .before .before .before .before .before .before .before .before .before .before .before .before .before .before .before .before .before .before .before .before
+abbrev pub part-shelve-start·Else1 : {Inv : tie.InvT-loop} {μ : tie.MeasureT-loop} → tie.After-shelve-arg2 Inv μ → tie.Else1 Inv μ
+part-shelve-start·Else1 c = c .before .before .before .before .before .before .before .before .before .before .before .before .before .before .before .before .before .before .before .before .before .before .before .before .before .before .before .before .before .before .before .before .before .before .before .before .before .before .before .before .before .before .before .before .before .before .before .before .before .before .before .before .before .before .before
 
-abbrev pub part-make-change-end·At-loop : {Inv : tie.InvT-loop} {μ : tie.MeasureT-loop} → tie.Then3 Inv μ → tie.At-loop Inv μ
-part-make-change-end·At-loop c = c .before .before .before .before .before .before .before .before .before .before .before .before .before .before .before .before .before .before .before .before .before .before .before .before .before .before .before .before .before .before .before .before .before .before .before .before .before .before .before .before .before .before .before .before .before .before .before .before .before .before .before .before
+abbrev pub part-shelve-end·At-loop : {Inv : tie.InvT-loop} {μ : tie.MeasureT-loop} → tie.After-shelve-arg2 Inv μ → tie.At-loop Inv μ
+part-shelve-end·At-loop c = c .before .before .before .before .before .before .before .before .before .before .before .before .before .before .before .before .before .before .before .before .before .before .before .before .before .before .before .before .before .before .before .before .before .before .before .before .before .before .before .before .before .before .before .before .before .before .before .before .before .before .before .before .before .before .before .before .before .before .before
 
-abbrev pub part-make-change-end·Else1 : {Inv : tie.InvT-loop} {μ : tie.MeasureT-loop} → tie.Then3 Inv μ → tie.Else1 Inv μ
-part-make-change-end·Else1 c = c .before .before .before .before .before .before .before .before .before .before .before .before .before .before .before .before .before .before .before .before .before .before .before .before .before .before .before .before .before .before .before .before .before .before .before .before .before .before .before .before .before .before .before .before .before .before .before .before
+abbrev pub part-shelve-end·Else1 : {Inv : tie.InvT-loop} {μ : tie.MeasureT-loop} → tie.After-shelve-arg2 Inv μ → tie.Else1 Inv μ
+part-shelve-end·Else1 c = c .before .before .before .before .before .before .before .before .before .before .before .before .before .before .before .before .before .before .before .before .before .before .before .before .before .before .before .before .before .before .before .before .before .before .before .before .before .before .before .before .before .before .before .before .before .before .before .before .before .before .before .before .before .before .before
+
+abbrev pub shelve-requires·quick-in : {Inv : tie.InvT-loop} {μ : tie.MeasureT-loop} → tie.After-shelve-arg3 Inv μ → tie.After-quick-in Inv μ
+shelve-requires·quick-in c = c .before .before .before .before .before .before .before .before .before .before .before .before .before .before .before .before .before .before .before .before .before .before .before .before .before .before .before .before .before .before .before .before .before .before .before
+
+abbrev pub shelve-requires·sized : {Inv : tie.InvT-loop} {μ : tie.MeasureT-loop} → tie.After-shelve-arg3 Inv μ → tie.After-sized Inv μ
+shelve-requires·sized c = c .before .before .before .before .before
 
 abbrev pub returns-2·At-loop : {Inv : tie.InvT-loop} {μ : tie.MeasureT-loop} → tie.Then2 Inv μ → tie.At-loop Inv μ
 returns-2·At-loop c = c .before .before .before .before .before .before .before .before .before .before .before .before .before .before .before .before .before .before .before .before .before .before .before .before .before .before .before .before .before .before .before .before .before .before .before .before .before .before .before .before .before .before .before .before .before .before .before .before
@@ -145,38 +151,65 @@ add-eights·Else1 c = c .before .before .before .before .before .before .before 
 abbrev pub add-eights·quick-in : {Inv : tie.InvT-loop} {μ : tie.MeasureT-loop} → tie.After-eight Inv μ → tie.After-quick-in Inv μ
 add-eights·quick-in c = c .before .before .before .before .before .before .before .before .before .before .before .before .before .before .before .before .before .before .before .before .before .before .before .before
 
-abbrev pub loop-less·At-loop : {Inv : tie.InvT-loop} {μ : tie.MeasureT-loop} → tie.After-addresses-of2 Inv μ → tie.At-loop Inv μ
-loop-less·At-loop c = c .before .before .before .before .before .before .before .before .before .before .before .before .before .before .before .before .before .before .before .before .before .before .before .before .before .before .before .before .before .before .before .before .before .before .before .before .before .before .before .before .before .before .before .before .before .before .before .before .before .before .before .before .before .before .before .before .before .before .before
+abbrev pub loop-less·At-loop : {Inv : tie.InvT-loop} {μ : tie.MeasureT-loop} → tie.After-added-by Inv μ → tie.At-loop Inv μ
+loop-less·At-loop c = c .before .before .before .before .before .before .before .before .before .before .before .before .before .before .before .before .before .before .before .before .before .before .before .before .before .before .before .before .before .before .before .before .before .before .before .before .before .before .before .before .before .before .before .before .before .before .before .before .before .before .before .before .before .before .before .before .before .before .before .before .before .before .before .before .before .before .before .before
 
-abbrev pub loop-less·Else1 : {Inv : tie.InvT-loop} {μ : tie.MeasureT-loop} → tie.After-addresses-of2 Inv μ → tie.Else1 Inv μ
-loop-less·Else1 c = c .before .before .before .before .before .before .before .before .before .before .before .before .before .before .before .before .before .before .before .before .before .before .before .before .before .before .before .before .before .before .before .before .before .before .before .before .before .before .before .before .before .before .before .before .before .before .before .before .before .before .before .before .before .before .before
+abbrev pub loop-less·Else1 : {Inv : tie.InvT-loop} {μ : tie.MeasureT-loop} → tie.After-added-by Inv μ → tie.Else1 Inv μ
+loop-less·Else1 c = c .before .before .before .before .before .before .before .before .before .before .before .before .before .before .before .before .before .before .before .before .before .before .before .before .before .before .before .before .before .before .before .before .before .before .before .before .before .before .before .before .before .before .before .before .before .before .before .before .before .before .before .before .before .before .before .before .before .before .before .before .before .before .before .before
 
-abbrev pub loop-again·At-loop : {Inv : tie.InvT-loop} {μ : tie.MeasureT-loop} → tie.After-addresses-of2 Inv μ → tie.At-loop Inv μ
-loop-again·At-loop c = c .before .before .before .before .before .before .before .before .before .before .before .before .before .before .before .before .before .before .before .before .before .before .before .before .before .before .before .before .before .before .before .before .before .before .before .before .before .before .before .before .before .before .before .before .before .before .before .before .before .before .before .before .before .before .before .before .before .before .before
+abbrev pub added-by·quick-in : {Inv : tie.InvT-loop} {μ : tie.MeasureT-loop} → tie.After-added-by Inv μ → tie.After-quick-in Inv μ
+added-by·quick-in c = c .before .before .before .before .before .before .before .before .before .before .before .before .before .before .before .before .before .before .before .before .before .before .before .before .before .before .before .before .before .before .before .before .before .before .before .before .before .before .before .before .before .before .before
 
-abbrev pub loop-again·quick-in : {Inv : tie.InvT-loop} {μ : tie.MeasureT-loop} → tie.After-addresses-of2 Inv μ → tie.After-quick-in Inv μ
-loop-again·quick-in c = c .before .before .before .before .before .before .before .before .before .before .before .before .before .before .before .before .before .before .before .before .before .before .before .before .before .before .before .before .before .before .before .before .before .before
+abbrev pub added-by·Start : {Inv : tie.InvT-loop} {μ : tie.MeasureT-loop} → tie.After-added-by Inv μ → tie.Start Inv μ
+added-by·Start c = c .before .before .before .before .before .before .before .before .before .before .before .before .before .before .before .before .before .before .before .before .before .before .before .before .before .before .before .before .before .before .before .before .before .before .before .before .before .before .before .before .before .before .before .before .before .before .before .before .before .before .before .before .before .before .before .before .before .before .before .before .before .before .before .before .before .before .before .before .before .before .before .before .before .before .before .before .before .before .before .before .before .before .before
 
-abbrev pub loop-again·make-change : {Inv : tie.InvT-loop} {μ : tie.MeasureT-loop} → tie.After-addresses-of2 Inv μ → tie.After-make-change Inv μ
-loop-again·make-change c = c .before .before .before
+abbrev pub added-by·part-of : {Inv : tie.InvT-loop} {μ : tie.MeasureT-loop} → tie.After-added-by Inv μ → tie.After-part-of Inv μ
+added-by·part-of c = c .before .before .before .before .before .before .before .before .before .before .before .before .before .before .before .before .before .before .before .before .before .before .before .before .before .before .before .before .before .before .before .before .before .before .before .before .before .before .before .before .before .before .before .before .before .before .before .before .before .before .before .before .before .before .before .before .before .before .before .before .before .before .before .before .before .before
 
-abbrev pub loop-again·Else1 : {Inv : tie.InvT-loop} {μ : tie.MeasureT-loop} → tie.After-addresses-of2 Inv μ → tie.Else1 Inv μ
-loop-again·Else1 c = c .before .before .before .before .before .before .before .before .before .before .before .before .before .before .before .before .before .before .before .before .before .before .before .before .before .before .before .before .before .before .before .before .before .before .before .before .before .before .before .before .before .before .before .before .before .before .before .before .before .before .before .before .before .before .before
+abbrev pub added-by·At-loop : {Inv : tie.InvT-loop} {μ : tie.MeasureT-loop} → tie.After-added-by Inv μ → tie.At-loop Inv μ
+added-by·At-loop c = c .before .before .before .before .before .before .before .before .before .before .before .before .before .before .before .before .before .before .before .before .before .before .before .before .before .before .before .before .before .before .before .before .before .before .before .before .before .before .before .before .before .before .before .before .before .before .before .before .before .before .before .before .before .before .before .before .before .before .before .before .before .before .before .before .before .before .before .before
 
-abbrev pub loop-again·tick : {Inv : tie.InvT-loop} {μ : tie.MeasureT-loop} → tie.After-addresses-of2 Inv μ → tie.After-tick Inv μ
-loop-again·tick c = c .before .before .before .before .before .before .before .before .before .before .before .before .before .before .before .before .before .before .before .before .before .before .before .before .before .before .before .before .before .before .before .before .before .before .before .before .before .before .before .before .before .before .before .before .before .before .before .before
+abbrev pub added-by·row-by : {Inv : tie.InvT-loop} {μ : tie.MeasureT-loop} → tie.After-added-by Inv μ → tie.After-row-by Inv μ
+added-by·row-by c = c .before .before .before .before .before .before .before .before .before .before .before
 
-abbrev pub loop-again·near-by : {Inv : tie.InvT-loop} {μ : tie.MeasureT-loop} → tie.After-addresses-of2 Inv μ → tie.After-near-by Inv μ
-loop-again·near-by c = c .before .before .before .before .before .before .before .before .before .before .before .before .before .before .before .before .before .before .before .before .before .before .before .before .before .before .before .before .before .before .before .before .before .before .before .before .before .before .before .before .before .before .before .before .before .before .before .before .before
+abbrev pub added-by·shelve : {Inv : tie.InvT-loop} {μ : tie.MeasureT-loop} → tie.After-added-by Inv μ → tie.After-shelve Inv μ
+added-by·shelve c = c .before .before .before .before .before .before .before
 
-abbrev pub loop-again·goes-on : {Inv : tie.InvT-loop} {μ : tie.MeasureT-loop} → tie.After-addresses-of2 Inv μ → tie.After-goes-on Inv μ
-loop-again·goes-on c = c .before .before .before .before .before .before .before .before .before .before .before .before
+abbrev pub added-by·put-request : {Inv : tie.InvT-loop} {μ : tie.MeasureT-loop} → tie.After-added-by Inv μ → tie.After-put-request Inv μ
+added-by·put-request c = c .before .before .before .before
 
-abbrev pub loop-again·Else2 : {Inv : tie.InvT-loop} {μ : tie.MeasureT-loop} → tie.After-addresses-of2 Inv μ → tie.Else2 Inv μ
-loop-again·Else2 c = c .before .before .before .before .before .before .before .before .before .before .before
+abbrev pub loop-again·At-loop : {Inv : tie.InvT-loop} {μ : tie.MeasureT-loop} → tie.After-added-by Inv μ → tie.At-loop Inv μ
+loop-again·At-loop c = c .before .before .before .before .before .before .before .before .before .before .before .before .before .before .before .before .before .before .before .before .before .before .before .before .before .before .before .before .before .before .before .before .before .before .before .before .before .before .before .before .before .before .before .before .before .before .before .before .before .before .before .before .before .before .before .before .before .before .before .before .before .before .before .before .before .before .before .before
 
-abbrev pub loop-again·eight : {Inv : tie.InvT-loop} {μ : tie.MeasureT-loop} → tie.After-addresses-of2 Inv μ → tie.After-eight Inv μ
-loop-again·eight c = c .before .before .before .before .before .before .before .before .before .before
+abbrev pub loop-again·quick-in : {Inv : tie.InvT-loop} {μ : tie.MeasureT-loop} → tie.After-added-by Inv μ → tie.After-quick-in Inv μ
+loop-again·quick-in c = c .before .before .before .before .before .before .before .before .before .before .before .before .before .before .before .before .before .before .before .before .before .before .before .before .before .before .before .before .before .before .before .before .before .before .before .before .before .before .before .before .before .before .before
+
+abbrev pub loop-again·put-request : {Inv : tie.InvT-loop} {μ : tie.MeasureT-loop} → tie.After-added-by Inv μ → tie.After-put-request Inv μ
+loop-again·put-request c = c .before .before .before .before
+
+abbrev pub loop-again·Else1 : {Inv : tie.InvT-loop} {μ : tie.MeasureT-loop} → tie.After-added-by Inv μ → tie.Else1 Inv μ
+loop-again·Else1 c = c .before .before .before .before .before .before .before .before .before .before .before .before .before .before .before .before .before .before .before .before .before .before .before .before .before .before .before .before .before .before .before .before .before .before .before .before .before .before .before .before .before .before .before .before .before .before .before .before .before .before .before .before .before .before .before .before .before .before .before .before .before .before .before .before
+
+abbrev pub loop-again·tick : {Inv : tie.InvT-loop} {μ : tie.MeasureT-loop} → tie.After-added-by Inv μ → tie.After-tick Inv μ
+loop-again·tick c = c .before .before .before .before .before .before .before .before .before .before .before .before .before .before .before .before .before .before .before .before .before .before .before .before .before .before .before .before .before .before .before .before .before .before .before .before .before .before .before .before .before .before .before .before .before .before .before .before .before .before .before .before .before .before .before .before .before
+
+abbrev pub loop-again·near-by : {Inv : tie.InvT-loop} {μ : tie.MeasureT-loop} → tie.After-added-by Inv μ → tie.After-near-by Inv μ
+loop-again·near-by c = c .before .before .before .before .before .before .before .before .before .before .before .before .before .before .before .before .before .before .before .before .before .before .before .before .before .before .before .before .before .before .before .before .before .before .before .before .before .before .before .before .before .before .before .before .before .before .before .before .before .before .before .before .before .before .before .before .before .before
+
+abbrev pub loop-again·goes-on : {Inv : tie.InvT-loop} {μ : tie.MeasureT-loop} → tie.After-added-by Inv μ → tie.After-goes-on Inv μ
+loop-again·goes-on c = c .before .before .before .before .before .before .before .before .before .before .before .before .before .before .before .before .before .before .before .before .before
+
+abbrev pub loop-again·Else2 : {Inv : tie.InvT-loop} {μ : tie.MeasureT-loop} → tie.After-added-by Inv μ → tie.Else2 Inv μ
+loop-again·Else2 c = c .before .before .before .before .before .before .before .before .before .before .before .before .before .before .before .before .before .before .before .before
+
+abbrev pub loop-again·eight : {Inv : tie.InvT-loop} {μ : tie.MeasureT-loop} → tie.After-added-by Inv μ → tie.After-eight Inv μ
+loop-again·eight c = c .before .before .before .before .before .before .before .before .before .before .before .before .before .before .before .before .before .before .before
+
+abbrev pub loop-again·row-by : {Inv : tie.InvT-loop} {μ : tie.MeasureT-loop} → tie.After-added-by Inv μ → tie.After-row-by Inv μ
+loop-again·row-by c = c .before .before .before .before .before .before .before .before .before .before .before
+
+abbrev pub loop-again·shelve : {Inv : tie.InvT-loop} {μ : tie.MeasureT-loop} → tie.After-added-by Inv μ → tie.After-shelve Inv μ
+loop-again·shelve c = c .before .before .before .before .before .before .before
 
 abbrev pub loop-less-2·At-loop : {Inv : tie.InvT-loop} {μ : tie.MeasureT-loop} → tie.Else3 Inv μ → tie.At-loop Inv μ
 loop-less-2·At-loop c = c .before .before .before .before .before .before .before .before .before .before .before .before .before .before .before .before .before .before .before .before .before .before .before .before .before .before .before .before .before .before .before .before .before .before .before .before .before .before .before .before .before .before .before .before .before .before .before .before .before .before .before .before
@@ -232,5 +265,50 @@ near-by-requires·Else1 c = c .before .before .before .before .before
 abbrev pub near-by-requires·sight-of : {Inv : tie.InvT-loop} {μ : tie.MeasureT-loop} → tie.After-held Inv μ → tie.After-sight-of Inv μ
 near-by-requires·sight-of c = c .before .before
 
-abbrev pub make-change-requires·quick-in : {Inv : tie.InvT-loop} {μ : tie.MeasureT-loop} → tie.After-make-change-arg3 Inv μ → tie.After-quick-in Inv μ
-make-change-requires·quick-in c = c .before .before .before .before .before .before .before .before .before .before .before .before .before .before .before .before .before .before .before .before .before .before .before .before .before .before .before .before .before .before
+abbrev pub mul-row-by·quick-in : {Inv : tie.InvT-loop} {μ : tie.MeasureT-loop} → tie.After-sized Inv μ → tie.After-quick-in Inv μ
+mul-row-by·quick-in c = c .before .before .before .before .before .before .before .before .before .before .before .before .before .before .before .before .before .before .before .before .before .before .before .before .before .before .before .before .before .before
+
+abbrev pub array-copy-out-row-by·quick-in : {Inv : tie.InvT-loop} {μ : tie.MeasureT-loop} → tie.After-sized Inv μ → tie.After-quick-in Inv μ
+array-copy-out-row-by·quick-in c = c .before .before .before .before .before .before .before .before .before .before .before .before .before .before .before .before .before .before .before .before .before .before .before .before .before .before .before .before .before .before
+
+abbrev pub mul-devices·quick-in : {Inv : tie.InvT-loop} {μ : tie.MeasureT-loop} → tie.After-row-by Inv μ → tie.After-quick-in Inv μ
+mul-devices·quick-in c = c .before .before .before .before .before .before .before .before .before .before .before .before .before .before .before .before .before .before .before .before .before .before .before .before .before .before .before .before .before .before .before .before
+
+abbrev pub array-set-from-devices·quick-in : {Inv : tie.InvT-loop} {μ : tie.MeasureT-loop} → tie.After-row-by Inv μ → tie.After-quick-in Inv μ
+array-set-from-devices·quick-in c = c .before .before .before .before .before .before .before .before .before .before .before .before .before .before .before .before .before .before .before .before .before .before .before .before .before .before .before .before .before .before .before .before
+
+abbrev pub array-write-addresses·quick-in : {Inv : tie.InvT-loop} {μ : tie.MeasureT-loop} → tie.After-row-by Inv μ → tie.After-quick-in Inv μ
+array-write-addresses·quick-in c = c .before .before .before .before .before .before .before .before .before .before .before .before .before .before .before .before .before .before .before .before .before .before .before .before .before .before .before .before .before .before .before .before
+
+abbrev pub mul-shelve·quick-in : {Inv : tie.InvT-loop} {μ : tie.MeasureT-loop} → tie.After-shelve-arg Inv μ → tie.After-quick-in Inv μ
+mul-shelve·quick-in c = c .before .before .before .before .before .before .before .before .before .before .before .before .before .before .before .before .before .before .before .before .before .before .before .before .before .before .before .before .before .before .before .before .before
+
+abbrev pub array-copy-out-shelve·quick-in : {Inv : tie.InvT-loop} {μ : tie.MeasureT-loop} → tie.After-shelve-arg Inv μ → tie.After-quick-in Inv μ
+array-copy-out-shelve·quick-in c = c .before .before .before .before .before .before .before .before .before .before .before .before .before .before .before .before .before .before .before .before .before .before .before .before .before .before .before .before .before .before .before .before .before
+
+abbrev pub mul-devices-2·quick-in : {Inv : tie.InvT-loop} {μ : tie.MeasureT-loop} → tie.After-kept Inv μ → tie.After-quick-in Inv μ
+mul-devices-2·quick-in c = c .before .before .before .before .before .before .before .before .before .before .before .before .before .before .before .before .before .before .before .before .before .before .before .before .before .before .before .before .before .before .before .before .before .before .before .before .before
+
+abbrev pub array-set-from-devices-2·quick-in : {Inv : tie.InvT-loop} {μ : tie.MeasureT-loop} → tie.After-kept Inv μ → tie.After-quick-in Inv μ
+array-set-from-devices-2·quick-in c = c .before .before .before .before .before .before .before .before .before .before .before .before .before .before .before .before .before .before .before .before .before .before .before .before .before .before .before .before .before .before .before .before .before .before .before .before .before
+
+abbrev pub array-write-addresses-2·quick-in : {Inv : tie.InvT-loop} {μ : tie.MeasureT-loop} → tie.After-kept Inv μ → tie.After-quick-in Inv μ
+array-write-addresses-2·quick-in c = c .before .before .before .before .before .before .before .before .before .before .before .before .before .before .before .before .before .before .before .before .before .before .before .before .before .before .before .before .before .before .before .before .before .before .before .before .before
+
+abbrev pub put-request-requires·quick-in : {Inv : tie.InvT-loop} {μ : tie.MeasureT-loop} → tie.After-put-request-arg Inv μ → tie.After-quick-in Inv μ
+put-request-requires·quick-in c = c .before .before .before .before .before .before .before .before .before .before .before .before .before .before .before .before .before .before .before .before .before .before .before .before .before .before .before .before .before .before .before .before .before .before .before .before .before .before
+
+abbrev pub mul-added-by·quick-in : {Inv : tie.InvT-loop} {μ : tie.MeasureT-loop} → tie.After-slice-known22 Inv μ → tie.After-quick-in Inv μ
+mul-added-by·quick-in c = c .before .before .before .before .before .before .before .before .before .before .before .before .before .before .before .before .before .before .before .before .before .before .before .before .before .before .before .before .before .before .before .before .before .before .before .before .before .before .before .before .before
+
+abbrev pub array-copy-out-added-by·quick-in : {Inv : tie.InvT-loop} {μ : tie.MeasureT-loop} → tie.After-slice-known22 Inv μ → tie.After-quick-in Inv μ
+array-copy-out-added-by·quick-in c = c .before .before .before .before .before .before .before .before .before .before .before .before .before .before .before .before .before .before .before .before .before .before .before .before .before .before .before .before .before .before .before .before .before .before .before .before .before .before .before .before .before
+
+abbrev pub mul-devices-3·quick-in : {Inv : tie.InvT-loop} {μ : tie.MeasureT-loop} → tie.After-added-by Inv μ → tie.After-quick-in Inv μ
+mul-devices-3·quick-in c = c .before .before .before .before .before .before .before .before .before .before .before .before .before .before .before .before .before .before .before .before .before .before .before .before .before .before .before .before .before .before .before .before .before .before .before .before .before .before .before .before .before .before .before
+
+abbrev pub array-set-from-devices-3·quick-in : {Inv : tie.InvT-loop} {μ : tie.MeasureT-loop} → tie.After-added-by Inv μ → tie.After-quick-in Inv μ
+array-set-from-devices-3·quick-in c = c .before .before .before .before .before .before .before .before .before .before .before .before .before .before .before .before .before .before .before .before .before .before .before .before .before .before .before .before .before .before .before .before .before .before .before .before .before .before .before .before .before .before .before
+
+abbrev pub array-write-addresses-3·quick-in : {Inv : tie.InvT-loop} {μ : tie.MeasureT-loop} → tie.After-added-by Inv μ → tie.After-quick-in Inv μ
+array-write-addresses-3·quick-in c = c .before .before .before .before .before .before .before .before .before .before .before .before .before .before .before .before .before .before .before .before .before .before .before .before .before .before .before .before .before .before .before .before .before .before .before .before .before .before .before .before .before .before .before

@@ -19,14 +19,14 @@ add-endpoint-state-requires c κs = search needs
 put1-requires : tie.Need-put1-requires
 put1-requires c κs = search needs
 
-mul-put3 : tie.Need-mul-put3
-mul-put3 c = let s = mul-put3·Start c in record { fits = omega (arith, s .pre .1 .0, s .fits) }
+mul-put5 : tie.Need-mul-put5
+mul-put5 c = let s = mul-put5·Start c in record { fits = omega (arith, s .pre .1 .0, s .fits) }
 
 flag-word-requires : tie.Need-flag-word-requires
 flag-word-requires c κs = search needs
 
-put3-requires : tie.Need-put3-requires
-put3-requires c κs = search needs
+put5-requires : tie.Need-put5-requires
+put5-requires c κs = search needs
 
 add-d : tie.Need-add-d
 add-d c = let s = add-d·Start c in record { fits = omega (arith, s .pre .1 .0, s .fits) }
@@ -44,7 +44,7 @@ same-length-3 : tie.Need-same-length-3
 same-length-3 c = search needs
 
 returns : tie.Need-returns
-returns c = (refl, (c .before .before .before .before .before .before .before .before .before .before .before .add-endpoint-state .ensures .0, (c .before .before .put3 .ensures ∙ rw (c .before .before .before .flag-word .ensures) refl, (c .before .before .before .before .before .before .before .before .before .before .before .add-endpoint-state .ensures .1, c .before .before .before .before .before .before .before .put1 .ensures))))
+returns c = (refl, (c .before .before .before .before .before .before .before .before .before .before .before .before .add-endpoint-state .ensures .0, (c .before .before .put5 .ensures ∙ rw (c .before .before .before .flag-word .ensures) refl, (c .before .before .before .before .before .before .before .before .before .before .before .before .add-endpoint-state .ensures .1, c .before .before .before .before .before .before .before .before .put1 .ensures))))
 
 pub group-row-spec : {M : Type 1} → statement M
 group-row-spec =
@@ -54,9 +54,9 @@ group-row-spec =
     add-start-byte
     add-endpoint-state-requires
     put1-requires
-    mul-put3
+    mul-put5
     flag-word-requires
-    put3-requires
+    put5-requires
     add-d
     add-d-2
     same-length

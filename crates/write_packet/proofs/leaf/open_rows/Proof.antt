@@ -5,6 +5,7 @@ use mathlib.Core.Path.{refl}
 use lib.Seq.{length-sets}
 use Rattle.rows.specs.Widths.{transactionWidth}
 use Rattle.details.specs.Details.{numberOf}
+use Rattle.rules.specs.Rows.{naming}
 use Rattle.write_packet.specs.Desk.{transactionWordsIf, deviceWords}
 use Rattle.write_packet.proofs.Parts.{desks, row-fits, row1-fits, row3-fits, plus-le}
 use borrow.Author.Needs.{needs}
@@ -15,7 +16,7 @@ opened-hand-requires : tie.Need-opened-hand-requires
 opened-hand-requires c κs = (omega (arith, c .before .before .before .pre .1 .transactions, length-sets (c .before .before .before .args .transactions .now) (c .before .before .before .args .h .transactions * transactionWidth) (transactionWordsIf (c .before .before .before .args .h .written .stamp) (c .before .before .before .args .s))), (omega (arith, c .before .before .before .pre .1 .devices, length-sets (c .before .before .before .args .devices .now) (c .before .before .before .args .h .devices) (deviceWords (c .before .before .before .args .s))), omega (arith, c .before .before .before .pre .0)))
 
 put-transaction-requires : tie.Need-put-transaction-requires
-put-transaction-requires c κs = row-fits (c .before .before .before .before .before .args .s .row) (c .before .before .before .before .before .args .h .written .stamp .packet) (c .before .before .before .before .before .args .h .transactions) (c .before .before .before .before .before .args .transactions .now) (c .before .before .before .before .before .pre .1 .transactions)
+put-transaction-requires c κs = row-fits (c .before .before .before .before .before .args .s .row) (naming (c .before .before .before .before .before .args .h .written .stamp .packet) (c .before .before .before .before .before .args .h .written .stamp .reason)) (c .before .before .before .before .before .args .h .transactions) (c .before .before .before .before .before .args .transactions .now) (c .before .before .before .before .before .pre .1 .transactions)
 
 cast-put1-if : tie.Need-cast-put1-if
 cast-put1-if c = search needs

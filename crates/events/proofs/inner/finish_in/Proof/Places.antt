@@ -37,8 +37,8 @@ start-pid·Start c = c .before .before .before .before .before .before .before .
 abbrev pub written-of·Start : tie.After-written-of → tie.Start
 written-of·Start c = c .before .before .before .before .before .before .before .before .before .before .before .before .before .before .before .before .before .before .before .before .before .before .before .before .before .before .before .before
 
-abbrev pub written-of·no-stamp : tie.After-written-of → tie.After-no-stamp
-written-of·no-stamp c = c .before .before
+abbrev pub written-of·last-stamp : tie.After-written-of → tie.After-last-stamp
+written-of·last-stamp c = c .before .before
 
 abbrev pub written-of·held-of : tie.After-written-of → tie.After-held-of
 written-of·held-of c = c .before .before .before .before .before .before .before .before .before

@@ -17,67 +17,73 @@ abbrev pub part-block-end·At-loop : {Inv : tie.InvT-loop} {μ : tie.MeasureT-lo
 part-block-end·At-loop c = c .before
 
 abbrev pub put-block-requires·At-loop : {Inv : tie.InvT-loop} {μ : tie.MeasureT-loop} → tie.After-put-block-arg Inv μ → tie.At-loop Inv μ
-put-block-requires·At-loop c = c .before .before .before .before .before .before .before .before .before .before .before .before .before .before .before .before .before .before .before .before .before .before .before .before .before .before .before .before .before .before .before .before .before .before .before .before .before .before .before .before .before .before .before .before .before
+put-block-requires·At-loop c = c .before .before .before .before .before .before .before .before .before .before .before .before .before .before .before .before .before .before .before .before .before .before .before .before .before .before .before .before .before .before .before .before .before .before .before .before .before .before .before .before .before .before
 
-abbrev pub add-i·At-loop : {Inv : tie.InvT-loop} {μ : tie.MeasureT-loop} → tie.After-goes-on Inv μ → tie.At-loop Inv μ
-add-i·At-loop c = c .before .before .before .before .before .before .before .before .before .before .before .before .before .before .before .before .before .before .before .before .before .before .before .before .before .before .before .before .before .before .before .before .before .before .before .before .before .before .before .before .before .before .before .before .before .before .before .before .before
+abbrev pub add-i·At-loop : {Inv : tie.InvT-loop} {μ : tie.MeasureT-loop} → tie.After-devices Inv μ → tie.At-loop Inv μ
+add-i·At-loop c = c .before .before .before .before .before .before .before .before .before .before .before .before .before .before .before .before .before .before .before .before .before .before .before .before .before .before .before .before .before .before .before .before .before .before .before .before .before .before .before .before .before .before .before .before .before .before .before .before
 
-abbrev pub add-i·Start : {Inv : tie.InvT-loop} {μ : tie.MeasureT-loop} → tie.After-goes-on Inv μ → tie.Start Inv μ
-add-i·Start c = c .before .before .before .before .before .before .before .before .before .before .before .before .before .before .before .before .before .before .before .before .before .before .before .before .before .before .before .before .before .before .before .before .before .before .before .before .before .before .before .before .before .before .before .before .before .before .before .before .before .before .before .before .before .before .before .before .before .before .before .before .before .before .before .before .before
+abbrev pub add-i·Start : {Inv : tie.InvT-loop} {μ : tie.MeasureT-loop} → tie.After-devices Inv μ → tie.Start Inv μ
+add-i·Start c = c .before .before .before .before .before .before .before .before .before .before .before .before .before .before .before .before .before .before .before .before .before .before .before .before .before .before .before .before .before .before .before .before .before .before .before .before .before .before .before .before .before .before .before .before .before .before .before .before .before .before .before .before .before .before .before .before .before .before .before .before .before .before .before .before
 
 abbrev pub returns·At-loop : {Inv : tie.InvT-loop} {μ : tie.MeasureT-loop} → tie.Then1 Inv μ → tie.At-loop Inv μ
-returns·At-loop c = c .before .before .before .before .before .before .before .before .before .before .before .before .before .before .before .before .before .before .before .before .before .before .before .before .before .before .before .before .before .before .before .before .before .before .before .before .before .before .before .before .before .before .before .before .before .before .before .before .before .before
+returns·At-loop c = c .before .before .before .before .before .before .before .before .before .before .before .before .before .before .before .before .before .before .before .before .before .before .before .before .before .before .before .before .before .before .before .before .before .before .before .before .before .before .before .before .before .before .before .before .before .before .before .before .before
 
 abbrev pub returns·cut-at : {Inv : tie.InvT-loop} {μ : tie.MeasureT-loop} → tie.Then1 Inv μ → tie.After-cut-at Inv μ
-returns·cut-at c = c .before .before .before .before .before .before .before .before .before .before .before .before .before .before .before .before .before .before .before .before .before .before .before .before .before .before .before .before .before .before .before .before .before .before .before .before .before .before .before .before .before .before .before .before .before .before .before .before .before
+returns·cut-at c = c .before .before .before .before .before .before .before .before .before .before .before .before .before .before .before .before .before .before .before .before .before .before .before .before .before .before .before .before .before .before .before .before .before .before .before .before .before .before .before .before .before .before .before .before .before .before .before .before
 
 abbrev pub returns·block : {Inv : tie.InvT-loop} {μ : tie.MeasureT-loop} → tie.Then1 Inv μ → tie.After-block Inv μ
-returns·block c = c .before .before .before .before .before .before .before .before .before .before .before .before .before .before .before .before .before .before .before .before .before .before .before .before .before .before .before .before .before .before .before .before .before
+returns·block c = c .before .before .before .before .before .before .before .before .before .before .before .before .before .before .before .before .before .before .before .before .before .before .before .before .before .before .before .before .before .before .before .before
 
 abbrev pub returns·put-block : {Inv : tie.InvT-loop} {μ : tie.MeasureT-loop} → tie.Then1 Inv μ → tie.After-put-block Inv μ
-returns·put-block c = c .before .before .before .before
+returns·put-block c = c .before .before .before .before .before .before
 
 abbrev pub returns·goes-on : {Inv : tie.InvT-loop} {μ : tie.MeasureT-loop} → tie.Then1 Inv μ → tie.After-goes-on Inv μ
-returns·goes-on c = c .before
+returns·goes-on c = c .before .before .before
 
-abbrev pub add-at·At-loop : {Inv : tie.InvT-loop} {μ : tie.MeasureT-loop} → tie.Else1 Inv μ → tie.At-loop Inv μ
-add-at·At-loop c = c .before .before .before .before .before .before .before .before .before .before .before .before .before .before .before .before .before .before .before .before .before .before .before .before .before .before .before .before .before .before .before .before .before .before .before .before .before .before .before .before .before .before .before .before .before .before .before .before .before .before
+abbrev pub add-at·At-loop : {Inv : tie.InvT-loop} {μ : tie.MeasureT-loop} → tie.After-struct-known Inv μ → tie.At-loop Inv μ
+add-at·At-loop c = c .before .before .before .before .before .before .before .before .before .before .before .before .before .before .before .before .before .before .before .before .before .before .before .before .before .before .before .before .before .before .before .before .before .before .before .before .before .before .before .before .before .before .before .before .before .before .before .before .before .before .before
 
-abbrev pub add-at·cut-at : {Inv : tie.InvT-loop} {μ : tie.MeasureT-loop} → tie.Else1 Inv μ → tie.After-cut-at Inv μ
-add-at·cut-at c = c .before .before .before .before .before .before .before .before .before .before .before .before .before .before .before .before .before .before .before .before .before .before .before .before .before .before .before .before .before .before .before .before .before .before .before .before .before .before .before .before .before .before .before .before .before .before .before .before .before
+abbrev pub add-at·cut-at : {Inv : tie.InvT-loop} {μ : tie.MeasureT-loop} → tie.After-struct-known Inv μ → tie.After-cut-at Inv μ
+add-at·cut-at c = c .before .before .before .before .before .before .before .before .before .before .before .before .before .before .before .before .before .before .before .before .before .before .before .before .before .before .before .before .before .before .before .before .before .before .before .before .before .before .before .before .before .before .before .before .before .before .before .before .before .before
 
-abbrev pub add-at·block : {Inv : tie.InvT-loop} {μ : tie.MeasureT-loop} → tie.Else1 Inv μ → tie.After-block Inv μ
-add-at·block c = c .before .before .before .before .before .before .before .before .before .before .before .before .before .before .before .before .before .before .before .before .before .before .before .before .before .before .before .before .before .before .before .before .before
+abbrev pub add-at·block : {Inv : tie.InvT-loop} {μ : tie.MeasureT-loop} → tie.After-struct-known Inv μ → tie.After-block Inv μ
+add-at·block c = c .before .before .before .before .before .before .before .before .before .before .before .before .before .before .before .before .before .before .before .before .before .before .before .before .before .before .before .before .before .before .before .before .before .before
 
-abbrev pub add-at·Start : {Inv : tie.InvT-loop} {μ : tie.MeasureT-loop} → tie.Else1 Inv μ → tie.Start Inv μ
-add-at·Start c = c .before .before .before .before .before .before .before .before .before .before .before .before .before .before .before .before .before .before .before .before .before .before .before .before .before .before .before .before .before .before .before .before .before .before .before .before .before .before .before .before .before .before .before .before .before .before .before .before .before .before .before .before .before .before .before .before .before .before .before .before .before .before .before .before .before .before
+abbrev pub add-at·Start : {Inv : tie.InvT-loop} {μ : tie.MeasureT-loop} → tie.After-struct-known Inv μ → tie.Start Inv μ
+add-at·Start c = c .before .before .before .before .before .before .before .before .before .before .before .before .before .before .before .before .before .before .before .before .before .before .before .before .before .before .before .before .before .before .before .before .before .before .before .before .before .before .before .before .before .before .before .before .before .before .before .before .before .before .before .before .before .before .before .before .before .before .before .before .before .before .before .before .before .before .before
 
-abbrev pub loop-less·At-loop : {Inv : tie.InvT-loop} {μ : tie.MeasureT-loop} → tie.Else1 Inv μ → tie.At-loop Inv μ
-loop-less·At-loop c = c .before .before .before .before .before .before .before .before .before .before .before .before .before .before .before .before .before .before .before .before .before .before .before .before .before .before .before .before .before .before .before .before .before .before .before .before .before .before .before .before .before .before .before .before .before .before .before .before .before .before
+abbrev pub loop-less·At-loop : {Inv : tie.InvT-loop} {μ : tie.MeasureT-loop} → tie.After-struct-known Inv μ → tie.At-loop Inv μ
+loop-less·At-loop c = c .before .before .before .before .before .before .before .before .before .before .before .before .before .before .before .before .before .before .before .before .before .before .before .before .before .before .before .before .before .before .before .before .before .before .before .before .before .before .before .before .before .before .before .before .before .before .before .before .before .before .before
 
-abbrev pub loop-less·cut-at : {Inv : tie.InvT-loop} {μ : tie.MeasureT-loop} → tie.Else1 Inv μ → tie.After-cut-at Inv μ
-loop-less·cut-at c = c .before .before .before .before .before .before .before .before .before .before .before .before .before .before .before .before .before .before .before .before .before .before .before .before .before .before .before .before .before .before .before .before .before .before .before .before .before .before .before .before .before .before .before .before .before .before .before .before .before
+abbrev pub loop-less·cut-at : {Inv : tie.InvT-loop} {μ : tie.MeasureT-loop} → tie.After-struct-known Inv μ → tie.After-cut-at Inv μ
+loop-less·cut-at c = c .before .before .before .before .before .before .before .before .before .before .before .before .before .before .before .before .before .before .before .before .before .before .before .before .before .before .before .before .before .before .before .before .before .before .before .before .before .before .before .before .before .before .before .before .before .before .before .before .before .before
 
-abbrev pub loop-less·block : {Inv : tie.InvT-loop} {μ : tie.MeasureT-loop} → tie.Else1 Inv μ → tie.After-block Inv μ
-loop-less·block c = c .before .before .before .before .before .before .before .before .before .before .before .before .before .before .before .before .before .before .before .before .before .before .before .before .before .before .before .before .before .before .before .before .before
+abbrev pub loop-less·block : {Inv : tie.InvT-loop} {μ : tie.MeasureT-loop} → tie.After-struct-known Inv μ → tie.After-block Inv μ
+loop-less·block c = c .before .before .before .before .before .before .before .before .before .before .before .before .before .before .before .before .before .before .before .before .before .before .before .before .before .before .before .before .before .before .before .before .before .before
 
-abbrev pub loop-less·put-block : {Inv : tie.InvT-loop} {μ : tie.MeasureT-loop} → tie.Else1 Inv μ → tie.After-put-block Inv μ
-loop-less·put-block c = c .before .before .before .before
+abbrev pub loop-less·put-block : {Inv : tie.InvT-loop} {μ : tie.MeasureT-loop} → tie.After-struct-known Inv μ → tie.After-put-block Inv μ
+loop-less·put-block c = c .before .before .before .before .before .before .before .before
 
-abbrev pub loop-less·goes-on : {Inv : tie.InvT-loop} {μ : tie.MeasureT-loop} → tie.Else1 Inv μ → tie.After-goes-on Inv μ
-loop-less·goes-on c = c .before
+abbrev pub loop-less·goes-on : {Inv : tie.InvT-loop} {μ : tie.MeasureT-loop} → tie.After-struct-known Inv μ → tie.After-goes-on Inv μ
+loop-less·goes-on c = c .before .before .before .before .before
 
-abbrev pub loop-again·At-loop : {Inv : tie.InvT-loop} {μ : tie.MeasureT-loop} → tie.Else1 Inv μ → tie.At-loop Inv μ
-loop-again·At-loop c = c .before .before .before .before .before .before .before .before .before .before .before .before .before .before .before .before .before .before .before .before .before .before .before .before .before .before .before .before .before .before .before .before .before .before .before .before .before .before .before .before .before .before .before .before .before .before .before .before .before .before
+abbrev pub loop-less·Else1 : {Inv : tie.InvT-loop} {μ : tie.MeasureT-loop} → tie.After-struct-known Inv μ → tie.Else1 Inv μ
+loop-less·Else1 c = c .before .before
 
-abbrev pub loop-again·cut-at : {Inv : tie.InvT-loop} {μ : tie.MeasureT-loop} → tie.Else1 Inv μ → tie.After-cut-at Inv μ
-loop-again·cut-at c = c .before .before .before .before .before .before .before .before .before .before .before .before .before .before .before .before .before .before .before .before .before .before .before .before .before .before .before .before .before .before .before .before .before .before .before .before .before .before .before .before .before .before .before .before .before .before .before .before .before
+abbrev pub loop-again·At-loop : {Inv : tie.InvT-loop} {μ : tie.MeasureT-loop} → tie.After-struct-known Inv μ → tie.At-loop Inv μ
+loop-again·At-loop c = c .before .before .before .before .before .before .before .before .before .before .before .before .before .before .before .before .before .before .before .before .before .before .before .before .before .before .before .before .before .before .before .before .before .before .before .before .before .before .before .before .before .before .before .before .before .before .before .before .before .before .before
 
-abbrev pub loop-again·block : {Inv : tie.InvT-loop} {μ : tie.MeasureT-loop} → tie.Else1 Inv μ → tie.After-block Inv μ
-loop-again·block c = c .before .before .before .before .before .before .before .before .before .before .before .before .before .before .before .before .before .before .before .before .before .before .before .before .before .before .before .before .before .before .before .before .before
+abbrev pub loop-again·cut-at : {Inv : tie.InvT-loop} {μ : tie.MeasureT-loop} → tie.After-struct-known Inv μ → tie.After-cut-at Inv μ
+loop-again·cut-at c = c .before .before .before .before .before .before .before .before .before .before .before .before .before .before .before .before .before .before .before .before .before .before .before .before .before .before .before .before .before .before .before .before .before .before .before .before .before .before .before .before .before .before .before .before .before .before .before .before .before .before
 
-abbrev pub loop-again·put-block : {Inv : tie.InvT-loop} {μ : tie.MeasureT-loop} → tie.Else1 Inv μ → tie.After-put-block Inv μ
-loop-again·put-block c = c .before .before .before .before
+abbrev pub loop-again·block : {Inv : tie.InvT-loop} {μ : tie.MeasureT-loop} → tie.After-struct-known Inv μ → tie.After-block Inv μ
+loop-again·block c = c .before .before .before .before .before .before .before .before .before .before .before .before .before .before .before .before .before .before .before .before .before .before .before .before .before .before .before .before .before .before .before .before .before .before
 
-abbrev pub loop-again·goes-on : {Inv : tie.InvT-loop} {μ : tie.MeasureT-loop} → tie.Else1 Inv μ → tie.After-goes-on Inv μ
-loop-again·goes-on c = c .before
+abbrev pub loop-again·put-block : {Inv : tie.InvT-loop} {μ : tie.MeasureT-loop} → tie.After-struct-known Inv μ → tie.After-put-block Inv μ
+loop-again·put-block c = c .before .before .before .before .before .before .before .before
+
+abbrev pub loop-again·goes-on : {Inv : tie.InvT-loop} {μ : tie.MeasureT-loop} → tie.After-struct-known Inv μ → tie.After-goes-on Inv μ
+loop-again·goes-on c = c .before .before .before .before .before
+
+abbrev pub loop-again·Else1 : {Inv : tie.InvT-loop} {μ : tie.MeasureT-loop} → tie.After-struct-known Inv μ → tie.Else1 Inv μ
+loop-again·Else1 c = c .before .before

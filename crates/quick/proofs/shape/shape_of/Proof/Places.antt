@@ -2,7 +2,7 @@
 use Rattle.quick.proofs.shape.shape_of.Tie as tie
 
 abbrev pub token-shape-requires·Start : tie.Then1 → tie.Start
-token-shape-requires·Start c = c .before .before .before .before .before .before .before .before
+token-shape-requires·Start c = c .before .before .before .before .before .before .before .before .before
 
 abbrev pub token-shape-requires·old-endpoint : tie.Then1 → tie.After-old-endpoint
 token-shape-requires·old-endpoint c = c .before .before .before
@@ -10,8 +10,11 @@ token-shape-requires·old-endpoint c = c .before .before .before
 abbrev pub token-shape-requires·state-at : tie.Then1 → tie.After-state-at
 token-shape-requires·state-at c = c .before .before .before .before .before
 
-abbrev pub token-shape-requires·transaction-status : tie.Then1 → tie.After-transaction-status
-token-shape-requires·transaction-status c = c .before .before .before .before
+abbrev pub token-shape-requires·check : tie.Then1 → tie.After-check
+token-shape-requires·check c = c .before .before .before .before .before .before
+
+abbrev pub token-shape-requires·status-by : tie.Then1 → tie.After-status-by
+token-shape-requires·status-by c = c .before .before .before .before
 
 abbrev pub token-shape-requires·is-new : tie.Then1 → tie.After-is-new
 token-shape-requires·is-new c = c .before .before
@@ -23,19 +26,19 @@ abbrev pub token-shape-requires·Then1 : tie.Then1 → tie.Then1
 token-shape-requires·Then1 c = c
 
 abbrev pub Else2·Start : tie.Else2 → tie.Start
-Else2·Start c = c .before .before .before .before .before .before .before .before .before .before
+Else2·Start c = c .before .before .before .before .before .before .before .before .before .before .before
 
 abbrev pub Else2·is-plain : tie.Else2 → tie.After-is-plain
 Else2·is-plain c = c .before
 
 abbrev pub returns-2·Start : tie.After-no-shape → tie.Start
-returns-2·Start c = c .before .before .before .before .before .before .before .before .before .before .before
+returns-2·Start c = c .before .before .before .before .before .before .before .before .before .before .before .before
 
 abbrev pub returns-3·Start : tie.After-no-shape2 → tie.Start
-returns-3·Start c = c .before .before .before .before .before .before .before .before .before .before .before .before .before .before
+returns-3·Start c = c .before .before .before .before .before .before .before .before .before .before .before .before .before .before .before
 
 abbrev pub returns-4·Start : tie.After-next-shape → tie.Start
-returns-4·Start c = c .before .before .before .before .before .before .before .before .before .before .before .before .before .before
+returns-4·Start c = c .before .before .before .before .before .before .before .before .before .before .before .before .before .before .before
 
 abbrev pub returns-4·Else2 : tie.After-next-shape → tie.Else2
 returns-4·Else2 c = c .before .before .before .before
@@ -43,8 +46,11 @@ returns-4·Else2 c = c .before .before .before .before
 abbrev pub returns-4·state-at : tie.After-next-shape → tie.After-state-at
 returns-4·state-at c = c .before .before .before .before .before .before .before .before .before .before .before
 
-abbrev pub returns-4·transaction-status : tie.After-next-shape → tie.After-transaction-status
-returns-4·transaction-status c = c .before .before .before .before .before .before .before .before .before .before
+abbrev pub returns-4·check : tie.After-next-shape → tie.After-check
+returns-4·check c = c .before .before .before .before .before .before .before .before .before .before .before .before
+
+abbrev pub returns-4·status-by : tie.After-next-shape → tie.After-status-by
+returns-4·status-by c = c .before .before .before .before .before .before .before .before .before .before
 
 abbrev pub returns-4·brought-to : tie.After-next-shape → tie.After-brought-to
 returns-4·brought-to c = c .before .before .before

@@ -4,11 +4,11 @@ use Rattle.write.proofs.leaf.group_row.Tie as tie
 abbrev pub add-start-byte·Start : tie.After-struct-known → tie.Start
 add-start-byte·Start c = c .before .before .before .before
 
-abbrev pub mul-put3·Start : tie.After-put3-arg → tie.Start
-mul-put3·Start c = c .before .before .before .before .before .before .before .before .before .before .before .before .before .before
+abbrev pub mul-put5·Start : tie.After-put5-arg → tie.Start
+mul-put5·Start c = c .before .before .before .before .before .before .before .before .before .before .before .before .before .before .before
 
 abbrev pub add-d·Start : tie.After-slice-known6 → tie.Start
-add-d·Start c = c .before .before .before .before .before .before .before .before .before .before .before .before .before .before .before .before .before .before
+add-d·Start c = c .before .before .before .before .before .before .before .before .before .before .before .before .before .before .before .before .before .before .before
 
 abbrev pub add-d-2·Start : tie.After-slice-known6 → tie.Start
-add-d-2·Start c = c .before .before .before .before .before .before .before .before .before .before .before .before .before .before .before .before .before .before
+add-d-2·Start c = c .before .before .before .before .before .before .before .before .before .before .before .before .before .before .before .before .before .before .before

@@ -1,0 +1,11 @@
+pub mod Stores
+pub mod Stages
+pub mod Fair
+pub mod Kin
+pub mod Requests
+pub mod Ends
+pub mod Grounds
+pub mod Blind
+pub mod Walk
+pub mod Others
+pub mod Unread
