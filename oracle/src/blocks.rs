@@ -1,11 +1,12 @@
-//! Blocks of records (change request 3): what a block must answer, by single calls, and the comparison with a port that takes blocks.
+//! Blocks of records (change request 3): what a block must answer, by single calls, and the comparison with a port that takes blocks. A detail
+//! record is refused there (change request 13).
 
 use crate::calls::{Calls, LOGS, Mechanism, Rows};
 use crate::compare::{Left, Rust, Shelves, difference};
 use crate::damage::made;
 use crate::decoder::machine::Machine;
 use crate::generate::Random;
-use crate::trace::{Clock, HEADER, Reader, call};
+use crate::trace::{Clock, HEADER, Reader, Record, Writer, call};
 
 /// What a block answers.
 #[derive(Copy, Clone, PartialEq, Debug)]
@@ -29,13 +30,19 @@ impl Block {
     }
 }
 
-/// A block of records without header, by single calls up to the first answer other than 0 and 8. 12 and 13 come before a record's call.
+/// The answer to a detail in a block, and the bytes of such a record.
+pub const DETAIL: u8 = 20;
+const DETAIL_BYTES: usize = 7;
+
+/// A block of records without header, by single calls up to the first answer other than 0 and 8. 12, 13 and 20 come before a record's call, in
+/// this order.
 pub fn block<M: Mechanism>(calls: &mut Calls<M>, clock: Clock, records: &[u8]) -> Block {
     let mut reader = Reader::records(records);
     let mut block = Block { answer: 0, taken: 0, eights: 0, place: 0, clock };
     while let Some(record) = reader.next() {
         let mut clock = block.clock;
         let answer = match record {
+            Ok(Record::Detail { .. }) => DETAIL,
             Ok(record) => call(calls, &mut clock, &record),
             Err(refused) => refused.answer,
         };
@@ -100,13 +107,85 @@ fn taken<M: Mechanism>(
     Taken { blocks, left }
 }
 
-/// Cuts of some records: between two of them, inside one (its head or its bytes), twice at one place, going back, and behind the end.
-fn cuts(random: &mut Random, records: &[u8]) -> Vec<u64> {
+/// Where records start that can be read, and the end of the last.
+fn starts(records: &[u8]) -> Vec<u64> {
     let mut starts = vec![0];
     let mut reader = Reader::records(records);
     while let Some(Ok(_)) = reader.next() {
         starts.push(reader.at as u64);
     }
+    starts
+}
+
+/// Where the first detail record starts.
+fn first_detail(records: &[u8]) -> Option<usize> {
+    let mut reader = Reader::records(records);
+    while let Some(Ok(record)) = reader.next() {
+        if matches!(record, Record::Detail { .. }) {
+            return Some(reader.at - DETAIL_BYTES);
+        }
+    }
+    None
+}
+
+fn without_details(mut records: Vec<u8>) -> Vec<u8> {
+    while let Some(at) = first_detail(&records) {
+        records.drain(at..at + DETAIL_BYTES);
+    }
+    records
+}
+
+/// The records of a random trace, and its kind. A block stops at the first detail, so they are taken out; in one of eight they stay, or one is put in
+/// at any place, also one that its call would refuse.
+fn recorded(random: &mut Random) -> (Vec<u8>, &'static str) {
+    let made = made(random);
+    let records = made.bytes.get(HEADER..).unwrap_or_default().to_vec();
+    let typed = random.below(8) == 0;
+    if typed && random.chance(50) && first_detail(&records).is_some() {
+        return (records, made.kind);
+    }
+    let mut records = without_details(records);
+    if typed {
+        let mut one = Writer::default();
+        let (address, number) = (random.below(5) as u8, random.pick(&[0, 1, 2, 16]));
+        one.detail(address, number, random.below(2) as u8, random.below(5) as u8, 64);
+        let at = random.pick(&starts(&records)) as usize;
+        records.splice(at..at, one.bytes.split_off(HEADER));
+    }
+    (records, made.kind)
+}
+
+/// Records with a clock and cuts.
+fn input<'a>(random: &mut Random, records: &'a [u8]) -> Input<'a> {
+    let clock = start(random);
+    let mut cuts = cuts(random, records);
+    if let Some(detail) = first_detail(records) {
+        around(random, detail as u64, &mut cuts);
+    }
+    Input { records, clock, cuts }
+}
+
+/// Some more cuts: before a detail, behind it, inside it.
+fn around(random: &mut Random, detail: u64, cuts: &mut Vec<u64>) {
+    let (before, behind) = (detail, detail + DETAIL_BYTES as u64);
+    let inside = detail + 1 + random.below(DETAIL_BYTES as u64 - 1);
+    let more: &[u64] = match random.below(6) {
+        0 => &[before],
+        1 => &[behind],
+        2 => &[before, behind],
+        3 => &[inside],
+        4 => &[inside, behind],
+        _ => &[],
+    };
+    for cut in more {
+        let place = cuts.iter().position(|other| other > cut).unwrap_or(cuts.len());
+        cuts.insert(place, *cut);
+    }
+}
+
+/// Cuts of some records: between two of them, inside one (its head or its bytes), twice at one place, going back, and behind the end.
+fn cuts(random: &mut Random, records: &[u8]) -> Vec<u64> {
+    let starts = starts(records);
     let length = records.len() as u64;
     let most = random.pick(&[0, 1, 3, 8, 40]);
     let mut cuts: Vec<u64> = (0..random.below(most + 1))
@@ -150,12 +229,18 @@ pub struct Tally {
     pub divided: u64,
     /// Runs refused with 7 for one row short, and blocks by their answers (and runs in which fresh was refused).
     pub short: u64,
-    pub ends: [u64; 14],
+    pub ends: [u64; DETAIL as usize + 1],
+    /// Details by where they stood (`DETAILS`): one may count twice.
+    pub details: [u64; 4],
     /// The shelves of the run under way, and the bytes that runs changed on them.
     shelves: Shelves,
     pub shelved: u64,
     pub differences: u64,
 }
+
+/// Where in its block a detail stands that is refused.
+pub const DETAILS: [&str; 4] =
+    ["the first record of a block", "behind other records", "the last record of a block", "cut by the block before"];
 
 /// Where no more differences are told.
 const TOLD: u64 = 20;
@@ -173,7 +258,23 @@ impl Tally {
             }
         }
         self.count(&rust);
+        self.count_details(input, &rust);
         rust
+    }
+
+    /// A detail ends a run: it is refused in the last block.
+    fn count_details(&mut self, input: &Input, rust: &Taken) {
+        let Some(([answer, taken, _, place, ..], before)) = rust.blocks.split_last() else { return };
+        if *answer != DETAIL as u64 {
+            return;
+        }
+        let detail = before.iter().map(|block| block[3]).sum::<u64>() + place;
+        let end = input.cuts.get(before.len()).copied().unwrap_or(u64::MAX).min(input.records.len() as u64);
+        let cut = *taken == 0 && before.last().is_some_and(|block| block[0] == 13);
+        let stands = [*taken == 0, *taken > 0, end == detail + DETAIL_BYTES as u64, cut];
+        for (count, stands) in self.details.iter_mut().zip(stands) {
+            *count += stands as u64;
+        }
     }
 
     fn count(&mut self, rust: &Taken) {
@@ -203,11 +304,9 @@ pub fn blocks(port: &mut dyn Blocks, count: u64, seed: u64) -> Tally {
     let mut tally = Tally::default();
     for i in 0..count {
         let mut random = Random::of(seed, i);
-        let made = made(&mut random);
-        let records = made.bytes.get(HEADER..).unwrap_or_default();
-        let clock = start(&mut random);
-        let input = Input { records, clock, cuts: cuts(&mut random, records) };
-        let what = format!("trace {i} of seed {seed} ({})", made.kind);
+        let (records, kind) = recorded(&mut random);
+        let input = input(&mut random, &records);
+        let what = format!("trace {i} of seed {seed} ({kind})");
         let enough = Rows(taken(&input, &Rows::LARGEST, &mut [], block::<Machine>).left.rows);
         tally.run(port, &input, &enough, &what);
         tally.run(port, &input, &Rows(enough.0.map(|rows| rows + random.below(5))), &what);
@@ -288,15 +387,62 @@ mod tests {
         Block { answer: if b.answer == 13 { 0 } else { b.answer }, ..b }
     }
 
+    /// A detail is a call like the others.
+    fn detail_obeyed(calls: &mut Calls<Machine>, clock: Clock, records: &[u8]) -> Block {
+        let b = own_answer_first(calls, clock, records);
+        if b.answer == DETAIL { taken_too(b, detail_obeyed(calls, b.clock, &records[b.place + DETAIL_BYTES..])) } else { b }
+    }
+
+    /// A detail is passed over.
+    fn detail_ignored(calls: &mut Calls<Machine>, clock: Clock, records: &[u8]) -> Block {
+        let b = block(calls, clock, records);
+        if b.answer == DETAIL { taken_too(b, detail_ignored(calls, b.clock, &records[b.place + DETAIL_BYTES..])) } else { b }
+    }
+
+    /// The detail's own call first: what it refuses is told.
+    fn own_answer_first(calls: &mut Calls<Machine>, clock: Clock, records: &[u8]) -> Block {
+        let b = block(calls, clock, records);
+        match Reader::records(&records[b.place..]).next() {
+            Some(Ok(record @ Record::Detail { .. })) => match call(calls, &mut b.clock.clone(), &record) {
+                0 => b,
+                answer => Block { answer, ..b },
+            },
+            _ => b,
+        }
+    }
+
+    /// 20 for a detail that is cut.
+    fn cut_detail(calls: &mut Calls<Machine>, clock: Clock, records: &[u8]) -> Block {
+        let b = block(calls, clock, records);
+        let detail = b.answer == 13 && records[b.place] == 2;
+        Block { answer: if detail { DETAIL } else { b.answer }, ..b }
+    }
+
+    /// 20 before any call of a block that holds a detail.
+    fn details_ahead(calls: &mut Calls<Machine>, clock: Clock, records: &[u8]) -> Block {
+        match first_detail(records) {
+            Some(_) => Block { answer: DETAIL, taken: 0, eights: 0, place: 0, clock },
+            None => block(calls, clock, records),
+        }
+    }
+
+    /// What a block answers whose first part took the records up to a detail and the detail, and whose second part is this.
+    fn taken_too(first: Block, second: Block) -> Block {
+        Block {
+            taken: first.taken + 1 + second.taken,
+            eights: first.eights + second.eights,
+            place: first.place + DETAIL_BYTES + second.place,
+            ..second
+        }
+    }
+
     /// However a trace is cut, the blocks together leave what one block leaves.
     #[test]
     fn cuts_change_nothing() {
         for i in 0..300 {
             let mut random = Random::of(2, i);
-            let made = made(&mut random);
-            let records = made.bytes.get(HEADER..).unwrap_or_default();
-            let clock = start(&mut random);
-            let cut = Input { records, clock, cuts: cuts(&mut random, records) };
+            let (records, _) = recorded(&mut random);
+            let cut = input(&mut random, &records);
             let mut shelves = Shelves::default();
             shelves.fill();
             let parts = taken(&cut, &Rows::LARGEST, &mut shelves.port, block::<Machine>);
@@ -313,7 +459,7 @@ mod tests {
     fn each_is_found() {
         let right = blocks(&mut Rust::<Machine>::default(), 1000, 1);
         assert!(report::blocks(&right), "the comparison meets what it is for and finds nothing in the Rust");
-        let slips: [(&str, One); 8] = [
+        let slips: [(&str, One); 13] = [
             ("clock_of_refused", clock_of_refused),
             ("clock_anew", clock_anew),
             ("eights_forgotten", eights_forgotten),
@@ -322,6 +468,11 @@ mod tests {
             ("behind_refused", behind_refused),
             ("read_ahead", read_ahead),
             ("cut_is_no_refusal", cut_is_no_refusal),
+            ("detail_obeyed", detail_obeyed),
+            ("detail_ignored", detail_ignored),
+            ("own_answer_first", own_answer_first),
+            ("cut_detail", cut_detail),
+            ("details_ahead", details_ahead),
         ];
         for (name, one) in slips {
             assert_ne!(blocks(&mut Slip(one), 100, 1).differences, 0, "{name} is not found");

@@ -5,7 +5,7 @@
 use std::cell::Ref;
 use std::sync::Arc;
 
-use crate::capture::{CaptureWriter, DeviceData, Request};
+use crate::capture::{CaptureWriter, DeviceData, Met, Request};
 use crate::crates::Error;
 use crate::descriptors::{Descriptors, PART};
 use crate::event::{EventType, LineState};
@@ -312,6 +312,16 @@ impl<M: Mechanism> Calls<M> {
         }
     }
 
+    /// How detail records and descriptors met, over all devices.
+    pub fn met(&self) -> Met {
+        let devices = self.machine.capture().shared.device_data.load();
+        devices.values().map(|device| device.met.get()).fold(Met::default(), |sum, met| Met {
+            obeyed: sum.obeyed + met.obeyed,
+            unheard: sum.unheard + met.unheard,
+            overridden: sum.overridden + met.overridden,
+        })
+    }
+
     /// Answers 1 and 2, which every call tests first.
     fn refused(&self) -> Option<u8> {
         match (self.fresh, self.finished) {
@@ -339,6 +349,7 @@ impl<M: Mechanism> Calls<M> {
         self.run(Some(time), |m| m.event(event, code, time))
     }
 
+    /// A detail record of a trace: changes nothing where a descriptor has given the endpoint's details (change request 13), and answers 0 then too.
     pub fn detail(&mut self, address: u8, number: u8, direction: u8, kind: u8, max: u16) -> u8 {
         if let Some(answer) = self.refused() {
             return answer;

@@ -39,12 +39,14 @@ impl RequestLog {
     }
 }
 
-/// What is known of an endpoint of a device: type and largest payload, either unknown; and whether a descriptor gave it.
-#[derive(Copy, Clone, Default)]
+/// What is known of an endpoint of a device: type and largest payload, either unknown; and whether a descriptor gave it, after which no detail
+/// record changes it (change request 13). `typed` is for the count of `Met` alone: a detail record set it last.
+#[derive(Copy, Clone, PartialEq, Default, Debug)]
 pub struct Detail {
     pub kind: Option<usb::EndpointType>,
     pub max: Option<usize>,
     pub given: bool,
+    pub typed: bool,
 }
 
 impl Detail {
@@ -56,6 +58,16 @@ impl Detail {
             _ => number,
         }
     }
+}
+
+/// How detail records and descriptors met on a device's entries (change request 13). No rule looks at it.
+#[derive(Copy, Clone, PartialEq, Default, Debug)]
+pub struct Met {
+    /// Details that were obeyed, and those for an entry that a descriptor had given, which change nothing.
+    pub obeyed: u64,
+    pub unheard: u64,
+    /// Entries that a detail had set and a descriptor then gave.
+    pub overridden: u64,
 }
 
 /// What is read of a device's descriptors.
@@ -70,6 +82,7 @@ pub enum Reading {
 #[derive(Clone)]
 pub struct DeviceData {
     pub details: RefCell<[Detail; 32]>,
+    pub met: Cell<Met>,
     reading: Reading,
     requests: Requests,
 }
@@ -81,7 +94,7 @@ impl DeviceData {
             Descriptors::Ruled => Reading::Ruled(RefCell::default()),
             Descriptors::Own => Reading::Own(Default::default()),
         };
-        DeviceData { details: RefCell::new([Detail::default(); 32]), reading, requests: requests.clone() }
+        DeviceData { details: RefCell::default(), met: Cell::default(), reading, requests: requests.clone() }
     }
 
     pub fn endpoint_details(&self, addr: EndpointAddr) -> (EndpointType, Option<usize>) {
@@ -114,10 +127,18 @@ impl DeviceData {
         }
     }
 
-    /// A detail call: sets both. The Rust has no such call, so in the mode `Own` it does nothing.
+    /// A detail record: sets both, unless a descriptor has given the entry (change request 13). The Rust has no such call, so in the mode `Own`
+    /// it does nothing.
     pub fn set_detail(&self, addr: EndpointAddr, kind: usb::EndpointType, max: u16) {
-        let max = if max == 0 { None } else { Some(max as usize) };
-        self.details.borrow_mut()[Detail::place(addr)] = Detail { kind: Some(kind), max, given: false };
+        let (entry, mut met) = (&mut self.details.borrow_mut()[Detail::place(addr)], self.met.get());
+        if entry.given {
+            met.unheard += 1;
+        } else {
+            let max = if max == 0 { None } else { Some(max as usize) };
+            *entry = Detail { kind: Some(kind), max, given: false, typed: true };
+            met.obeyed += 1;
+        }
+        self.met.set(met);
     }
 
     /// A payload that was seen on an endpoint whose request is a read (src/descriptors.rs, R3).
@@ -155,7 +176,20 @@ impl DeviceData {
         let cases = witness.marks(setup, payload);
         self.requests.marks.borrow_mut().extend(cases.into_iter().map(|case| (row, case)));
         witness.follow(setup, payload);
-        shelf.request(setup, payload.len(), &mut details)
+        let before = *details;
+        let note = shelf.request(setup, payload.len(), &mut details);
+        let mut met = self.met.get();
+        met.overridden += before.iter().zip(details.iter()).filter(|(old, new)| old.typed && new.given).count() as u64;
+        self.met.set(met);
+        note
+    }
+
+    /// The entries that were read of the device's configurations, and the chosen one.
+    pub fn read(&self) -> (Vec<Entry>, Option<u8>) {
+        match &self.reading {
+            Reading::Ruled(kept) => (kept.borrow().0.entries.clone(), kept.borrow().0.chosen),
+            Reading::Off | Reading::Own(_) => Default::default(),
+        }
     }
 
     /// What the device's part of the shelf holds of it is written there; other bytes stay.

@@ -4,7 +4,8 @@
 use std::collections::BTreeMap;
 use std::marker::PhantomData;
 
-use crate::calls::{LINKS, LOGS, Mechanism, REQUESTS, Rows, TRANSACTIONS, WIDTHS};
+use crate::calls::{Calls, LINKS, LOGS, Mechanism, REQUESTS, Rows, TRANSACTIONS, WIDTHS};
+use crate::capture::Met;
 use crate::counted::machine::Machine as Counted;
 use crate::coverage::Seen;
 use crate::damage::{DAMAGES, INPUTS, Made, made};
@@ -155,6 +156,9 @@ pub struct Tally {
     pub reasons: [u64; 5],
     /// The group rows by what wrote them (`report::WRITERS`).
     pub writers: [u64; 4],
+    /// How details and descriptors met (`report::MET`), and the listings that end with the line of details.
+    pub met: [u64; 3],
+    pub typed: u64,
     pub seen: Seen,
     pub differences: u64,
 }
@@ -175,6 +179,9 @@ impl Tally {
         self.shelves.fill();
         let played = play::<Machine>(trace, *room, 0, &mut ());
         self.written_by(&played);
+        if let Some(Met { obeyed, unheard, overridden }) = played.calls.as_ref().map(Calls::met) {
+            self.met.iter_mut().zip([obeyed, unheard, overridden]).for_each(|(sum, n)| *sum += n);
+        }
         let rust = left(trace, played, &mut self.shelves.rust);
         let counted = left(trace, play::<Counted>(trace, *room, 0, &mut self.seen), &mut []);
         if let Some(text) = difference(&rust, &counted) {
@@ -274,6 +281,7 @@ impl Tally {
         let words: Vec<&str> = rust.split(' ').take(2).collect();
         let key = if words[0] == "refused" { words.join(" ") } else { rust.lines().next().unwrap_or("").to_string() };
         *self.listings.entry(key).or_default() += 1;
+        self.typed += rust.lines().last().is_some_and(|line| line.starts_with("details ")) as u64;
         match lister.list(trace) {
             Ok(port) if port == rust.as_bytes() => {}
             Ok(port) => self.differ(format!("{what}: {}", line_difference(&rust, &String::from_utf8_lossy(&port)))),
@@ -363,9 +371,11 @@ mod slips {
     use std::panic::{AssertUnwindSafe, catch_unwind};
 
     use super::*;
-    use crate::calls::{Calls, EVENTS, GROUPS, PACKETS};
+    use crate::calls::{EVENTS, GROUPS, PACKETS};
     use crate::descriptors::BYTES;
     use crate::enumerations;
+    use crate::trace::count_details;
+    use crate::typed;
 
     include!(concat!(env!("OUT_DIR"), "/slips.rs"));
 
@@ -381,6 +391,75 @@ mod slips {
         assert_eq!(check::<Machine>(1, 50), Ok(0));
         for (name, differences) in each(1, 50) {
             assert_ne!(differences, Ok(0), "{name} is not found");
+        }
+    }
+
+    // The mutants of change request 13 (changes/mutants.txt).
+    crate::decoder_module!(detail_overrides, "/mutant_detail_overrides.rs");
+    crate::decoder_module!(given_cleared, "/mutant_given_cleared.rs");
+    crate::decoder_module!(detail_stays, "/mutant_detail_stays.rs");
+
+    /// The traces of src/typed.rs whose rows differ by a decoder.
+    fn shown<M: Mechanism>() -> Vec<String> {
+        let rows = |trace: &[u8], port: &mut dyn Port| port.play(trace, &Rows::LARGEST, &mut [0; SHELF]).expect("rows");
+        let differs = |trace: &[u8]| {
+            difference(&rows(trace, &mut Rust::<Machine>::default()), &rows(trace, &mut Rust::<M>::default())).is_some()
+        };
+        typed::all().into_iter().filter(|(_, trace)| differs(trace)).map(|(name, _)| name).collect()
+    }
+
+    /// What a detail does beside descriptors shows in the rows of traces that are there for it, not in details alone.
+    #[test]
+    fn traffic_shows_what_holds() {
+        assert_eq!(shown::<Machine>(), [""; 0]);
+        assert_eq!(
+            shown::<detail_overrides::machine::Machine>(),
+            ["detail-over-descriptor", "detail-after-set-0", "detail-other-configuration", "detail-and-interface"]
+        );
+        assert_eq!(shown::<given_cleared::machine::Machine>(), ["detail-after-set-0"]);
+        assert_eq!(
+            shown::<detail_stays::machine::Machine>(),
+            ["descriptor-over-detail", "detail-after-read", "detail-and-interface"]
+        );
+    }
+
+    /// A program whose last line is wrong.
+    struct LastLine(fn(&[u8], &str) -> String);
+
+    impl Lister for LastLine {
+        fn list(&mut self, trace: &[u8]) -> Result<Vec<u8>, String> {
+            let right = listing::<Machine>(trace, BUFFER, Rows::PROGRAM, 0);
+            Ok((self.0)(trace, &right).into_bytes())
+        }
+    }
+
+    fn without_last(right: &str) -> String {
+        right.lines().filter(|line| !line.starts_with("details ")).map(|line| format!("{line}\n")).collect()
+    }
+
+    #[test]
+    fn each_is_found_in_the_last_line() {
+        let slips: [(&str, fn(&[u8], &str) -> String); 4] = [
+            ("no line", |_, right| without_last(right)),
+            ("a line for 0", |_, right| match right.contains("\ndetails ") || !right.starts_with("UTL") {
+                true => right.to_string(),
+                false => format!("{right}details 0\n"),
+            }),
+            ("packets are counted", |_, right| match right.contains("\ndetails ") {
+                true => without_last(right) + &format!("details {}\n", right.matches("\npacket ").count()),
+                false => right.to_string(),
+            }),
+            ("a line behind a refusal", |trace, right| match right.starts_with("refused") && count_details(trace) > 0 {
+                true => format!("{right}details {}\n", count_details(trace)),
+                false => right.to_string(),
+            }),
+        ];
+        for (name, slip) in slips {
+            let mut tally = Tally::default();
+            for (what, trace) in all() {
+                tally.listed(&mut LastLine(slip), &trace, &what);
+            }
+            assert_ne!(tally.differences, 0, "{name} is not found");
         }
     }
 

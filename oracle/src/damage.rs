@@ -94,9 +94,13 @@ pub struct Made {
     pub damage: Option<usize>,
 }
 
-/// A kind of trace; those of `EXTRA` two times in five.
+/// A kind of trace; those of `EXTRA` two times in five, and the last of them, in which details and descriptors meet, once more in twenty.
 fn any_kind(random: &mut Random) -> &'static str {
-    if random.chance(40) { random.pick(&EXTRA).0 } else { random.pick(&KINDS).0 }
+    match random.below(20) {
+        0 => EXTRA[EXTRA.len() - 1].0,
+        1..9 => random.pick(&EXTRA).0,
+        _ => random.pick(&KINDS).0,
+    }
 }
 
 /// A trace of any kind: most short enough for the program, some long.

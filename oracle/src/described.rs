@@ -1,5 +1,5 @@
 //! The scenes `descriptors` and `reread`: devices that are asked for random configurations, damaged now and then, and traffic around the
-//! sizes that these give.
+//! sizes that these give; and `typed`, where details say other things of the same endpoints.
 
 use super::{Bench, Random};
 use crate::chapter9::{association, audio_endpoint, configuration, device, endpoint, hid, interface, many, unknown};
@@ -278,6 +278,51 @@ impl Bench {
             if self.random.chance(20) {
                 all[place].changed(&mut self.random);
             }
+        }
+    }
+
+    /// Details before the read, between it and the SET, and behind the SET, also behind one of value 0; then traffic, which tells what holds.
+    pub fn retyped(&mut self) {
+        let (address, all) = self.some_device();
+        if self.random.chance(50) {
+            // A new row, of which nothing is given.
+            self.control(0, 0, setup(0x00, 5, address as u16, 0, 0));
+        }
+        let described = &all[0];
+        let bytes = described.bytes();
+        // Details want a device that stands.
+        self.known_detail(address, 1, 0, 2, 64);
+        self.some_details(address, described);
+        if self.random.chance(30) {
+            self.around_sizes(address, described);
+        }
+        if self.random.chance(30) {
+            self.read_device(address);
+        }
+        self.read(address, setup(0x80, 6, 0x0200, 0, bytes.len() as u16), &bytes, 64);
+        self.some_details(address, described);
+        self.choose(address, &all[..1], false);
+        self.some_details(address, described);
+        self.around_sizes(address, described);
+        if self.random.chance(30) {
+            self.control(address, 0, setup(0x00, 9, 0, 0, 0));
+        } else {
+            self.choose(address, &all[..1], true);
+        }
+        self.some_details(address, described);
+        self.around_sizes(address, described);
+    }
+
+    /// Details for some of the endpoints that are described, now and then for number 0 and for any other.
+    fn some_details(&mut self, address: u8, described: &Described) {
+        let mut places: Vec<u8> = described.parts.iter().filter(|d| d[1] == 5).map(|d| d[2]).collect();
+        places.retain(|_| self.random.chance(50));
+        places.extend([0, 0x80].into_iter().filter(|_| self.random.chance(15)));
+        places.extend([1, 0x81, 2, 0x8F].into_iter().filter(|_| self.random.chance(8)));
+        for place in places {
+            let kind = if place % 16 == 0 { 0 } else { self.random.below(4) as u8 };
+            let max = self.random.pick(&[0, 8, 16, 64, 512]);
+            self.detail(address, place % 16, place / 128, kind, max);
         }
     }
 

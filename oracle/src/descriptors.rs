@@ -247,5 +247,5 @@ fn write(to: &mut Vec<u8>, from: usize, bytes: &[u8]) {
 
 /// Details that a descriptor gave; a max of 0 is unknown.
 fn given(kind: EndpointType, max: u16) -> Detail {
-    Detail { kind: Some(kind), max: (max != 0).then_some(max as usize), given: true }
+    Detail { kind: Some(kind), max: (max != 0).then_some(max as usize), given: true, typed: false }
 }

@@ -74,17 +74,21 @@ pub const KINDS: [(&str, fn(&mut Bench)); 16] = [
 
 /// Kinds that the comparison plays besides, to reach what the scenes above seldom do. They stand apart, since traces/ and the runs of
 /// crates/runs are made of the others.
-pub const EXTRA: [(&str, fn(&mut Bench)); 6] = [
+pub const EXTRA: [(&str, fn(&mut Bench)); 7] = [
     ("walk", Bench::walk),
     ("stages", Bench::stages),
     ("transfers", Bench::transfers),
     ("crowd", Bench::crowd),
     DESCRIBED[0],
     DESCRIBED[1],
+    TYPED,
 ];
 
 /// Those of them that read descriptors (change request 2).
 pub const DESCRIBED: [(&str, fn(&mut Bench)); 2] = [("descriptors", Bench::descriptors), ("reread", Bench::reread)];
+
+/// The one of them in which details and descriptors meet (change request 13).
+const TYPED: (&str, fn(&mut Bench)) = ("typed", Bench::retyped);
 
 /// A trace of n records of a kind, or none where there is no such kind.
 pub fn generate(seed: u64, n: u64, kind: &str) -> Option<Vec<u8>> {
@@ -92,7 +96,7 @@ pub fn generate(seed: u64, n: u64, kind: &str) -> Option<Vec<u8>> {
     let mut bench = Bench::new(seed);
     if kind == "mixed" {
         bench.noise = 6;
-    } else if DESCRIBED.iter().any(|(name, _)| *name == kind) {
+    } else if DESCRIBED.iter().chain([&TYPED]).any(|(name, _)| *name == kind) {
         // Most of these traces run undisturbed, so that the reads in them come to their end.
         bench.noise = [0, 0, 0, 1, 3][seed as usize % 5];
     }

@@ -33,6 +33,7 @@ pub mod storage;
 pub mod trace;
 pub mod traces;
 pub mod training;
+pub mod typed;
 
 pub mod util {
     pub mod rcu {
@@ -67,7 +68,7 @@ pub mod capture {
     use anyhow::{Context, Error};
 
     use crate::bitfield;
-    use crate::descriptors::{BYTES, Descriptors, Kind, Shelf, kind};
+    use crate::descriptors::{BYTES, Descriptors, Entry, Kind, Shelf, kind};
     use crate::listed::{Case, Witness};
     use crate::own;
     use crate::storage::{CompactWriter, DataWriter, Id, Journal, Link, LinkWriter, Mark, Shared, SharedJournal, VecMap};

@@ -6,7 +6,7 @@ use crate::calls::{Calls, Mechanism, Rows};
 use crate::capture::CaptureWriter;
 use crate::descriptors::{Descriptors, note_text};
 use crate::storage::Mark;
-use crate::trace::{Refused, run_by};
+use crate::trace::{Refused, count_details, run_by};
 use crate::usb::Direction;
 
 /// The size of the program's input buffer (docs/SIZES.md).
@@ -23,9 +23,14 @@ pub fn listing_by<M: Mechanism>(descriptors: Descriptors, trace: &[u8], buffer: 
         return "too long\n".to_string();
     }
     match run_by::<M>(descriptors, trace, room, total) {
-        Ok(calls) => rows(&calls),
+        Ok(calls) => rows(&calls) + &last_line(count_details(trace)),
         Err(Refused { answer, at }) => format!("refused {answer} at {at}\n"),
     }
+}
+
+/// How many detail records the trace has, obeyed or not; nothing where it has none (change request 13).
+pub fn last_line(details: u64) -> String {
+    if details == 0 { String::new() } else { format!("details {details}\n") }
 }
 
 /// The details that each device has at the end, where a type or a max is known: device, number, direction, type (4 for none), max (0 for none).

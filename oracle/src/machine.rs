@@ -289,7 +289,7 @@ pub fn group_status_words(s: &State) -> [u64; 10] {
     };
     if s[19] < 4 {
         let max = if s[20] == 0 { None } else { Some(s[20] as usize) };
-        device.details.borrow_mut()[1] = Detail { kind: Some(usb::EndpointType::from(s[19] as u8)), max, given: false };
+        device.details.borrow_mut()[1] = Detail { kind: Some(usb::EndpointType::from(s[19] as u8)), max, ..Detail::default() };
     }
     let mut e = endpoint_of(s, address);
     let mut t = transaction_of(s);

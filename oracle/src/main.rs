@@ -19,7 +19,7 @@ const USAGE: &str = "usage: oracle COMMAND
   download MIB TIMES     writes the trace of change request 11: an enumeration and a bulk download, so many times in so many MiB
   mixed BYTES            writes the mixed sequence of the benchmarks, 200,000 packets with payloads of at most so many bytes
   bench FILE             the time of the raw Rust decoder on a trace, median of five runs
-  selfcheck N            N random calls, 01's well-formed list, demand 3, reasons and stamps after each; then the mutants
+  selfcheck N            N random calls, 01's well-formed list, demand 3, reasons, stamps and details after each; then the mutants
   coverage N SEED        plays the traces of `compare traces N SEED` by the Rust alone: which cases of decoder.rs they meet
   descriptors N SEED     the Rust's own decode_request beside the rules of change request 2, on N random traces: what differs
                          outside the listed cases, and how often each of them was met

@@ -1,6 +1,6 @@
 //! What a comparison says: what was compared, and how often each case of the source was met.
 
-use crate::blocks;
+use crate::blocks::{self, DETAIL, DETAILS};
 use crate::calls::{LOGS, Style};
 use crate::compare::Tally;
 use crate::coverage::{CASES, Case, NEXT, count};
@@ -60,22 +60,25 @@ pub fn inputs(t: &Tally) -> bool {
     good && t.differences == 0
 }
 
-/// What came of blocks; false where something differs, or where something that can be met was not. 2 and 9 are as in `answers`, 10 and 11 a
-/// header's; 1 wants a log that is too long, which is tried on whole traces.
+/// What came of blocks; false where something differs, or where something that can be met was not. 2 and 9 are as in `answers`, 5 and 6 a
+/// trace's, 10 and 11 a header's, 14 to 19 no answers of a block; 1 wants a log that is too long, which is tried on whole traces.
 pub fn blocks(t: &blocks::Tally) -> bool {
-    let numbers: Vec<String> = (0..14).map(|i| i.to_string()).collect();
+    let numbers: Vec<String> = (0..t.ends.len()).map(|i| i.to_string()).collect();
     let names = || numbers.iter().map(String::as_str);
     println!("runs {}, blocks {}, records taken {}, 8s among them {}", t.runs, t.blocks, t.records, t.eights);
     println!("blocks that were empty {}, records that a cut divided and the next block took {}", t.empty, t.divided);
     println!("one row short and so refused with 7: {}; bytes changed on the shelf: {}", t.short, t.shelved);
-    println!("answers of blocks: {}", named(names(), &t.ends));
+    let answered = (0..t.ends.len()).filter(|i| t.ends[*i] > 0).map(|i| format!("{i} {}", t.ends[i]));
+    println!("answers of blocks: {}", answered.collect::<Vec<_>>().join(", "));
+    println!("details in a block, refused with 20: {}; {}", t.ends[DETAIL as usize], named(DETAILS, &t.details));
     let mut met = t.ends;
-    for never in [1, 2, 8, 9, 10, 11] {
+    for never in [1, 2, 5, 6, 8, 9, 10, 11].into_iter().chain(14..20) {
         met[never] = 1;
     }
     let cases = ["an 8", "an empty block", "a divided record", "one row short", "a byte of the shelf"];
     let counts = [t.eights, t.empty, t.divided, t.short, t.shelved];
-    let good = all_met("answer", names(), &met) & all_met("of blocks:", cases, &counts);
+    let details = all_met("a detail:", DETAILS, &t.details);
+    let good = all_met("answer", names(), &met) & all_met("of blocks:", cases, &counts) & details;
     println!("{} differences", t.differences);
     good && t.differences == 0
 }
@@ -99,6 +102,7 @@ const OUTPUTS: [&str; 11] = [
 fn listings(t: &Tally) {
     let listings: Vec<String> = t.listings.iter().map(|(first, n)| format!("{first}: {n}")).collect();
     println!("listings compared {}: {}", t.listings.values().sum::<u64>(), listings.join(", "));
+    println!("listings that end with the line of details: {}", t.typed);
 }
 
 /// Prints what was compared and, with the table, how often each case was met; false where something differs, or where something that can
@@ -108,9 +112,10 @@ pub fn traces(tally: &Tally, table: bool) -> bool {
     let notes = all_met("note", NOTES, &tally.notes);
     let reasons = all_met("reason", REASONS, &tally.reasons);
     let writers = all_met("group row of", WRITERS, &tally.writers);
-    let good = [answers(tally), limits(tally), cases(table), pairs(tally), events(tally, table), notes, reasons, writers];
+    let met = all_met("of details:", MET, &tally.met) & all_met("listing", ["with a line of details"], &[tally.typed]);
+    let good = [answers(tally), limits(tally), cases(table), pairs(tally), events(tally, table), notes, reasons, writers, met];
     println!("{} differences", tally.differences);
-    good == [true; 8] && tally.differences == 0
+    good == [true; 9] && tally.differences == 0
 }
 
 /// How the lines of requests end.
@@ -118,6 +123,10 @@ const NOTES: [&str; 4] = ["none", "max", "read", "set"];
 
 /// What writes a group row: these have their number and time each in its own way (change request 9).
 pub const WRITERS: [&str; 4] = ["a packet", "an event", "an event before its packet row", "finish"];
+
+/// How details and descriptors meet (change request 13): what was done to an entry.
+const MET: [&str; 3] =
+    ["set by a detail", "left by a detail, since a descriptor gave it", "given by a descriptor behind a detail"];
 
 fn what_was_compared(t: &Tally) {
     let kinds: Vec<String> = t.kinds.iter().map(|(kind, n)| format!("{kind} {n}")).collect();
@@ -128,6 +137,7 @@ fn what_was_compared(t: &Tally) {
     println!("reasons of transaction rows: {}", named(REASONS, &t.reasons));
     println!("group rows by what wrote them: {}", named(WRITERS, &t.writers));
     println!("notes of requests: {}; bytes changed on the shelf: {}", named(NOTES, &t.notes), t.shelved);
+    println!("entries: {}", named(MET, &t.met));
     listings(t);
 }
 

@@ -1,26 +1,40 @@
-//! Random calls on the Rust decoder, with document 01's well-formed list, demand 3, the reasons of transaction rows and the stamps of group
-//! rows tested after each; and the same on decoders with a deliberate fault, each of which must be found.
+//! Random calls on the Rust decoder, with document 01's well-formed list, demand 3, the reasons of transaction rows, the stamps of group
+//! rows and the details of change request 13 tested after each, and the last line of listings; and the same on decoders and last lines with a
+//! deliberate fault, each of which must be found.
 
+use std::collections::BTreeSet;
 use std::panic::{AssertUnwindSafe, catch_unwind};
+use std::sync::Arc;
 
-use crate::calls::{Calls, EndpointView, GROUPS, LOGS, Mechanism, PACKETS, Rows, Stamp, TRANSACTIONS, TransactionView, View};
-use crate::generate::{KINDS, Random, generate};
+use crate::calls::{
+    Calls, EndpointView, GROUPS, LOGS, Mechanism, PACKETS, REQUESTS, Rows, Stamp, TRANSACTIONS, TransactionView, View,
+};
+use crate::capture::{Detail, DeviceData, Met, Request};
+use crate::descriptors::{Entry, Kind, kind};
+use crate::generate::{EXTRA, KINDS, Random, generate};
+use crate::listing::{last_line, listing, rows};
 use crate::storage::Mark;
-use crate::trace::{Clock, Reader, Record, call};
-use crate::usb::reason_of;
+use crate::trace::{Clock, HEADER, Reader, Record, call, count_details, run};
+use crate::usb::{Direction, EndpointAddr, EndpointNum, EndpointType, reason_of};
 
 include!(concat!(env!("OUT_DIR"), "/mutants.rs"));
 
 /// Runs so many calls, trace after trace: how many were run, or the first fault.
 pub fn check<M: Mechanism>(seed: u64, calls: u64) -> Result<u64, String> {
+    check_by(seed, calls, check_trace::<M>)
+}
+
+/// The same with a check of one trace, which tells how many calls it ran.
+fn check_by(seed: u64, calls: u64, one: impl Fn(&[u8], Rows) -> Result<u64, String>) -> Result<u64, String> {
+    let kinds = [&KINDS[..], &EXTRA].concat();
     let mut random = Random::new(seed);
     let mut done = 0;
     while done < calls {
-        let (kind, seed) = (KINDS[random.below(KINDS.len() as u64) as usize].0, random.next());
+        let (kind, seed) = (random.pick(&kinds).0, random.next());
         let records = random.below(400) + 1;
         let room = if random.chance(30) { small(&mut random) } else { Rows::LARGEST };
         let trace = generate(seed, records, kind).expect("a kind of the list");
-        let run = catch_unwind(AssertUnwindSafe(|| check_trace::<M>(&trace, room)));
+        let run = catch_unwind(AssertUnwindSafe(|| one(&trace, room)));
         match run {
             Ok(Ok(count)) => done += count,
             Ok(Err(fault)) => return Err(format!("{fault} (trace {kind} {seed} of {records} records, after {done} calls)")),
@@ -44,13 +58,14 @@ fn check_trace<M: Mechanism>(trace: &[u8], room: Rows) -> Result<u64, String> {
         return Ok(1);
     }
     let mut history = History::default();
+    let mut given = Given::default();
     let mut reader = Reader::new(trace);
     let mut clock = Clock::default();
     let mut count = 0;
     well_formed(&calls, &room)?;
     while let Some(record) = reader.next() {
         let record = record.map_err(|r| format!("a trace of ours is refused with {}", r.answer))?;
-        let before = (calls.rows(), calls.machine.view());
+        let before = (calls.rows(), calls.machine.view(), known(&calls));
         let answer = call(&mut calls, &mut clock, &record);
         count += 1;
         match answer {
@@ -59,9 +74,12 @@ fn check_trace<M: Mechanism>(trace: &[u8], room: Rows) -> Result<u64, String> {
                 history.follow(&calls, ends_groups)?;
                 let reason = if let Record::Packet { bytes, .. } = record { reason_of(bytes) } else { 0 };
                 reasons_carried(&calls, &before.0, reason)?;
+                given.follow(&calls, &record, &before.0, before.2)?;
             }
             1 | 2 => return Err(format!("answer {answer} to a call on a record that calls left")),
-            _ if before != (calls.rows(), calls.machine.view()) => return Err(format!("answer {answer} changed something")),
+            _ if before != (calls.rows(), calls.machine.view(), known(&calls)) => {
+                return Err(format!("answer {answer} changed something"));
+            }
             _ => {}
         }
         well_formed(&calls, &room).map_err(|fault| format!("{fault}, after record {count}, answer {answer}"))?;
@@ -74,6 +92,7 @@ fn check_trace<M: Mechanism>(trace: &[u8], room: Rows) -> Result<u64, String> {
         finish_told(&calls, &before)?;
         history.follow(&calls, false)?;
     }
+    last_line_told(trace, &listing::<M>(trace, usize::MAX, room, 0))?;
     Ok(count + 1)
 }
 
@@ -92,6 +111,123 @@ fn finish_told<M: Mechanism>(calls: &Calls<M>, before: &Rows) -> Result<(), Stri
     hold(behind_packet || rows.0[GROUPS] == before.0[GROUPS], || {
         "finish writes a group row behind an event or nothing".to_string()
     })
+}
+
+// ---- change request 13
+
+/// Type and size of the 32 entries of each device.
+type Known = Vec<[(Option<EndpointType>, Option<usize>); 32]>;
+
+fn devices<M: Mechanism>(calls: &Calls<M>) -> Vec<Arc<DeviceData>> {
+    calls.machine.capture().shared.device_data.load().values().cloned().collect()
+}
+
+fn known<M: Mechanism>(calls: &Calls<M>) -> Known {
+    devices(calls).iter().map(|device| device.details.borrow().map(|entry| (entry.kind, entry.max))).collect()
+}
+
+/// The entries that descriptors gave, by the device's row and the place, reckoned from the requests that completed. No rule looks at it.
+#[derive(Default)]
+struct Given(BTreeSet<(usize, usize)>);
+
+impl Given {
+    /// An accepted call: a detail sets its entry, unless it was given, and no other; a request that completes sets what it gives, whatever was there.
+    fn follow<M: Mechanism>(&mut self, calls: &Calls<M>, record: &Record, before: &Rows, mut was: Known) -> Result<(), String> {
+        if let Record::Detail { address, number, direction, kind, max } = *record {
+            let device = calls.machine.device(address).ok_or("a detail is accepted for an address with no device")?;
+            let row = devices(calls).iter().position(|d| Arc::ptr_eq(d, &device)).expect("a device that has a row");
+            let place = Detail::place(EndpointAddr::from_parts(EndpointNum(number), Direction::from(direction)));
+            if !self.0.contains(&(row, place)) {
+                was[row][place] = (Some(EndpointType::from(kind)), Some(max as usize).filter(|max| *max != 0));
+            }
+            return hold(known(calls) == was, || format!("a detail for place {place} of device {row} does something else"));
+        }
+        let requests = calls.machine.capture().shared.requests.rows.borrow()[before.0[REQUESTS] as usize..].to_vec();
+        requests.iter().try_for_each(|request| self.request(calls, request))
+    }
+
+    fn request<M: Mechanism>(&mut self, calls: &Calls<M>, request: &Request) -> Result<(), String> {
+        let row = calls.machine.capture().endpoints.rows[request.endpoint as usize].device_id().value as usize;
+        let (entries, chosen) = devices(calls)[row].read();
+        let sets = |e: &&Entry| match kind(&request.setup) {
+            Kind::SetConfiguration(value) => (e.value, e.alternate) == (value, 0),
+            Kind::SetInterface(interface, alternate) => {
+                (Some(e.value), e.interface, e.alternate) == (chosen, interface, alternate)
+            }
+            _ => false,
+        };
+        let now = &known(calls)[row];
+        if request.note % 4 == 1 {
+            self.0.insert((row, 0));
+            hold(now[0].1.unwrap_or(0) as u64 == request.note / 4, || {
+                format!("device {row}: a size that its descriptor has not")
+            })?;
+        }
+        // Of two for one endpoint the later counts.
+        let mut told = BTreeSet::new();
+        for e in entries.iter().filter(sets).rev() {
+            let place = Detail::place(e.place());
+            self.0.insert((row, place));
+            let as_given = now[place] == (Some(e.kind()), Some(e.max() as usize).filter(|max| *max != 0));
+            hold(!told.insert(place) || as_given, || format!("place {place} of device {row} is not as its descriptor gives it"))?;
+        }
+        Ok(())
+    }
+}
+
+/// The detail records of a trace that is whole, by its bytes alone.
+fn details_of(trace: &[u8]) -> u64 {
+    let (mut at, mut count) = (HEADER, 0);
+    while at < trace.len() {
+        count += (trace[at] == 2) as u64;
+        at += 7 + if trace[at] == 0 { trace[at + 5] as usize + 256 * trace[at + 6] as usize } else { 0 };
+    }
+    count
+}
+
+/// A listing ends with one line of details, if its trace has any, and has no other; the line of a refusal stands alone.
+fn last_line_told(trace: &[u8], listing: &str) -> Result<(), String> {
+    let found: Vec<(usize, &str)> = listing.lines().enumerate().filter(|(_, line)| line.starts_with("details")).collect();
+    let expected = match (listing.starts_with("refused "), details_of(trace)) {
+        (true, _) => hold(listing.lines().count() == 1, || "a refusal with other lines".to_string()).map(|()| Vec::new())?,
+        (false, 0) => Vec::new(),
+        (false, count) => vec![(listing.lines().count() - 1, format!("details {count}"))],
+    };
+    let same = found.iter().map(|(i, line)| (*i, line.to_string())).eq(expected.iter().cloned());
+    hold(same, || format!("lines of details {found:?}, and not {expected:?}"))
+}
+
+type LastLine = fn(&[u8], &Met) -> String;
+
+/// Wrong last lines.
+const LAST_LINES: [(&str, LastLine); 5] = [
+    ("details_line_packets", |trace, _| last_line(tagged(trace, 0))),
+    ("details_line_records", |trace, _| last_line((0..3).map(|tag| tagged(trace, tag)).sum())),
+    ("details_line_obeyed", |_, met| last_line(met.obeyed)),
+    ("details_line_for_0", |trace, _| format!("details {}\n", count_details(trace))),
+    ("details_line_missing", |_, _| String::new()),
+];
+
+fn tagged(trace: &[u8], tag: u8) -> u64 {
+    let mut reader = Reader::new(trace);
+    let mut count = 0;
+    while let Some(Ok(record)) = reader.next() {
+        let own = match record {
+            Record::Packet { .. } => 0,
+            Record::Event { .. } => 1,
+            Record::Detail { .. } => 2,
+        };
+        count += (own == tag) as u64;
+    }
+    count
+}
+
+/// The rows of a trace with a last line of this kind.
+fn check_last_line(last: LastLine, trace: &[u8], room: Rows) -> Result<u64, String> {
+    if let Ok(calls) = run::<crate::decoder::machine::Machine>(trace, room, 0) {
+        last_line_told(trace, &(rows(&calls) + &last(trace, &calls.met())))?;
+    }
+    Ok(1)
 }
 
 // ---- well formed, by 01's list
@@ -315,7 +451,9 @@ pub fn report(calls: u64) -> bool {
     }
     // A faulty decoder may fail the Rust's own assert; that is found too, and its message is not wanted.
     std::panic::set_hook(Box::new(|_| {}));
-    for (name, found) in each(seed, calls) {
+    let lines =
+        LAST_LINES.map(|(name, last)| (name, check_by(seed, calls.min(1000), |trace, room| check_last_line(last, trace, room))));
+    for (name, found) in each(seed, calls).into_iter().chain(lines) {
         match found {
             Err(fault) => println!("mutant {name}: found: {fault}"),
             Ok(done) => {

@@ -76,6 +76,19 @@ impl<'a> Reader<'a> {
     }
 }
 
+/// The detail records of a trace, up to the first record that can't be read: what its listing's last line tells (change request 13).
+pub fn count_details(trace: &[u8]) -> u64 {
+    if header(trace).is_err() {
+        return 0;
+    }
+    let mut reader = Reader::new(trace);
+    let mut count = 0;
+    while let Some(Ok(record)) = reader.next() {
+        count += matches!(record, Record::Detail { .. }) as u64;
+    }
+    count
+}
+
 /// The time of each record that has ticks: the first is its ticks, each later one adds the difference modulo 2^32, modulo 2^64.
 #[derive(Copy, Clone, PartialEq, Default, Debug)]
 pub struct Clock {

@@ -1,5 +1,5 @@
-//! The traces of the repository: 01's bench cases, the sequences where readers slip, enumerations, and small traces of every kind, each
-//! with the listing that it must give. A port replays them with no Rust at hand.
+//! The traces of the repository: 01's bench cases, the sequences where readers slip, enumerations, details beside descriptors, and small traces of
+//! every kind, each with the listing that it must give. A port replays them with no Rust at hand.
 
 use std::fs;
 use std::path::Path;
@@ -11,6 +11,7 @@ use crate::generate::{KINDS, generate};
 use crate::listing::{BUFFER, listing};
 use crate::packets::{data, handshake, sof, split, token};
 use crate::trace::Writer;
+use crate::typed;
 use crate::usb::PID;
 
 /// Sequences by name. `script` says how they are written.
@@ -154,6 +155,7 @@ pub fn all() -> Vec<(String, Vec<u8>)> {
     let mut traces: Vec<_> = SEQUENCES.iter().map(|(name, text)| (name.to_string(), written(text))).collect();
     traces.extend(byte_traces());
     traces.extend(enumerations::all());
+    traces.extend(typed::all());
     for (kind, _) in KINDS {
         for seed in 1..=2 {
             traces.push((format!("{kind}-seed{seed}"), generate(seed, 60, kind).expect("a kind of the list")));

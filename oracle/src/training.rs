@@ -179,7 +179,8 @@ const STUDENT: &str = "    student  ";
 const FIRST: &str = "line ";
 
 /// The lines of a listing begin with one of these. What the page has as code in a sentence, and begins with one, must begin a line of a listing.
-const KINDS: [&str; 10] = ["device", "endpoint", "packet", "event", "transaction", "group", "state", "item", "link", "request"];
+const KINDS: [&str; 11] =
+    ["device", "endpoint", "packet", "event", "transaction", "group", "state", "item", "link", "request", "details"];
 
 /// A mistake's part of the page.
 struct Part {

@@ -1,7 +1,7 @@
-//! Blocks of records (change request 3) on the oracle. What is expected here is written from documents 01 and 02 by hand.
+//! Blocks of records (change requests 3 and 13) on the oracle. What is expected here is written from documents 01 and 02 by hand.
 
 use oracle::blocks::{Block, block};
-use oracle::calls::{Calls, Rows};
+use oracle::calls::{Calls, Mechanism, Rows};
 use oracle::decoder::machine::Machine;
 use oracle::trace::{Clock, HEADER, Writer};
 
@@ -68,11 +68,12 @@ fn stops() {
             t.packet(9, &ACK);
         })
     };
-    let cases: [(u8, fn(&mut Writer)); 5] = [
+    let cases: [(u8, fn(&mut Writer)); 6] = [
         (3, |t| t.packet(7, &[0; 4097])),
         (4, |t| t.event(7, 8, 0)),
-        (5, |t| t.detail(0, 16, 0, 2, 64)),
-        (6, |t| t.detail(99, 1, 0, 2, 64)),
+        (20, |t| t.detail(0, 1, 0, 2, 64)),
+        (20, |t| t.detail(0, 16, 0, 2, 64)),
+        (20, |t| t.detail(99, 1, 0, 2, 64)),
         (12, |t| t.bytes.push(3)),
     ];
     for (number, write) in cases {
@@ -92,17 +93,46 @@ fn cut() {
     let whole = records(|t| {
         t.packet(1, &ACK);
         t.event(2, 7, 0);
-        t.detail(0, 1, 0, 2, 64);
         t.packet(3, &SPLIT);
     });
-    let ends = [PACKET, PACKET + EVENT, PACKET + 2 * EVENT, whole.len()];
+    let ends = [PACKET, PACKET + EVENT, whole.len()];
     for length in 0..=whole.len() {
         let taken = ends.iter().filter(|end| **end <= length).count();
         let place = if taken == 0 { 0 } else { ends[taken - 1] };
-        let clock = [Clock::default(), Clock::at(1, 1), Clock::at(2, 2), Clock::at(2, 2), Clock::at(3, 3)][taken];
+        let clock = [Clock::default(), Clock::at(1, 1), Clock::at(2, 2), Clock::at(3, 3)][taken];
         let answer = if place == length { 0 } else { 13 };
         let found = block(&mut fresh(), Clock::default(), &whole[..length]);
         assert_eq!(found, Block { answer, taken: taken as u64, eights: 0, place, clock }, "{length} bytes");
+    }
+}
+
+/// A detail stops its block with 20, and nothing of it happens: wherever it stands, and whether its call would be refused or not. Cut short it is 13, and
+/// the next block that has it whole answers 20.
+#[test]
+fn detail() {
+    let detail = records(|t| t.detail(0, 1, 0, 1, 64));
+    let (packet, out) = (records(|t| t.packet(1, &ACK)), records(|t| t.packet(2, &[0xE1, 0x80, 0xA0])));
+    let cases = [
+        (detail.clone(), Block { answer: 20, taken: 0, eights: 0, place: 0, clock: Clock::default() }),
+        ([&detail[..], &packet].concat(), Block { answer: 20, taken: 0, eights: 0, place: 0, clock: Clock::default() }),
+        ([&packet[..], &detail].concat(), answer(20, 1, 0, PACKET, (1, 1))),
+        ([&packet[..], &detail, &packet, &detail].concat(), answer(20, 1, 0, PACKET, (1, 1))),
+    ];
+    for (bytes, expected) in cases {
+        let mut calls = fresh();
+        let first = block(&mut calls, Clock::default(), &bytes);
+        assert_eq!(first, expected);
+        assert_eq!(calls.machine.device(0).expect("the first device").told()[1], (4, 0), "nothing of it happens");
+        // To call again at that record is 20 again; what stands behind it can be called.
+        assert_eq!(block(&mut calls, first.clock, &bytes[first.place..]), Block { answer: 20, taken: 0, place: 0, ..expected });
+        assert_eq!(block(&mut calls, first.clock, &out).answer, 0);
+        assert_eq!(calls.rows().0[3], expected.taken + 1);
+    }
+    for length in 1..detail.len() {
+        let mut calls = fresh();
+        let cut = block(&mut calls, Clock::default(), &[&packet[..], &detail[..length]].concat());
+        assert_eq!(cut, answer(13, 1, 0, PACKET, (1, 1)), "{length} bytes");
+        assert_eq!(block(&mut calls, cut.clock, &detail), answer(20, 0, 0, 0, (1, 1)));
     }
 }
 
@@ -118,14 +148,16 @@ fn eight() {
     assert_eq!(block(&mut fresh(), Clock::default(), &bytes), answer(0, 4, 1, bytes.len(), (4, 4)));
 }
 
-/// 12 and 13 come before the record's own call, so before 1 and 2.
+/// 12, 13 and 20 come before the record's own call, so before 1 and 2.
 #[test]
 fn order() {
     let mut finished = fresh();
     assert_eq!(finished.finish(), 0);
     let mut refused = Calls::<Machine>::new(Rows([0; 12]), 0, false);
     for (calls, own) in [(&mut finished, 2), (&mut refused, 1)] {
-        for (bytes, number) in [(&[3][..], 12), (&[0][..], 13), (&records(|t| t.packet(1, &ACK))[..], own)] {
+        let detail = records(|t| t.detail(0, 1, 0, 2, 64));
+        let packet = records(|t| t.packet(1, &ACK));
+        for (bytes, number) in [(&[3][..], 12), (&[0][..], 13), (&detail[..6], 13), (&detail, 20), (&packet, own)] {
             let stopped = Block { answer: number, taken: 0, eights: 0, place: 0, clock: Clock::default() };
             assert_eq!(block(calls, Clock::default(), bytes), stopped);
         }

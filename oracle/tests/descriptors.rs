@@ -236,15 +236,13 @@ fn devices() {
     assert_eq!(then(&joined(&[set_address(5), set_configuration(5, 1)])), UNKNOWN);
     // Another address is another device.
     assert_eq!(then(&joined(&[read_configuration(6, &disk(1, 8)), set_configuration(6, 1)])), (2, 64));
-    // A detail call replaces a descriptor's, and a SET that of a detail call; a split does not replace it.
-    assert_eq!(then("detail 5 2 0 3 8"), (3, 8));
-    assert_eq!(then(&format!("detail 5 2 0 3 8; {}", set_configuration(5, 1))), (2, 64));
+    // A split's type does not replace a descriptor's. (Of details tests/typed.rs tells.)
     assert_eq!(then("SPLIT start int; OUT 5 2"), (2, 64));
     // A split's type gives way to a descriptor.
     assert_eq!(detail(&format!("SPLIT start int; OUT 5 2; DATA0 *8; {chosen}"), 0x02), (2, 64));
     // What a descriptor gave is known as such.
     let given = |text: &str| after(text).machine.device(5).expect("a device").details.borrow()[2].given;
-    assert!(given(&chosen) && !given(&format!("{chosen}; detail 5 2 0 3 8")));
+    assert!(given(&chosen) && !given("detail 0 2 0 3 8; OUT 5 2; SPLIT start int; OUT 5 2"));
 }
 
 /// A short packet ends its group where the max came from a descriptor, with no detail call.

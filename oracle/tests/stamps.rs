@@ -1,10 +1,9 @@
 //! What change request 9 adds to a group row, the packet number and the time of the call that wrote it, with what is expected written by hand.
 
-use oracle::blocks::block;
 use oracle::calls::{Calls, GROUPS, Rows};
 use oracle::decoder::machine::Machine;
 use oracle::listing::listing;
-use oracle::trace::{Clock, HEADER, run};
+use oracle::trace::{Clock, Reader, call, run};
 use oracle::traces::{SEQUENCES, written};
 
 /// The group rows of calls: endpoint, group, start, packet, time.
@@ -16,7 +15,10 @@ fn rows(calls: &Calls<Machine>) -> Vec<[u64; 5]> {
 fn both(name: &str) -> (Vec<[u64; 5]>, Vec<[u64; 5]>) {
     let trace = written(SEQUENCES.iter().find(|(n, _)| *n == name).expect("a sequence").1);
     let mut calls = Calls::new(Rows::LARGEST, 0, false);
-    block(&mut calls, Clock::default(), &trace[HEADER..]);
+    let (mut reader, mut clock) = (Reader::new(&trace), Clock::default());
+    while let Some(record) = reader.next() {
+        assert_eq!(call(&mut calls, &mut clock, &record.expect("a record")), 0);
+    }
     (rows(&run(&trace, Rows::LARGEST, 0).ok().expect("a trace that is not refused")), rows(&calls))
 }
 

@@ -1,6 +1,6 @@
 -- Inner (cited by private contracts alone): one round of a block's loop, packets and the record behind them, and what the rounds come to.
 use Prim.Native.Nat.{ℕ, _+_, _^_, _≤_, _<_}
-use mathlib.Core.Bool.{true, false, cond}
+use mathlib.Core.Bool.{Bool, true, false, cond}
 use mathlib.Core.List.{List}
 use mathlib.Core.Path.{_≡_}
 use lib.Dec.{eqb}
@@ -64,6 +64,6 @@ abbrev pub takenOf : Run → Taken
 takenOf r = record { answer = r .answer; taken = r .taken; eights = r .eights; place = r .place; clock = r .clock; decoder = r .decoder; devices = r .devices }
 
 -- records from `at` on, at least one where the block goes on
-pub record Rounds (t : List ℕ) (at : ℕ) (c : Clock) (s : Stand) (r : Run) (table : List ℕ) (l : Logs) (h : List ℕ) : Type 0 where
-  pub runs : Runs t at c s r table l h
+pub record Rounds (typed : Bool) (t : List ℕ) (at : ℕ) (c : Clock) (s : Stand) (r : Run) (table : List ℕ) (l : Logs) (h : List ℕ) : Type 0 where
+  pub runs : Runs typed t at c s r table l h
   pub further : r .going ≡ true → (at < r .place) × (r .place ≤ length t)

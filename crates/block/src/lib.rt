@@ -12,6 +12,7 @@ use record::Decoder;
 use shelving::Shelf;
 use sound::is_sound;
 use trace::clock::Clock;
+ghost use mathlib.Core.Bool.{false};
 ghost use mathlib.Core.Path.{_≡_};
 ghost use Rattle.call.specs.State.{state, logs};
 ghost use Rattle.step.specs.Block.{stand, Takes};
@@ -31,8 +32,10 @@ pub struct Taken {
 }
 
 // The records from the place `at` on, up to the first that is refused or to the end. Whether the record is sound is tested once, and calls keep it so: packets then
-// go by the inner call. All else goes by the public calls: other records, packets that are refused before they are looked at, and a record that is not sound.
+// go by the inner call. All else goes by a call of its own: other records, packets that are refused before they are looked at, and a record that is not sound.
+// `typed` says whether a detail is obeyed, as in a trace, or refused with 20, as in a block (02, 13).
 pub fn records(
+    typed: bool,
     d: Decoder,
     devices: [Device; 64],
     clock: Clock,
@@ -53,7 +56,7 @@ pub fn records(
     requests: &mut [u64],
     shelf: &mut Shelf,
 ) -> Taken
-    ensures { λ r. ⌜ Takes (now (records .entry)) at clock (stand (state d devices (now (table .entry)) (logs (now (bytes .entry)) (now («device_rows» .entry)) (now («endpoint_rows» .entry)) (now (packets .entry)) (now (events .entry)) (now (transactions .entry)) (now (groups .entry)) (now (statebytes .entry)) (now (states .entry)) (now (items .entry)) (now (links .entry)) (now (requests .entry)))) (now (shelf .entry))) (r .taken) (r .eights) (r .answer) (r .place) (r .clock) (stand (state (r .decoder) (r .devices) (now (table .exit)) (logs (now (bytes .exit)) (now («device_rows» .exit)) (now («endpoint_rows» .exit)) (now (packets .exit)) (now (events .exit)) (now (transactions .exit)) (now (groups .exit)) (now (statebytes .exit)) (now (states .exit)) (now (items .exit)) (now (links .exit)) (now (requests .exit)))) (now (shelf .exit))) ⌝ }
+    ensures { λ r. ⌜ Takes typed (now (records .entry)) at clock (stand (state d devices (now (table .entry)) (logs (now (bytes .entry)) (now («device_rows» .entry)) (now («endpoint_rows» .entry)) (now (packets .entry)) (now (events .entry)) (now (transactions .entry)) (now (groups .entry)) (now (statebytes .entry)) (now (states .entry)) (now (items .entry)) (now (links .entry)) (now (requests .entry)))) (now (shelf .entry))) (r .taken) (r .eights) (r .answer) (r .place) (r .clock) (stand (state (r .decoder) (r .devices) (now (table .exit)) (logs (now (bytes .exit)) (now («device_rows» .exit)) (now («endpoint_rows» .exit)) (now (packets .exit)) (now (events .exit)) (now (transactions .exit)) (now (groups .exit)) (now (statebytes .exit)) (now (states .exit)) (now (items .exit)) (now (links .exit)) (now (requests .exit)))) (now (shelf .exit))) ⌝ }
 {
     let room = room_of(
         bytes.len(),
@@ -74,6 +77,7 @@ pub fn records(
     let mut run = none_yet(d, devices, clock, at);
     loop {
         let more = round(
+            typed,
             ready,
             run,
             records,
@@ -99,7 +103,7 @@ pub fn records(
     }
 }
 
-// A block of records without header, from its first byte on; the tick state before it is passed in.
+// A block of records without header, from its first byte on; the tick state before it is passed in. A detail in it is refused.
 pub fn block(
     d: Decoder,
     devices: [Device; 64],
@@ -120,9 +124,10 @@ pub fn block(
     requests: &mut [u64],
     shelf: &mut Shelf,
 ) -> Taken
-    ensures { λ r. ⌜ Takes (now (block .entry)) 0 clock (stand (state d devices (now (table .entry)) (logs (now (bytes .entry)) (now («device_rows» .entry)) (now («endpoint_rows» .entry)) (now (packets .entry)) (now (events .entry)) (now (transactions .entry)) (now (groups .entry)) (now (statebytes .entry)) (now (states .entry)) (now (items .entry)) (now (links .entry)) (now (requests .entry)))) (now (shelf .entry))) (r .taken) (r .eights) (r .answer) (r .place) (r .clock) (stand (state (r .decoder) (r .devices) (now (table .exit)) (logs (now (bytes .exit)) (now («device_rows» .exit)) (now («endpoint_rows» .exit)) (now (packets .exit)) (now (events .exit)) (now (transactions .exit)) (now (groups .exit)) (now (statebytes .exit)) (now (states .exit)) (now (items .exit)) (now (links .exit)) (now (requests .exit)))) (now (shelf .exit))) ⌝ }
+    ensures { λ r. ⌜ Takes false (now (block .entry)) 0 clock (stand (state d devices (now (table .entry)) (logs (now (bytes .entry)) (now («device_rows» .entry)) (now («endpoint_rows» .entry)) (now (packets .entry)) (now (events .entry)) (now (transactions .entry)) (now (groups .entry)) (now (statebytes .entry)) (now (states .entry)) (now (items .entry)) (now (links .entry)) (now (requests .entry)))) (now (shelf .entry))) (r .taken) (r .eights) (r .answer) (r .place) (r .clock) (stand (state (r .decoder) (r .devices) (now (table .exit)) (logs (now (bytes .exit)) (now («device_rows» .exit)) (now («endpoint_rows» .exit)) (now (packets .exit)) (now (events .exit)) (now (transactions .exit)) (now (groups .exit)) (now (statebytes .exit)) (now (states .exit)) (now (items .exit)) (now (links .exit)) (now (requests .exit)))) (now (shelf .exit))) ⌝ }
 {
     records(
+        false,
         d,
         devices,
         clock,

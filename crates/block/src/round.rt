@@ -99,8 +99,9 @@ pub fn taken_of(run: Run) -> Taken
     }
 }
 
-// The packets from where `run` ends, and the record behind them. Where `ready` is false, that record alone.
+// The packets from where `run` ends, and the record behind them. Where `ready` is false, that record alone. `typed` says whether a detail is obeyed.
 pub fn round(
+    typed: bool,
     ready: bool,
     run: Run,
     records: &[u8],
@@ -120,7 +121,7 @@ pub fn round(
     shelf: &mut Shelf,
 ) -> Run
     requires { ⌜ Fits ready (state (run .decoder) (run .devices) (now table) (logs (now bytes) (now «device_rows») (now «endpoint_rows») (now packets) (now events) (now transactions) (now groups) (now statebytes) (now states) (now items) (now links) (now requests))) ⌝ }
-    ensures { λ r. ⌜ Rounds (now (records .entry)) (run .place) (run .clock) (stand (state (run .decoder) (run .devices) (now (table .entry)) (logs (now (bytes .entry)) (now («device_rows» .entry)) (now («endpoint_rows» .entry)) (now (packets .entry)) (now (events .entry)) (now (transactions .entry)) (now (groups .entry)) (now (statebytes .entry)) (now (states .entry)) (now (items .entry)) (now (links .entry)) (now (requests .entry)))) (now (shelf .entry))) r (now (table .exit)) (logs (now (bytes .exit)) (now («device_rows» .exit)) (now («endpoint_rows» .exit)) (now (packets .exit)) (now (events .exit)) (now (transactions .exit)) (now (groups .exit)) (now (statebytes .exit)) (now (states .exit)) (now (items .exit)) (now (links .exit)) (now (requests .exit))) (now (shelf .exit)) ⌝ }
+    ensures { λ r. ⌜ Rounds typed (now (records .entry)) (run .place) (run .clock) (stand (state (run .decoder) (run .devices) (now (table .entry)) (logs (now (bytes .entry)) (now («device_rows» .entry)) (now («endpoint_rows» .entry)) (now (packets .entry)) (now (events .entry)) (now (transactions .entry)) (now (groups .entry)) (now (statebytes .entry)) (now (states .entry)) (now (items .entry)) (now (links .entry)) (now (requests .entry)))) (now (shelf .entry))) r (now (table .exit)) (logs (now (bytes .exit)) (now («device_rows» .exit)) (now («endpoint_rows» .exit)) (now (packets .exit)) (now (events .exit)) (now (transactions .exit)) (now (groups .exit)) (now (statebytes .exit)) (now (states .exit)) (now (items .exit)) (now (links .exit)) (now (requests .exit))) (now (shelf .exit)) ⌝ }
 {
     let devices = run.devices;
     let p = run_packets(
@@ -150,6 +151,7 @@ pub fn round(
     }
     let kept = p.devices;
     let q = single_step(
+        typed,
         record_at(records, p.place),
         records,
         p.place,

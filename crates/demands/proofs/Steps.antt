@@ -11,7 +11,7 @@ use Rattle.record.specs.RoomLaws.{Roomy}
 use Rattle.call.specs.Outcome.{isIll, countsAfter, Left, Answers, accepts, worldAt}
 use Rattle.call.specs.OutcomeLaws.{sound}
 use Rattle.call.specs.State.{State, roomOf}
-use Rattle.start.specs.Detail.{Details}
+use Rattle.typed.specs.Detail.{Details}
 use Rattle.packet.specs.Call.{testsOf}
 use Rattle.events.specs.Call.{eventTestsOf, finishTestsOf}
 use Rattle.sound.proofs.Keeps.{passed, room-left, detail-room}

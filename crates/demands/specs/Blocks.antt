@@ -1,6 +1,8 @@
 -- Laws (proved): demand 3 over blocks (02, change request 3): what a block leaves of a sequence of calls is a sequence of calls, so all that is claimed of
--- sequences (Sequence, Meets) is so behind blocks; and no block on such a state answers 1. proofs/Blocks.antt proves it.
+-- sequences (Sequence, Meets) is so behind blocks; and no block on such a state answers 1. It is so of blocks that refuse details and of old traces, which obey them (02, 13).
+-- proofs/Blocks.antt proves it.
 use Prim.Native.Nat.{ℕ}
+use mathlib.Core.Bool.{Bool}
 use mathlib.Core.Path.{_≡_}
 use mathlib.Core.List.{List, _++_}
 use Rattle.rules.specs.Rows.{Row}
@@ -15,7 +17,7 @@ pub record Continues (js : List Row) (s : State) : Type 0 where
   pub sequence : Sequence (rows ++ js) s
 
 pub record Blocks : Type 0 where
-  pub sequence : {t : List ℕ} {at n e a p : ℕ} {c c′ : Clock} {s s′ : Stand} {js : List Row} → Sequence js (s .state) → Takes t at c s n e a p c′ s′ → Continues js (s′ .state)
+  pub sequence : {typed : Bool} {t : List ℕ} {at n e a p : ℕ} {c c′ : Clock} {s s′ : Stand} {js : List Row} → Sequence js (s .state) → Takes typed t at c s n e a p c′ s′ → Continues js (s′ .state)
   -- demand 3, well formed, and the rest of it
-  pub meets : {t : List ℕ} {at n e a p : ℕ} {c c′ : Clock} {s s′ : Stand} {js : List Row} (q : Sequence js (s .state)) (x : Takes t at c s n e a p c′ s′) → Meets (sequence q x .rows ++ js) (s′ .state)
-  pub never-1 : {t : List ℕ} {at n e a p : ℕ} {c c′ : Clock} {s s′ : Stand} {js : List Row} → Sequence js (s .state) → Takes t at c s n e a p c′ s′ → ¬ (a ≡ 1)
+  pub meets : {typed : Bool} {t : List ℕ} {at n e a p : ℕ} {c c′ : Clock} {s s′ : Stand} {js : List Row} (q : Sequence js (s .state)) (x : Takes typed t at c s n e a p c′ s′) → Meets (sequence q x .rows ++ js) (s′ .state)
+  pub never-1 : {typed : Bool} {t : List ℕ} {at n e a p : ℕ} {c c′ : Clock} {s s′ : Stand} {js : List Row} → Sequence js (s .state) → Takes typed t at c s n e a p c′ s′ → ¬ (a ≡ 1)

@@ -22,7 +22,7 @@ use Rattle.rules.specs.Rows.{Row, E, log}
 use Rattle.rules.specs.World.{eventEp, phase}
 use Rattle.call.specs.Outcome.{isIll, accepts, worldAt}
 use Rattle.call.specs.State.{Logs, State, logAt, countAt}
-use Rattle.start.specs.Detail.{Details}
+use Rattle.typed.specs.Detail.{Details}
 use Rattle.start.specs.Fresh.{Makes}
 use Rattle.packet.specs.Call.{PacketCall}
 use Rattle.events.specs.Call.{EventCall, FinishCall}

@@ -59,10 +59,13 @@ withType d address k =
 abbrev pub detailEntry : ℕ → ℕ → ℕ
 detailEntry number direction = cond (eqb number 0) 0 (number + 16 * direction)
 
--- a detail call sets both; what a descriptor gave stays marked as given
+-- 02, 13: "obeyed as before unless a descriptor has already given that endpoint's details, which no detail overrides"
+abbrev pub obeyed : Device → ℕ → ℕ → Bool
+obeyed d number direction = not (stored d (detailEntry number direction) .given)
+
+-- a detail call sets both
 unfoldable pub withDetail : Device → ℕ → ℕ → ℕ → ℕ → Device
-withDetail d number direction k m =
-    change d (detailEntry number direction) (record { kind = k; given = stored d (detailEntry number direction) .given; max = m })
+withDetail d number direction k m = cond (obeyed d number direction) (change d (detailEntry number direction) (record { kind = k; given = false; max = m })) d
 
 -- 02, 2 and 13: a descriptor sets both, and that it gave them
 unfoldable pub withGiven : Device → ℕ → ℕ → ℕ → ℕ → Device

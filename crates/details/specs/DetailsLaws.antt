@@ -6,7 +6,7 @@ use lib.ListN.{length, length-set}
 use lib.Seq.{getD-set-same, getD-set-other}
 use Rattle.details.specs.declared.Detail.{Detail}
 use Rattle.details.specs.declared.Device.{Device}
-use Rattle.details.specs.Details.{bare, entryFor, stored, change, storable, withType, detailEntry, withDetail, withGiven, fresh}
+use Rattle.details.specs.Details.{bare, entryFor, stored, change, storable, withType, detailEntry, obeyed, withDetail, withGiven, fresh}
 
 -- the device keeps its address, its configuration, its number of descriptor entries, and its number of details
 pub record Kept (d e : Device) : Type 0 where
@@ -38,23 +38,37 @@ module _ (d : Device) (address k : ℕ) where
 -- a detail call's entry and a descriptor's
 module _ (d : Device) (number direction k m : ℕ) where
   abbrev pub typedEntry : Detail
-  typedEntry = record { kind = k; given = stored d (detailEntry number direction) .given; max = m }
+  typedEntry = record { kind = k; given = false; max = m }
 
   abbrev pub givenEntry : Detail
   givenEntry = record { kind = k; given = true; max = m }
 
   pub detail-kept : Kept d (withDetail d number direction k m)
   unfolding withDetail
-  detail-kept = maybe-kept d (detailEntry number direction) typedEntry true
+  detail-kept = maybe-kept d (detailEntry number direction) typedEntry (obeyed d number direction)
 
   pub detail-other : (j : ℕ) → (j ≡ detailEntry number direction → ⊥) → stored (withDetail d number direction k m) j ≡ stored d j
   unfolding withDetail
-  detail-other j ne = maybe-other d (detailEntry number direction) typedEntry true j ne
+  detail-other j ne = maybe-other d (detailEntry number direction) typedEntry (obeyed d number direction) j ne
 
-  -- the entry itself holds both
-  pub detail-same : detailEntry number direction < length (d .details) → stored (withDetail d number direction k m) (detailEntry number direction) ≡ typedEntry
+  -- the entry itself holds both, where no descriptor gave them
+  pub detail-same : stored d (detailEntry number direction) .given ≡ false → detailEntry number direction < length (d .details)
+      → stored (withDetail d number direction k m) (detailEntry number direction) ≡ typedEntry
   unfolding withDetail
-  detail-same h = getD-set-same (d .details) (detailEntry number direction) typedEntry (bare 0) h
+  detail-same e h = rw e (getD-set-same (d .details) (detailEntry number direction) typedEntry (bare 0) h)
+
+  -- where one did, nothing changes: no detail overrides a descriptor (02, 13)
+  pub detail-given : stored d (detailEntry number direction) .given ≡ true → withDetail d number direction k m ≡ d
+  unfolding withDetail
+  detail-given e = rw e refl
+
+  -- but a descriptor overrides a detail
+  pub given-over : (k′ m′ : ℕ) → detailEntry number direction < length (d .details)
+      → stored (withGiven (withDetail d number direction k m) number direction k′ m′) (detailEntry number direction) ≡ record { kind = k′; given = true; max = m′ }
+  unfolding withGiven
+  given-over k′ m′ h =
+      let e = detail-kept .count in
+      getD-set-same (withDetail d number direction k m .details) (detailEntry number direction) (record { kind = k′; given = true; max = m′ }) (bare 0) (rw e h)
 
   pub given-kept : Kept d (withGiven d number direction k m)
   unfolding withGiven

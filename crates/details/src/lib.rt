@@ -130,18 +130,21 @@ fn detail_entry(number: u8, direction: u8) -> usize
     (number + 16 * direction) as usize
 }
 
-// A detail call sets both type and max; what a descriptor gave stays marked as given.
+// A typed-in detail sets both type and max, except where a descriptor gave them.
 pub fn set_detail(device: Device, number: u8, direction: u8, kind: u8, max: u16) -> Device
     requires { ⌜ number < 16 ⌝ }
     requires { ⌜ direction < 2 ⌝ }
     ensures { λ r. ⌜ r ≡ withDetail device number direction kind max ⌝ }
 {
     let at = detail_entry(number, direction);
-    let before = device.details[at];
+    let known = device.details[at];
+    if known.given {
+        return device;
+    }
     let mut device = device;
     device.details[at] = Detail {
         kind,
-        given: before.given,
+        given: false,
         max,
     };
     device

@@ -2,16 +2,17 @@
 -- Assumes nothing.
 use Prim.Native.Nat.{ℕ, zero, suc, _+_, _*_, _≤_, _<_}
 use native.Mathlib.Omega.{arith}
-use mathlib.Core.List.{List}
-use mathlib.Core.Path.{_≡_, refl, sym, subst}
-use lib.ListN.{length, replicate, length-replicate}
+use mathlib.Core.List.{List, _++_}
+use mathlib.Core.Path.{_≡_, refl, sym, ap, subst}
+use lib.ListN.{length, replicate, length-append, length-replicate}
 use Rattle.text.specs.Append.{Room, Appended}
-use Rattle.text.specs.Lines.{longest, refusedLine}
-use Rattle.text.specs.Lengths.{refused-fits}
+use Rattle.text.specs.Lines.{longest, detailsLine, refusedLine}
+use Rattle.text.specs.Lengths.{details-fits, refused-fits}
 use Rattle.text.specs.Words.{tooLong}
 use Rattle.record.specs.RoomLaws.{Within}
 use Rattle.record.specs.declared.Counts.{Counts}
 use Rattle.call.specs.State.{Logs, State, roomBy, roomOf}
+use Rattle.trace.specs.Details.{detailsOf}
 use Rattle.lines.specs.Listing.{listing, Counted, rowsOf}
 use Rattle.lines.specs.ListingLaws.{counted, listing-fits, listed, listing-listed}
 use Rattle.step.specs.Block.{Stand}
@@ -21,42 +22,42 @@ use Rattle.listing.specs.Shows.{Listable, Shows}
 use Rattle.listing.specs.PrintsLaws.{ran-within}
 
 -- by the answer
-pub refusal : (a p : ℕ) (n : Counts) (l : Logs) → (a ≡ 0 → ⊥) → shown a p n l ≡ refusedLine a p
-refusal zero p n l ne = absurd (ne refl)
-refusal (suc a) p n l ne = refl
+pub refusal : (a p k : ℕ) (n : Counts) (l : Logs) → (a ≡ 0 → ⊥) → shown a p k n l ≡ refusedLine a p
+refusal zero p k n l ne = absurd (ne refl)
+refusal (suc a) p k n l ne = refl
 
-pub finish : (a p : ℕ) (n : Counts) (l : Logs) → a ≡ 0 → shown a p n l ≡ listing n l
-finish zero p n l e = refl
-finish (suc a) p n l e = absurd (omega arith)
+pub finish : (a p k : ℕ) (n : Counts) (l : Logs) → a ≡ 0 → shown a p k n l ≡ listing n l ++ detailsLine k
+finish zero p k n l e = refl
+finish (suc a) p k n l e = absurd (omega arith)
 
 -- as `report` has the logs
-shown-listed : (a p : ℕ) (n : Counts) (l : Logs) → shown a p n (listed l) ≡ shown a p n l
-shown-listed zero p n l = listing-listed n l
-shown-listed (suc a) p n l = refl
+shown-listed : (a p k : ℕ) (n : Counts) (l : Logs) → shown a p k n (listed l) ≡ shown a p k n l
+shown-listed zero p k n l = ap (λ (x : List ℕ). x ++ detailsLine k) (listing-listed n l)
+shown-listed (suc a) p k n l = refl
 
 rows-within : (n room : Counts) → Within n room → rowsOf n ≤ rowsOf room
 rows-within n room w = omega arith
 
-shown-fits : (a p : ℕ) (n : Counts) (l l₀ : Logs) → (a ≡ 0 → Within n (roomOf l₀)) → length (shown a p n l) ≤ textRoom l₀
-shown-fits zero p n l l₀ h = omega (arith, listing-fits n l, rows-within n (roomOf l₀) (h refl))
-shown-fits (suc a) p n l l₀ h = omega (arith, refused-fits (suc a) p)
+shown-fits : (a p k : ℕ) (n : Counts) (l l₀ : Logs) → (a ≡ 0 → Within n (roomOf l₀)) → length (shown a p k n l) ≤ textRoom l₀
+shown-fits zero p k n l l₀ h = omega (arith, length-append (listing n l) (detailsLine k), listing-fits n l, details-fits k, rows-within n (roomOf l₀) (h refl))
+shown-fits (suc a) p k n l l₀ h = omega (arith, refused-fits (suc a) p)
 
-module _ {trace t : List ℕ} {l : Logs} {h : List ℕ} {a p : ℕ} {q : Stand} (ran : Ran trace t l h a p q) where
+module _ {trace t : List ℕ} {l : Logs} {h : List ℕ} {a p : ℕ} {q : Stand} (ran : Ran trace t l h a p q) {k : ℕ} (e : k ≡ detailsOf trace) where
   abbrev s : State
   s = q .state
 
   pub has-rows : Listable a (s .decoder .counts) (listed (s .logs))
-  has-rows e = counted (s .decoder .counts) (s .logs) (ran-within ran e)
+  has-rows z = counted (s .decoder .counts) (s .logs) (ran-within ran z)
 
   -- on logs as long as those that the run began with
-  pub text-room : (out : List ℕ) → roomOf (s .logs) ≡ roomOf l → textRoom l ≤ length out → Room out 0 (shown a p (s .decoder .counts) (listed (s .logs)))
-  text-room out k u =
-      omega (arith, shown-fits a p (s .decoder .counts) (listed (s .logs)) l (λ e. subst (Within (s .decoder .counts)) k (ran-within ran e)))
+  pub text-room : (out : List ℕ) → roomOf (s .logs) ≡ roomOf l → textRoom l ≤ length out → Room out 0 (shown a p k (s .decoder .counts) (listed (s .logs)))
+  text-room out r u =
+      omega (arith, shown-fits a p k (s .decoder .counts) (listed (s .logs)) l (λ z. subst (Within (s .decoder .counts)) r (ran-within ran z)))
 
   pub shows :
       {before after : List ℕ} {end : ℕ}
-      → Room before 0 (shown a p (s .decoder .counts) (listed (s .logs)))
-      → Appended before 0 (shown a p (s .decoder .counts) (listed (s .logs))) after end
+      → Room before 0 (shown a p k (s .decoder .counts) (listed (s .logs)))
+      → Appended before 0 (shown a p k (s .decoder .counts) (listed (s .logs))) after end
       → Shows trace t l h before after end
   shows {before} {after} {end} r x =
       record {
@@ -64,7 +65,9 @@ module _ {trace t : List ℕ} {l : Logs} {h : List ℕ} {a p : ℕ} {q : Stand} 
         place = p;
         final = q;
         ran = ran;
-        appended = rw (shown-listed a p (s .decoder .counts) (s .logs)) at x;
+        appended =
+            subst (λ (m : ℕ). Appended before 0 (shown a p m (s .decoder .counts) (s .logs)) after end) e
+            (subst (λ (text : List ℕ). Appended before 0 text after end) (shown-listed a p k (s .decoder .counts) (s .logs)) x);
         within = omega (arith, x .place);
       }
 
@@ -87,9 +90,9 @@ pub too-long :
 too-long h r x = record { text = tooLong; prints = Prints.long h; appended = x; within = omega (arith, own-room, x .place) }
 
 pub printed : {trace before after : List ℕ} {end : ℕ} → length trace ≤ mostInput → Shows trace noTable noRows noShelf before after end → Printed trace before after end
-printed h x =
+printed {trace} h x =
     record {
-      text = shown (x .answer) (x .place) (x .final .state .decoder .counts) (x .final .state .logs);
+      text = shown (x .answer) (x .place) (detailsOf trace) (x .final .state .decoder .counts) (x .final .state .logs);
       prints = Prints.runs h (x .ran);
       appended = x .appended;
       within = x .within;

@@ -1,15 +1,16 @@
 -- To be believed: what the program `listing` prints for a trace (document 01, "Trace and listing"). Its sizes are those of docs/SIZES.md.
 -- Assumes nothing.
--- Hold it to: 01, "Trace and listing": `refused N at B`, `too long`; docs/SIZES.md
+-- Hold it to: 01, "Trace and listing": `refused N at B`, `too long`; 02, 13: "one last line, `details N`"; docs/SIZES.md
 use Prim.Native.Nat.{ℕ, zero, suc, _+_, _*_, _≤_, _<_}
-use mathlib.Core.List.{List}
+use mathlib.Core.List.{List, _++_}
 use lib.ListN.{length, replicate}
 use Rattle.endpoints.specs.Word as word
 use Rattle.text.specs.Append.{Appended}
-use Rattle.text.specs.Lines.{longest, refusedLine}
+use Rattle.text.specs.Lines.{longest, detailsLine, refusedLine}
 use Rattle.text.specs.Words.{tooLong}
 use Rattle.record.specs.declared.Counts.{Counts}
 use Rattle.call.specs.State.{Logs, logs, roomOf}
+use Rattle.trace.specs.Details.{detailsOf}
 use Rattle.lines.specs.Listing.{listing, rowsOf}
 use Rattle.step.specs.Block.{Stand}
 use Rattle.run.specs.Run.{Ran}
@@ -31,16 +32,17 @@ noRows =
 abbrev pub noShelf : List ℕ
 noShelf = replicate 524288 0
 
--- of a run that ended with this answer, at this place, with these counts and logs: the listing where it finished, else "only the line `refused N at B`"
-abbrev pub shown : ℕ → ℕ → Counts → Logs → List ℕ
-shown zero place n l = listing n l
-shown (suc a) place n l = refusedLine (suc a) place
+-- of a run that ended with this answer, at this place, of a trace with so many details, with these counts and logs: where it finished the listing, and (02, 13) the
+-- last line `details N`; else "only the line `refused N at B`"
+abbrev pub shown : ℕ → ℕ → ℕ → Counts → Logs → List ℕ
+shown zero place details n l = listing n l ++ detailsLine details
+shown (suc a) place details n l = refusedLine (suc a) place
 
 -- "Input longer than the program's buffer prints only `too long`"
 pub data Prints (trace : List ℕ) : List ℕ → Type 0 where
   long : mostInput < length trace → Prints trace tooLong
   runs : {answer place : ℕ} {s : Stand} → length trace ≤ mostInput → Ran trace noTable noRows noShelf answer place s
-      → Prints trace (shown answer place (s .state .decoder .counts) (s .state .logs))
+      → Prints trace (shown answer place (detailsOf trace) (s .state .decoder .counts) (s .state .logs))
 
 -- the text is in the buffer, and the result is its length
 pub record Printed (trace before after : List ℕ) (end : ℕ) : Type 0 where
@@ -49,6 +51,6 @@ pub record Printed (trace before after : List ℕ) (end : ℕ) : Type 0 where
   pub appended : Appended before 0 text after end
   pub within : end ≤ length before
 
--- a buffer for every text of a run on logs with that room: a line for each row, and one more
+-- a buffer for every text of a run on logs with that room: a line for each row, and one more, in which the title and the last line have room
 abbrev pub textRoom : Logs → ℕ
 textRoom l = (rowsOf (roomOf l) + 1) * longest

@@ -23,8 +23,9 @@ use Rattle.call.specs.State.{Logs, State, heldAt, roomOf}
 use Rattle.events.specs.Call.{FinishCall, finishTestsOf}
 use Rattle.lines.specs.Listing.{listing, Counted, rowsOf}
 use Rattle.lines.specs.ListingLaws.{counted, listing-fits}
-use Rattle.start.specs.Detail.{Details}
+use Rattle.typed.specs.Detail.{Details}
 use Rattle.start.specs.Fresh.{made, noDevices}
+use Rattle.trace.specs.Details.{detailsOf}
 use Rattle.trace.specs.Trace.{nextAt}
 use Rattle.trace.specs.declared.Next.{Next}
 use Rattle.trace.specs.declared.Next.the-variants.{Packet, Event, Detail, Unknown, Cut, End}
@@ -38,7 +39,7 @@ pub prints-unique : {trace x y : List ℕ} → Prints trace x → Prints trace y
 prints-unique (Prints.long h) (Prints.long k) = refl
 prints-unique (Prints.long h) (Prints.runs k r) = absurd (omega arith)
 prints-unique (Prints.runs h q) (Prints.long k) = absurd (omega arith)
-prints-unique (Prints.runs h q) (Prints.runs k r) = let e = run-unique q r in λ i. shown (e .answer i) (e .place i) (e .final i .state .decoder .counts) (e .final i .state .logs)
+prints-unique {trace} (Prints.runs h q) (Prints.runs k r) = let e = run-unique q r in λ i. shown (e .answer i) (e .place i) (detailsOf trace) (e .final i .state .decoder .counts) (e .final i .state .logs)
 
 -- ---- a run that finished
 
@@ -58,20 +59,21 @@ finish-within {a} {s} {s′} z f e =
     rw (left .decoder, same-room w (heldAt s) (s .logs) (s′ .logs) (left .logs)) h
 
 -- a record leaves the first numbers
-gives-whole : (trace : List ℕ) (n : Next) (c : Clock) (s : Stand) (a : ℕ) (s′ : Stand) → Gives trace n c s a s′ → Whole (s .state) → Whole (s′ .state)
+gives-whole : (typed : Bool) (trace : List ℕ) (n : Next) (c : Clock) (s : Stand) (a : ℕ) (s′ : Stand) → Gives typed trace n c s a s′ → Whole (s .state) → Whole (s′ .state)
 unfolding Details
-gives-whole trace (Packet ticks start end next) c s a s′ g z = λ k. same-firsts (g .answers) k ∙ z k
-gives-whole trace (Event ticks kind code next) c s a s′ g z = λ k. same-firsts (g .0) k ∙ z k
-gives-whole trace (Detail address number direction kind max next) c s a s′ g z = λ k. same-firsts (g .0) k ∙ z k
-gives-whole trace Unknown c s a s′ g z = subst (λ (u : Stand). Whole (u .state)) (sym (g .1)) z
-gives-whole trace Cut c s a s′ g z = subst (λ (u : Stand). Whole (u .state)) (sym (g .1)) z
-gives-whole trace End c s a s′ g z = absurd g
+gives-whole typed trace (Packet ticks start end next) c s a s′ g z = λ k. same-firsts (g .answers) k ∙ z k
+gives-whole typed trace (Event ticks kind code next) c s a s′ g z = λ k. same-firsts (g .0) k ∙ z k
+gives-whole false trace (Detail address number direction kind max next) c s a s′ g z = subst (λ (u : Stand). Whole (u .state)) (sym (g .1)) z
+gives-whole true trace (Detail address number direction kind max next) c s a s′ g z = λ k. same-firsts (g .0) k ∙ z k
+gives-whole typed trace Unknown c s a s′ g z = subst (λ (u : Stand). Whole (u .state)) (sym (g .1)) z
+gives-whole typed trace Cut c s a s′ g z = subst (λ (u : Stand). Whole (u .state)) (sym (g .1)) z
+gives-whole typed trace End c s a s′ g z = absurd g
 
 -- and so do the records of a block
-takes-whole : {trace : List ℕ} {at n m a p : ℕ} {c c′ : Clock} {s s′ : Stand} → Takes trace at c s n m a p c′ s′ → Whole (s .state) → Whole (s′ .state)
+takes-whole : {typed : Bool} {trace : List ℕ} {at n m a p : ℕ} {c c′ : Clock} {s s′ : Stand} → Takes typed trace at c s n m a p c′ s′ → Whole (s .state) → Whole (s′ .state)
 takes-whole (Takes.done h) z = z
-takes-whole {trace} {at} {a = a} {c = c} (Takes.stops g h) z = gives-whole trace (nextAt trace at) c _ a _ g z
-takes-whole {trace} {at} {c = c} (Takes.goes a g h x) z = takes-whole x (gives-whole trace (nextAt trace at) c _ a _ g z)
+takes-whole {typed} {trace} {at} {a = a} {c = c} (Takes.stops g h) z = gives-whole typed trace (nextAt trace at) c _ a _ g z
+takes-whole {typed} {trace} {at} {c = c} (Takes.goes a g h x) z = takes-whole x (gives-whole typed trace (nextAt trace at) c _ a _ g z)
 
 runs-within : {trace : List ℕ} {at a p : ℕ} {c : Clock} {s s′ : Stand} → Whole (s .state) → Runs trace at c s a p s′ → a ≡ 0 → Within (s′ .state .decoder .counts) (roomOf (s′ .state .logs))
 runs-within z (Runs.ends x f) e = finish-within (takes-whole x z) f e

@@ -6,6 +6,7 @@ use lib.ListN.{length}
 use Rattle.text.specs.Append.{Appended}
 use Rattle.record.specs.declared.Counts.{Counts}
 use Rattle.call.specs.State.{Logs}
+use Rattle.trace.specs.Details.{detailsOf}
 use Rattle.lines.specs.Listing.{Counted}
 use Rattle.step.specs.Block.{Stand}
 use Rattle.run.specs.Run.{Ran}
@@ -17,7 +18,7 @@ pub record Shows (trace t : List ℕ) (l : Logs) (h before after : List ℕ) (en
   pub place : ℕ
   pub final : Stand
   pub ran : Ran trace t l h answer place final
-  pub appended : Appended before 0 (shown answer place (final .state .decoder .counts) (final .state .logs)) after end
+  pub appended : Appended before 0 (shown answer place (detailsOf trace) (final .state .decoder .counts) (final .state .logs)) after end
   pub within : end ≤ length before
 
 -- what `report` asks of the logs: where there is a listing, they have the rows that are counted

@@ -7,6 +7,7 @@ use libc::STDOUT_FILENO;
 use record::Counts;
 use run::run;
 use shelving::Shelf;
+use trace::details::count_details;
 ghost use Prim.Native.Nat.{_≤_};
 ghost use mathlib.Core.List.{[]};
 ghost use lib.ListN.{length};
@@ -18,13 +19,14 @@ ghost use Rattle.listing.specs.Shows.{Listable, Shows};
 // The longest trace (docs/SIZES.md).
 const INPUT: usize = 16384;
 
-// A line of at most 156 bytes (text, Lengths) for each of the 2,432 rows that there is room for, and one more.
+// A line of at most 156 bytes (text, Lengths) for each of the 2,432 rows that there is room for, and one more for title and last line.
 const TEXT: usize = 156 * 2433;
 
-// What is shown of a run that ended with this answer at this place: the listing, or the refusal; gives its length.
+// What is shown of a run that ended with this answer at this place: the listing, and how many details the trace has; or the refusal. Gives its length.
 fn report(
     answer: u8,
     place: usize,
+    details: usize,
     n: Counts,
     device_rows: &[u64],
     endpoint_rows: &[u64],
@@ -40,13 +42,13 @@ fn report(
     out: &mut [u8],
 ) -> usize
     requires { ⌜ Listable answer n (logs [] (now «device_rows») (now «endpoint_rows») (now packets) (now events) (now transactions) (now groups) (now statebytes) (now states) (now items) (now links) (now requests)) ⌝ }
-    requires { ⌜ Room (now out) 0 (shown answer place n (logs [] (now «device_rows») (now «endpoint_rows») (now packets) (now events) (now transactions) (now groups) (now statebytes) (now states) (now items) (now links) (now requests))) ⌝ }
-    ensures { λ r. ⌜ Appended (now (out .entry)) 0 (shown answer place n (logs [] (now («device_rows» .entry)) (now («endpoint_rows» .entry)) (now (packets .entry)) (now (events .entry)) (now (transactions .entry)) (now (groups .entry)) (now (statebytes .entry)) (now (states .entry)) (now (items .entry)) (now (links .entry)) (now (requests .entry)))) (now (out .exit)) r ⌝ }
+    requires { ⌜ Room (now out) 0 (shown answer place details n (logs [] (now «device_rows») (now «endpoint_rows») (now packets) (now events) (now transactions) (now groups) (now statebytes) (now states) (now items) (now links) (now requests))) ⌝ }
+    ensures { λ r. ⌜ Appended (now (out .entry)) 0 (shown answer place details n (logs [] (now («device_rows» .entry)) (now («endpoint_rows» .entry)) (now (packets .entry)) (now (events .entry)) (now (transactions .entry)) (now (groups .entry)) (now (statebytes .entry)) (now (states .entry)) (now (items .entry)) (now (links .entry)) (now (requests .entry)))) (now (out .exit)) r ⌝ }
 {
     if answer != 0 {
         return text::refused_line(out, 0, answer as u64, place as u64);
     }
-    lines::list(
+    let next = lines::list(
         n,
         device_rows,
         endpoint_rows,
@@ -60,7 +62,8 @@ fn report(
         links,
         requests,
         out,
-    )
+    );
+    text::details_line(out, next, details as u64)
 }
 
 // The text of a trace that is run on the lent table, logs and shelf; gives its length.
@@ -107,6 +110,7 @@ fn show(
     report(
         r.answer,
         r.place,
+        count_details(trace),
         n,
         device_rows,
         endpoint_rows,

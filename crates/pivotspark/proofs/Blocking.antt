@@ -43,10 +43,10 @@ cut-between cuts i at end h = by (ltb i (length cuts)) (leb end x) (ltb x at) re
     by true false false e f = let k = leb-false end x e in let l = ltb-false x at f in (l, omega arith)
 
 -- a block stops within its bytes
-within : {t : List ℕ} {at n e a p : ℕ} {c c′ : Clock} {s s′ : Stand} → at ≤ length t → Takes t at c s n e a p c′ s′ → p ≤ length t
+within : {t : List ℕ} {at n e a p : ℕ} {c c′ : Clock} {s s′ : Stand} → at ≤ length t → Takes false t at c s n e a p c′ s′ → p ≤ length t
 within h (done x) = h
 within h (stops x k) = h
-within {t} {at} {c = c} {s = s} h (goes {s′ = s′} o x k r) = within (inside-of t at (whole-in t (nextAt t at) c s o s′ x k)) r
+within {t} {at} {c = c} {s = s} h (goes {s′ = s′} o x k r) = within (inside-of t at (whole-in false t (nextAt t at) c s o s′ x k)) r
 
 -- six words in two parts
 pub put-by : (out out₁ out₂ : List ℕ) (at a n e p : ℕ) (c : Clock) {roomy : Bool} → roomy ≡ true → out₁ ≡ sets out at (a ∷ n ∷ e ∷ p ∷ []) → out₂ ≡ sets out₁ (at + 4) (c .last ∷ c .time ∷ [])
@@ -87,9 +87,9 @@ module _ {t cuts out₀ out : List ℕ} {c₀ c : Clock} {s₀ s : Stand} {i at 
       let h = ltb-true (length cuts) (length out₀ / 6) (sym q ∙ e) in
       omega (arith, h, g .few, g .long)
 
-  module _ {end n e a p : ℕ} {c′ : Clock} {s′ : Stand} (q : end ≡ cutAt cuts i at (length t)) (x : Takes (take (end - at) (drop at t)) 0 c s n e a p c′ s′) where
-    here : Takes (bytesOf t cuts i at) 0 c s n e a p c′ s′
-    here = subst (λ (k : ℕ). Takes (take (k - at) (drop at t)) 0 c s n e a p c′ s′) q x
+  module _ {end n e a p : ℕ} {c′ : Clock} {s′ : Stand} (q : end ≡ cutAt cuts i at (length t)) (x : Takes false (take (end - at) (drop at t)) 0 c s n e a p c′ s′) where
+    here : Takes false (bytesOf t cuts i at) 0 c s n e a p c′ s′
+    here = subst (λ (k : ℕ). Takes false (take (k - at) (drop at t)) 0 c s n e a p c′ s′) q x
 
     pub doing-inside : at + p ≤ length t
     doing-inside =

@@ -32,11 +32,11 @@ wordsOf a n e p c = a ∷ n ∷ e ∷ p ∷ c .last ∷ c .time ∷ []
 -- from block i on, which begins at `at` with this clock on s: j blocks have been called at the end, these are their words, and s′ is left
 pub data Blocks (t cuts : List ℕ) : (i at : ℕ) → Clock → Stand → (j : ℕ) → List ℕ → Stand → Type 0 where
   ends : {i at n e a p : ℕ} {c c′ : Clock} {s s′ : Stand}
-      → Takes (bytesOf t cuts i at) 0 c s n e a p c′ s′
+      → Takes false (bytesOf t cuts i at) 0 c s n e a p c′ s′
       → (goesOn a && ltb i (length cuts)) ≡ false
       → Blocks t cuts i at c s (i + 1) (wordsOf a n e p c′) s′
   goes : {i at n e a p j : ℕ} {c c′ : Clock} {s s′ s″ : Stand} {ws : List ℕ}
-      → Takes (bytesOf t cuts i at) 0 c s n e a p c′ s′
+      → Takes false (bytesOf t cuts i at) 0 c s n e a p c′ s′
       → (goesOn a && ltb i (length cuts)) ≡ true
       → Blocks t cuts (i + 1) (at + p) c′ s′ j ws s″
       → Blocks t cuts i at c s j (wordsOf a n e p c′ ++ ws) s″

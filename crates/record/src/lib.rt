@@ -7,7 +7,7 @@ use rules::EventState;
 use rules::Slot;
 use transaction::Transaction;
 
-// Rows of each log, by the Rust's names: how many there are or, of the lent logs, how many there is room for. A packet or state byte is a row.
+// A number for each log, by the Rust's names: those of the next rows, how many rows the lent logs hold, or how many they have room for. A packet or state byte is a row.
 pub struct Counts {
     // packet_data.
     pub bytes: usize,

@@ -1,5 +1,5 @@
 -- To be believed: the functions of decoder.rs from group_early_start on: groups, their rows, states and items. A function stands below those that it calls.
--- Hold it to: group_early_start, group_early_append, group_update, group_start, group_append, group_end, add_group, add_group_entry, add_endpoint_state, add_item of decoder.rs; 02, 2: "When a standard GET_DESCRIPTOR completes" and on
+-- Hold it to: group_early_start, group_early_append, group_update, group_start, group_append, group_end, add_group, add_group_entry, add_endpoint_state, add_item of decoder.rs; 02, 2: "When a standard GET_DESCRIPTOR completes" and on; 02, 9: "A group row shall also hold the packet number and time of the call that wrote it"
 use mathlib.Core.Bool.{Bool, true, false, _&&_, _||_, not}
 use mathlib.Core.List.{List, [], _∷_}
 use Prim.Native.Nat.{ℕ, zero, suc, pred, _+_, _*_}

@@ -1,7 +1,6 @@
 -- To be believed: the rows that the rules append, and the twelve logs that they go to (01, Trace and listing). A journal has the rows of all logs, the newest
 -- first.
--- Hold it to: the vectors of capture.rs that decoder.rs pushes to; 01, "Trace and listing": what a line of each kind has; 02, 2: "The request row stays and gains a note"; 02, 1: "a transaction row
--- carries that of the packet it names, 0 if valid or an event"; 02, 9: "the packet number and time of the call that wrote it"
+-- Hold it to: the vectors of capture.rs that decoder.rs pushes to; 01, "Trace and listing": what a line of each kind has; 02, 2: "The request row stays and gains a note"; 02, 1: "a transaction row carries that of the packet it names"; 02, 9: "the packet number and time of the call that wrote it"
 use mathlib.Core.Bool.{Bool}
 use mathlib.Core.List.{List, [], _∷_, _++_}
 use Prim.Native.Nat.{ℕ}

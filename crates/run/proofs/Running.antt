@@ -1,5 +1,6 @@
 -- The laws of a run: its records as one block from behind the header on, finish behind them, and the header and `fresh` before them.
 use Prim.Native.Nat.{ℕ}
+use mathlib.Core.Bool.{true}
 use mathlib.Core.List.{List, replicate}
 use mathlib.Core.Path.{_≡_, sym, ap, subst, _∙_}
 use lib.ListN.{length}
@@ -24,15 +25,15 @@ use Rattle.run.specs.declared.Done.{Done}
 
 -- ---- the records, and finish
 
-module _ {trace : List ℕ} {at n e b p : ℕ} {c c′ : Clock} {s s′ : Stand} (h : at ≡ 5) (k : c ≡ stopped) (x : Takes trace at c s n e b p c′ s′) where
-  begun : Takes trace 5 stopped s n e b p c′ s′
-  begun = subst (λ (i : ℕ). Takes trace i stopped s n e b p c′ s′) h (subst (λ (u : Clock). Takes trace at u s n e b p c′ s′) k x)
+module _ {trace : List ℕ} {at n e b p : ℕ} {c c′ : Clock} {s s′ : Stand} (h : at ≡ 5) (k : c ≡ stopped) (x : Takes true trace at c s n e b p c′ s′) where
+  begun : Takes true trace 5 stopped s n e b p c′ s′
+  begun = subst (λ (i : ℕ). Takes true trace i stopped s n e b p c′ s′) h (subst (λ (u : Clock). Takes true trace at u s n e b p c′ s′) k x)
 
   pub runs-stops : (b ≡ 0 → ⊥) → Runs trace 5 stopped s b p s′
   runs-stops ne = stops begun ne
 
   pub runs-ends : {a : ℕ} {s″ : State} → b ≡ 0 → FinishCall (s′ .state) a s″ → Runs trace 5 stopped s a (length trace) (stand s″ (s′ .shelf))
-  runs-ends z f = ends (subst (λ (i : ℕ). Takes trace 5 stopped s n e i p c′ s′) z begun) f
+  runs-ends z f = ends (subst (λ (i : ℕ). Takes true trace 5 stopped s n e i p c′ s′) z begun) f
 
 -- ---- the whole trace
 

@@ -1,6 +1,7 @@
 -- To be believed: a whole trace through the calls (01, "Trace and listing"): what its records give as one block. Words in quotation marks are those of 01.
 -- Hold it to: 01, "Trace and listing": "Records are taken one at a time .."
 use Prim.Native.Nat.{ℕ}
+use mathlib.Core.Bool.{true}
 use mathlib.Core.List.{List}
 use mathlib.Core.Path.{_≡_}
 use lib.ListN.{length}
@@ -14,15 +15,15 @@ use Rattle.step.specs.Block.{Stand, stand, Takes}
 
 -- ---- the records from a place on
 
--- from the place `at` on, with this clock, on s: the run ends with the answer a at the place p, and leaves s′. Its records are a block (block, Block). At
+-- from the place `at` on, with this clock, on s: the run ends with the answer a at the place p, and leaves s′. Its records are a block (step, Block) in which typed-in details are obeyed (02, 13: "Old traces still hold such records"). At
 -- the trace's end finish is called, at "the trace's length"; a record that is refused stops the run at "the record's offset in the trace"; "8 prints nothing and
 -- the run goes on"
 pub data Runs (trace : List ℕ) : ℕ → Clock → Stand → ℕ → ℕ → Stand → Type 0 where
   ends : {at n e a p : ℕ} {c c′ : Clock} {s s′ : Stand} {s″ : State}
-      → Takes trace at c s n e 0 p c′ s′
+      → Takes true trace at c s n e 0 p c′ s′
       → FinishCall (s′ .state) a s″
       → Runs trace at c s a (length trace) (stand s″ (s′ .shelf))
-  stops : {at n e a p : ℕ} {c c′ : Clock} {s s′ : Stand} → Takes trace at c s n e a p c′ s′ → (a ≡ 0 → ⊥) → Runs trace at c s a p s′
+  stops : {at n e a p : ℕ} {c c′ : Clock} {s s′ : Stand} → Takes true trace at c s n e a p c′ s′ → (a ≡ 0 → ⊥) → Runs trace at c s a p s′
 
 -- ---- the whole trace
 

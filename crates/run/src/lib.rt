@@ -26,7 +26,7 @@ pub struct Done {
     pub devices: [Device; 64],
 }
 
-// The records behind the header as one block, and finish where none is refused.
+// The records behind the header as one block, in which typed-in details are obeyed, and finish where none is refused.
 fn records(
     trace: &[u8],
     decoder: Decoder,
@@ -50,6 +50,7 @@ fn records(
 {
     let start = first();
     let r = block::records(
+        true,
         decoder,
         devices,
         trace::clock::fresh(),

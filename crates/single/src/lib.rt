@@ -5,21 +5,23 @@ use events::event;
 use packet::packet;
 use record::Decoder;
 use shelving::Shelf;
-use start::detail::detail;
+use step::DETAIL_IN_BLOCK;
 use step::Stepped;
 use step::over;
 use step::went;
 use trace::Next;
 use trace::clock::Clock;
 use trace::clock::tick;
+use typed::detail;
 ghost use mathlib.Core.Path.{_≡_};
 ghost use Rattle.trace.specs.Trace.{nextAt};
 ghost use Rattle.call.specs.State.{state, logs};
 ghost use Rattle.step.specs.Block.{stand};
 ghost use Rattle.step.specs.Step.{Steps};
 
-// What was found at this place: a record, as its call; or no whole record, and then nothing is called.
+// What was found at this place: a record, as its call; or no whole record, or a detail where `typed` is false, as in a block, and then nothing is called.
 pub fn single_step(
+    typed: bool,
     found: Next,
     records: &[u8],
     at: usize,
@@ -42,7 +44,7 @@ pub fn single_step(
     shelf: &mut Shelf,
 ) -> Stepped
     requires { ⌜ found ≡ nextAt (now records) at ⌝ }
-    ensures { λ r. ⌜ Steps (now (records .entry)) at clock (stand (state d devices (now (table .entry)) (logs (now (bytes .entry)) (now («device_rows» .entry)) (now («endpoint_rows» .entry)) (now (packets .entry)) (now (events .entry)) (now (transactions .entry)) (now (groups .entry)) (now (statebytes .entry)) (now (states .entry)) (now (items .entry)) (now (links .entry)) (now (requests .entry)))) (now (shelf .entry))) r (now (table .exit)) (logs (now (bytes .exit)) (now («device_rows» .exit)) (now («endpoint_rows» .exit)) (now (packets .exit)) (now (events .exit)) (now (transactions .exit)) (now (groups .exit)) (now (statebytes .exit)) (now (states .exit)) (now (items .exit)) (now (links .exit)) (now (requests .exit))) (now (shelf .exit)) ⌝ }
+    ensures { λ r. ⌜ Steps typed (now (records .entry)) at clock (stand (state d devices (now (table .entry)) (logs (now (bytes .entry)) (now («device_rows» .entry)) (now («endpoint_rows» .entry)) (now (packets .entry)) (now (events .entry)) (now (transactions .entry)) (now (groups .entry)) (now (statebytes .entry)) (now (states .entry)) (now (items .entry)) (now (links .entry)) (now (requests .entry)))) (now (shelf .entry))) r (now (table .exit)) (logs (now (bytes .exit)) (now («device_rows» .exit)) (now («endpoint_rows» .exit)) (now (packets .exit)) (now (events .exit)) (now (transactions .exit)) (now (groups .exit)) (now (statebytes .exit)) (now (states .exit)) (now (items .exit)) (now (links .exit)) (now (requests .exit))) (now (shelf .exit)) ⌝ }
 {
     match found {
         Next::Packet {
@@ -118,6 +120,9 @@ pub fn single_step(
             max,
             next,
         } => {
+            if !typed {
+                return over(DETAIL_IN_BLOCK, at, clock, d, devices);
+            }
             let r = detail(
                 d,
                 devices,

@@ -32,7 +32,7 @@ use Rattle.record.specs.declared.Counts.{Counts}
 use Rattle.call.specs.Outcome.{isIll, isFull, countsAfter, Answers, accepts, worldAt}
 use Rattle.call.specs.OutcomeLaws.{not-true, sound}
 use Rattle.call.specs.State.{Logs, State, roomOf}
-use Rattle.start.specs.Detail.{Details}
+use Rattle.typed.specs.Detail.{Details}
 use Rattle.start.specs.Fresh.{Makes}
 use Rattle.start.specs.FreshLaws.{fresh-well, fresh-stands}
 use Rattle.packet.specs.Call.{PacketCall, testsOf}

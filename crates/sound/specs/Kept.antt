@@ -9,7 +9,7 @@ use Rattle.endpoints.specs.Word as word
 use Rattle.details.specs.declared.Device.{Device}
 use Rattle.call.specs.Outcome.{isIll}
 use Rattle.call.specs.State.{Logs, State}
-use Rattle.start.specs.Detail.{Details}
+use Rattle.typed.specs.Detail.{Details}
 use Rattle.start.specs.Fresh.{Makes}
 use Rattle.packet.specs.Call.{PacketCall}
 use Rattle.events.specs.Call.{EventCall, FinishCall}

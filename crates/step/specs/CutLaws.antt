@@ -32,13 +32,13 @@ Whole Cut = ⊥
 Whole End = ⊥
 
 -- what is accepted is one
-pub whole-in : (t : List ℕ) (n : Next) (c : Clock) (s : Stand) (a : ℕ) (s′ : Stand) → Gives t n c s a s′ → accepts a ≡ true → Whole n
-whole-in t (Packet ticks start end next) c s a s′ x h = tt
-whole-in t (Event ticks kind code next) c s a s′ x h = tt
-whole-in t (Detail address number direction kind max next) c s a s′ x h = tt
-whole-in t Unknown c s a s′ x h = true≢false (sym h ∙ ap accepts (x .0))
-whole-in t Cut c s a s′ x h = true≢false (sym h ∙ ap accepts (x .0))
-whole-in t End c s a s′ x h = x
+pub whole-in : (typed : Bool) (t : List ℕ) (n : Next) (c : Clock) (s : Stand) (a : ℕ) (s′ : Stand) → Gives typed t n c s a s′ → accepts a ≡ true → Whole n
+whole-in typed t (Packet ticks start end next) c s a s′ x h = tt
+whole-in typed t (Event ticks kind code next) c s a s′ x h = tt
+whole-in typed t (Detail address number direction kind max next) c s a s′ x h = tt
+whole-in typed t Unknown c s a s′ x h = true≢false (sym h ∙ ap accepts (x .0))
+whole-in typed t Cut c s a s′ x h = true≢false (sym h ∙ ap accepts (x .0))
+whole-in typed t End c s a s′ x h = x
 
 -- and ends within the block
 inside-by : (t : List ℕ) (at : ℕ) (n : Next) → Grown t at n → Whole n → behind n at ≤ length t
@@ -172,28 +172,28 @@ module _ (u v : List ℕ) (at : ℕ) where
       ∙ ap (λ (m : Next). pick (ltb at (length u)) m End) (tags (eqb tag 0) (eqb tag 1) (eqb tag 2) packet-before event-before detail-before (h .1))
 
 -- what a record gives, with the bytes behind it
-pub record Before (t : List ℕ) (m n : Next) (c : Clock) (s : Stand) (a : ℕ) (s′ : Stand) : Type 0 where
+pub record Before (typed : Bool) (t : List ℕ) (m n : Next) (c : Clock) (s : Stand) (a : ℕ) (s′ : Stand) : Type 0 where
   pub next : m ≡ n
-  pub gives : Gives t m c s a s′
+  pub gives : Gives typed t m c s a s′
 
-gives-with : (u v : List ℕ) (at : ℕ) (n : Next) (c : Clock) (s : Stand) (a : ℕ) (s′ : Stand) → Grown u at n → Gives u n c s a s′ → Gives (u ++ v) n c s a s′
-gives-with u v at (Packet ticks start end next) c s a s′ g x =
+gives-with : (typed : Bool) (u v : List ℕ) (at : ℕ) (n : Next) (c : Clock) (s : Stand) (a : ℕ) (s′ : Stand) → Grown u at n → Gives typed u n c s a s′ → Gives typed (u ++ v) n c s a s′
+gives-with typed u v at (Packet ticks start end next) c s a s′ g x =
     let last = g .last in
     let part = g .part in
     let stays = g .whole .stays in
     let k : end - start ≤ length (drop start u) = rw (length-drop) (omega arith) in
     let same : take (end - start) (drop start (u ++ v)) ≡ take (end - start) (drop start u) = ap (take (end - start)) (drop-append-le start u v (omega arith)) ∙ take-append-le (end - start) (drop start u) v k in
     subst (λ (l : List ℕ). PacketCall l (tickOf c ticks .time) (s .state) (s .shelf) a (s′ .state) (s′ .shelf)) (sym same) x
-gives-with u v at (Event ticks kind code next) c s a s′ g x = x
-gives-with u v at (Detail address number direction kind max next) c s a s′ g x = x
-gives-with u v at Unknown c s a s′ g x = x
-gives-with u v at Cut c s a s′ g x = x
-gives-with u v at End c s a s′ g x = x
+gives-with typed u v at (Event ticks kind code next) c s a s′ g x = x
+gives-with typed u v at (Detail address number direction kind max next) c s a s′ g x = x
+gives-with typed u v at Unknown c s a s′ g x = x
+gives-with typed u v at Cut c s a s′ g x = x
+gives-with typed u v at End c s a s′ g x = x
 
-pub gives-before : (u v : List ℕ) (at : ℕ) (c : Clock) (s : Stand) (a : ℕ) (s′ : Stand) → Whole (nextAt u at) → Gives u (nextAt u at) c s a s′ → Before (u ++ v) (nextAt (u ++ v) at) (nextAt u at) c s a s′
-gives-before u v at c s a s′ w x =
+pub gives-before : (typed : Bool) (u v : List ℕ) (at : ℕ) (c : Clock) (s : Stand) (a : ℕ) (s′ : Stand) → Whole (nextAt u at) → Gives typed u (nextAt u at) c s a s′ → Before typed (u ++ v) (nextAt (u ++ v) at) (nextAt u at) c s a s′
+gives-before typed u v at c s a s′ w x =
     let e = next-before u v at w in
-    record { next = e; gives = subst (λ (n : Next). Gives (u ++ v) n c s a s′) (sym e) (gives-with u v at (nextAt u at) c s a s′ (grown u at) x) }
+    record { next = e; gives = subst (λ (n : Next). Gives typed (u ++ v) n c s a s′) (sym e) (gives-with typed u v at (nextAt u at) c s a s′ (grown u at) x) }
 
 -- ---- a record behind the cut
 
@@ -287,16 +287,16 @@ module _ (u v : List ℕ) (at : ℕ) where
       (λ i. pick (f i) (pick (eqb (b i) 0) (packet-behind i) (pick (eqb (b i) 1) (event-behind i) (pick (eqb (b i) 2) (detail-behind i) Unknown))) End)
       ∙ sym (moved-tags (length u) (eqb tag 0) (eqb tag 1) (eqb tag 2) (ltb at (length v)) (packetAt v at) (eventAt v at) (detailAt v at))
 
-gives-moved : (u v : List ℕ) (n : Next) (c : Clock) (s : Stand) (a : ℕ) (s′ : Stand) → Gives v n c s a s′ → Gives (u ++ v) (moved (length u) n) c s a s′
-gives-moved u v (Packet ticks start end next) c s a s′ x =
+gives-moved : (typed : Bool) (u v : List ℕ) (n : Next) (c : Clock) (s : Stand) (a : ℕ) (s′ : Stand) → Gives typed v n c s a s′ → Gives typed (u ++ v) (moved (length u) n) c s a s′
+gives-moved typed u v (Packet ticks start end next) c s a s′ x =
     let size : end - start ≡ length u + end - (length u + start) = omega arith in
     let same : take (end - start) (drop start v) ≡ take (length u + end - (length u + start)) (drop (length u + start) (u ++ v)) = λ i. take (size i) (sym (drop-append-add u v start) i) in
     subst (λ (l : List ℕ). PacketCall l (tickOf c ticks .time) (s .state) (s .shelf) a (s′ .state) (s′ .shelf)) same x
-gives-moved u v (Event ticks kind code next) c s a s′ x = x
-gives-moved u v (Detail address number direction kind max next) c s a s′ x = x
-gives-moved u v Unknown c s a s′ x = x
-gives-moved u v Cut c s a s′ x = x
-gives-moved u v End c s a s′ x = x
+gives-moved typed u v (Event ticks kind code next) c s a s′ x = x
+gives-moved typed u v (Detail address number direction kind max next) c s a s′ x = x
+gives-moved typed u v Unknown c s a s′ x = x
+gives-moved typed u v Cut c s a s′ x = x
+gives-moved typed u v End c s a s′ x = x
 
 behind-moved : (k : ℕ) (n : Next) (at : ℕ) → behind (moved k n) (k + at) ≡ k + behind n at
 behind-moved k (Packet ticks start end next) at = refl
@@ -315,25 +315,25 @@ clock-moved k Cut c = refl
 clock-moved k End c = refl
 
 -- the records of the second part, from there on in the whole
-behind-all : (u : List ℕ) {v : List ℕ} {at n e a p : ℕ} {c c′ : Clock} {s s′ : Stand} → Takes v at c s n e a p c′ s′ → Takes (u ++ v) (length u + at) c s n e a (length u + p) c′ s′
-behind-all u {v} {at} (done x) = done (next-behind u v at ∙ ap (moved (length u)) x)
-behind-all u {v} {at} {a = a} {c = c} {s = s} {s′ = s′} (stops x h) =
-    stops (subst (λ (m : Next). Gives (u ++ v) m c s a s′) (sym (next-behind u v at)) (gives-moved u v (nextAt v at) c s a s′ x)) h
-behind-all u {v} {at} {p = p} {c = c} {c′ = c′} {s = s} {s′ = s″} (goes {n = n} {e = e} {b = b} {s′ = s′} a x h r) =
+behind-all : {typed : Bool} (u : List ℕ) {v : List ℕ} {at n e a p : ℕ} {c c′ : Clock} {s s′ : Stand} → Takes typed v at c s n e a p c′ s′ → Takes typed (u ++ v) (length u + at) c s n e a (length u + p) c′ s′
+behind-all {typed} u {v} {at} (done x) = done (next-behind u v at ∙ ap (moved (length u)) x)
+behind-all {typed} u {v} {at} {a = a} {c = c} {s = s} {s′ = s′} (stops x h) =
+    stops (subst (λ (m : Next). Gives typed (u ++ v) m c s a s′) (sym (next-behind u v at)) (gives-moved typed u v (nextAt v at) c s a s′ x)) h
+behind-all {typed} u {v} {at} {p = p} {c = c} {c′ = c′} {s = s} {s′ = s″} (goes {n = n} {e = e} {b = b} {s′ = s′} a x h r) =
     let q = next-behind u v at in
-    goes a (subst (λ (m : Next). Gives (u ++ v) m c s a s′) (sym q) (gives-moved u v (nextAt v at) c s a s′ x)) h
-    (subst (λ (m : Next). Takes (u ++ v) (behind m (length u + at)) (clockAfter m c) s′ n e b (length u + p) c′ s″) (sym q)
-    (subst (λ (i : ℕ). Takes (u ++ v) i (clockAfter (moved (length u) (nextAt v at)) c) s′ n e b (length u + p) c′ s″) (sym (behind-moved (length u) (nextAt v at) at))
-    (subst (λ (k : Clock). Takes (u ++ v) (length u + behind (nextAt v at) at) k s′ n e b (length u + p) c′ s″) (sym (clock-moved (length u) (nextAt v at) c)) (behind-all u r))))
+    goes a (subst (λ (m : Next). Gives typed (u ++ v) m c s a s′) (sym q) (gives-moved typed u v (nextAt v at) c s a s′ x)) h
+    (subst (λ (m : Next). Takes typed (u ++ v) (behind m (length u + at)) (clockAfter m c) s′ n e b (length u + p) c′ s″) (sym q)
+    (subst (λ (i : ℕ). Takes typed (u ++ v) i (clockAfter (moved (length u) (nextAt v at)) c) s′ n e b (length u + p) c′ s″) (sym (behind-moved (length u) (nextAt v at) at))
+    (subst (λ (k : Clock). Takes typed (u ++ v) (length u + behind (nextAt v at) at) k s′ n e b (length u + p) c′ s″) (sym (clock-moved (length u) (nextAt v at) c)) (behind-all u r))))
 
 -- a block that begins with the bytes from `at` on is that of the whole from `at` on
-from-there : (t : List ℕ) (at : ℕ) {n e a p : ℕ} {c c′ : Clock} {s s′ : Stand} → at ≤ length t → Takes (drop at t) 0 c s n e a p c′ s′ → Takes t at c s n e a (at + p) c′ s′
-from-there t at {n} {e} {a} {p} {c} {c′} {s} {s′} h x =
+from-there : {typed : Bool} (t : List ℕ) (at : ℕ) {n e a p : ℕ} {c c′ : Clock} {s s′ : Stand} → at ≤ length t → Takes typed (drop at t) 0 c s n e a p c′ s′ → Takes typed t at c s n e a (at + p) c′ s′
+from-there {typed} t at {n} {e} {a} {p} {c} {c′} {s} {s′} h x =
     let size = length-take-le at t h in
     let here : length (take at t) + 0 ≡ at = omega arith in
-    subst (λ (i : ℕ). Takes t at c s n e a (i + p) c′ s′) size
-    (subst (λ (i : ℕ). Takes t i c s n e a (length (take at t) + p) c′ s′) here
-    (subst (λ (l : List ℕ). Takes l (length (take at t) + 0) c s n e a (length (take at t) + p) c′ s′) (take-append-drop at t) (behind-all (take at t) x)))
+    subst (λ (i : ℕ). Takes typed t at c s n e a (i + p) c′ s′) size
+    (subst (λ (i : ℕ). Takes typed t i c s n e a (length (take at t) + p) c′ s′) here
+    (subst (λ (l : List ℕ). Takes typed l (length (take at t) + 0) c s n e a (length (take at t) + p) c′ s′) (take-append-drop at t) (behind-all (take at t) x)))
 
-pub resumed : (u v : List ℕ) (at : ℕ) {n e a p : ℕ} {c c′ : Clock} {s s′ : Stand} → at ≤ length u → Takes (drop at (u ++ v)) 0 c s n e a p c′ s′ → Takes (u ++ v) at c s n e a (at + p) c′ s′
+pub resumed : {typed : Bool} (u v : List ℕ) (at : ℕ) {n e a p : ℕ} {c c′ : Clock} {s s′ : Stand} → at ≤ length u → Takes typed (drop at (u ++ v)) 0 c s n e a p c′ s′ → Takes typed (u ++ v) at c s n e a (at + p) c′ s′
 resumed u v at h x = from-there (u ++ v) at (let e = length-append u v in omega arith) x

@@ -48,6 +48,9 @@ pub fn went(answer: u8, next: Cursor, clock: Clock, d: Decoder, devices: [Device
     }
 }
 
+// 02, 13: a detail record in a block.
+pub const DETAIL_IN_BLOCK: u8 = 20;
+
 // The block is over.
 pub fn over(answer: u8, at: usize, clock: Clock, d: Decoder, devices: [Device; 64]) -> Stepped
     ensures { λ r. ⌜ r ≡ overWith answer at clock d devices ⌝ }

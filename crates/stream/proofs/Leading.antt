@@ -15,7 +15,7 @@ use Rattle.trace.specs.declared.Next.the-variants.{Packet, Event, Detail, Unkno
 use Rattle.trace.specs.declared.clock.Clock.{Clock}
 use Rattle.call.specs.Outcome.{Answers, accepts, decoderOf}
 use Rattle.call.specs.State.{State}
-use Rattle.start.specs.Detail.{Details}
+use Rattle.typed.specs.Detail.{Details}
 use Rattle.sound.specs.Sound.{isSound}
 use Rattle.sound.proofs.Keeps.{kept}
 use Rattle.step.specs.Block.{Stand, clockAfter, behind, Gives, Takes}
@@ -37,14 +37,15 @@ answers-stay h p e =
     let l = p .left (ap accepts (sym (p .answer)) ∙ e) in
     record { sound = h; finished = ap (λ d. d .finished) (l .decoder); many = l .devices .size }
 
-gives-stay : (t : List ℕ) (n : Next) (c : Clock) (s : Stand) (a : ℕ) (s′ : Stand) → Gives t n c s a s′ → accepts a ≡ true → Stays (s .state) (s′ .state)
+gives-stay : (typed : Bool) (t : List ℕ) (n : Next) (c : Clock) (s : Stand) (a : ℕ) (s′ : Stand) → Gives typed t n c s a s′ → accepts a ≡ true → Stays (s .state) (s′ .state)
 unfolding Details
-gives-stay t (Packet ticks start end next) c s a s′ x e = answers-stay (kept .packet _ _ (s .shelf) (s′ .shelf) (s .state) a (s′ .state) x) (x .answers) e
-gives-stay t (Event ticks kind code next) c s a s′ x e = answers-stay (kept .event kind code _ (s .state) a (s′ .state) (x .0)) (x .0) e
-gives-stay t (Detail address number direction kind max next) c s a s′ x e = answers-stay (kept .detail address number direction kind max (s .state) a (s′ .state) (x .0)) (x .0) e
-gives-stay t Unknown c s a s′ x e = subst (λ (u : Stand). Stays (s .state) (u .state)) (sym (x .1)) (record { sound = λ h. h; finished = refl; many = refl })
-gives-stay t Cut c s a s′ x e = subst (λ (u : Stand). Stays (s .state) (u .state)) (sym (x .1)) (record { sound = λ h. h; finished = refl; many = refl })
-gives-stay t End c s a s′ x e = absurd x
+gives-stay typed t (Packet ticks start end next) c s a s′ x e = answers-stay (kept .packet _ _ (s .shelf) (s′ .shelf) (s .state) a (s′ .state) x) (x .answers) e
+gives-stay typed t (Event ticks kind code next) c s a s′ x e = answers-stay (kept .event kind code _ (s .state) a (s′ .state) (x .0)) (x .0) e
+gives-stay false t (Detail address number direction kind max next) c s a s′ x e = subst (λ (u : Stand). Stays (s .state) (u .state)) (sym (x .1)) (record { sound = λ h. h; finished = refl; many = refl })
+gives-stay true t (Detail address number direction kind max next) c s a s′ x e = answers-stay (kept .detail address number direction kind max (s .state) a (s′ .state) (x .0)) (x .0) e
+gives-stay typed t Unknown c s a s′ x e = subst (λ (u : Stand). Stays (s .state) (u .state)) (sym (x .1)) (record { sound = λ h. h; finished = refl; many = refl })
+gives-stay typed t Cut c s a s′ x e = subst (λ (u : Stand). Stays (s .state) (u .state)) (sym (x .1)) (record { sound = λ h. h; finished = refl; many = refl })
+gives-stay typed t End c s a s′ x e = absurd x
 
 stays-fit : {s s′ : State} → Stays s s′ → (b : Bool) → Fits b s → Fits b s′
 stays-fit h b f = record { sound = λ e. h .sound (f .sound e); unfinished = λ e. h .finished ∙ f .unfinished e }
@@ -52,11 +53,11 @@ stays-fit h b f = record { sound = λ e. h .sound (f .sound e); unfinished = λ 
 -- ---- records that lead on
 
 -- with other words for the counts
-counted : {t : List ℕ} {at n n′ e e′ a p : ℕ} {c c′ : Clock} {s s′ : Stand} → n ≡ n′ → e ≡ e′ → Takes t at c s n e a p c′ s′ → Takes t at c s n′ e′ a p c′ s′
-counted {t} {at} {n} {n′} {e} {e′} {a} {p} {c} {c′} {s} {s′} h k x =
-    subst (λ (m : ℕ). Takes t at c s m e′ a p c′ s′) h (subst (λ (f : ℕ). Takes t at c s n f a p c′ s′) k x)
+counted : {typed : Bool} {t : List ℕ} {at n n′ e e′ a p : ℕ} {c c′ : Clock} {s s′ : Stand} → n ≡ n′ → e ≡ e′ → Takes typed t at c s n e a p c′ s′ → Takes typed t at c s n′ e′ a p c′ s′
+counted {typed} {t} {at} {n} {n′} {e} {e′} {a} {p} {c} {c′} {s} {s′} h k x =
+    subst (λ (m : ℕ). Takes typed t at c s m e′ a p c′ s′) h (subst (λ (f : ℕ). Takes typed t at c s n f a p c′ s′) k x)
 
-pub leads-start : (t : List ℕ) (at : ℕ) (c : Clock) (s : Stand) → Leads t at c s 0 0 at c s
+pub leads-start : {typed : Bool} (t : List ℕ) (at : ℕ) (c : Clock) (s : Stand) → Leads typed t at c s 0 0 at c s
 leads-start t at c s = record { few = omega arith; eights = omega arith; fits = λ b h. h; many = refl; rest = λ x. counted (omega arith) (omega arith) x }
 
 one-small : (b : Bool) → one b ≤ 1
@@ -67,20 +68,20 @@ one-small false = omega arith
 pub eight-small : (answer : ℕ) {u : ℕ} → u ≡ one (eqb answer 8) → u ≤ 1
 eight-small answer e = subst (λ (x : ℕ). x ≤ 1) (sym e) (one-small (eqb answer 8))
 
-pub leads-one : {t : List ℕ} {at a next : ℕ} {c c′ : Clock} {s s′ : Stand} → Goes t at c s a next c′ s′ → Leads t at c s 1 (one (eqb a 8)) next c′ s′
-leads-one {t} {at} {a} {next} {c} {c′} {s} {s′} g =
+pub leads-one : {typed : Bool} {t : List ℕ} {at a next : ℕ} {c c′ : Clock} {s s′ : Stand} → Goes typed t at c s a next c′ s′ → Leads typed t at c s 1 (one (eqb a 8)) next c′ s′
+leads-one {typed} {t} {at} {a} {next} {c} {c′} {s} {s′} g =
     let f = g .further in
-    let h = gives-stay t (nextAt t at) c s a s′ (g .gives) (g .accepted) in
+    let h = gives-stay typed t (nextAt t at) c s a s′ (g .gives) (g .accepted) in
     record {
       few = omega (arith, f .0);
       eights = one-small (eqb a 8);
       fits = stays-fit h;
       many = h .many;
       rest = λ {m} {f} {a = b} {p} {c″} {s″} x. counted (omega arith) refl
-          (goes a (g .gives) (g .accepted) (subst (λ (i : ℕ). Takes t i (clockAfter (nextAt t at) c) s′ m f b p c″ s″) (g .place) (subst (λ (u : Clock). Takes t next u s′ m f b p c″ s″) (g .clock) x)));
+          (goes a (g .gives) (g .accepted) (subst (λ (i : ℕ). Takes typed t i (clockAfter (nextAt t at) c) s′ m f b p c″ s″) (g .place) (subst (λ (u : Clock). Takes typed t next u s′ m f b p c″ s″) (g .clock) x)));
     }
 
-pub leads-then : {t : List ℕ} {at at′ at″ n m e f : ℕ} {c c′ c″ : Clock} {s s′ s″ : Stand} → Leads t at c s n e at′ c′ s′ → Leads t at′ c′ s′ m f at″ c″ s″ → Leads t at c s (n + m) (e + f) at″ c″ s″
+pub leads-then : {typed : Bool} {t : List ℕ} {at at′ at″ n m e f : ℕ} {c c′ c″ : Clock} {s s′ s″ : Stand} → Leads typed t at c s n e at′ c′ s′ → Leads typed t at′ c′ s′ m f at″ c″ s″ → Leads typed t at c s (n + m) (e + f) at″ c″ s″
 leads-then {n = n} {m = m} {e = e} {f = f} x y =
     record {
       few = omega (arith, x .few, y .few);
@@ -91,5 +92,5 @@ leads-then {n = n} {m = m} {e = e} {f = f} x y =
     }
 
 -- the block is over where they lead to
-pub leads-over : {t : List ℕ} {at at′ n e a p : ℕ} {c c′ c″ : Clock} {s s′ s″ : Stand} → Leads t at c s n e at′ c′ s′ → Takes t at′ c′ s′ 0 0 a p c″ s″ → Takes t at c s n e a p c″ s″
+pub leads-over : {typed : Bool} {t : List ℕ} {at at′ n e a p : ℕ} {c c′ c″ : Clock} {s s′ s″ : Stand} → Leads typed t at c s n e at′ c′ s′ → Takes typed t at′ c′ s′ 0 0 a p c″ s″ → Takes typed t at c s n e a p c″ s″
 leads-over x z = counted (omega arith) (omega arith) (x .rest z)

@@ -83,25 +83,29 @@ part-is b {n} n′ {p} q e h =
 -- ---- the loop's invariant
 
 -- the packets so far lead from s₀ to s, whose state no packet finds ill or finished where the loop is ready, and a has the addresses of its devices
-pub record Streaming (b : Bool) (t : List ℕ) (at₀ : ℕ) (c₀ : Clock) (s₀ : Stand) (n e at : ℕ) (c : Clock) (s : Stand) (a : List ℕ) : Type 0 where
-  pub leads : Leads t at₀ c₀ s₀ n e at c s
+pub record Streaming (typed : Bool) (b : Bool) (t : List ℕ) (at₀ : ℕ) (c₀ : Clock) (s₀ : Stand) (n e at : ℕ) (c : Clock) (s : Stand) (a : List ℕ) : Type 0 where
+  pub leads : Leads typed t at₀ c₀ s₀ n e at c s
   pub sizes : SameSizes (s₀ .state .logs) (s .state .logs)
   pub fits : Fits b (s .state)
   pub many : length (s .state .devices) ≡ 64
   pub addressed : Addressed 64 a (s .state .devices)
 
-pub streaming-start : {b : Bool} (t : List ℕ) (at : ℕ) (c : Clock) {s : Stand} {a : List ℕ} → Fits b (s .state) → length (s .state .devices) ≡ 64 → Addressed 64 a (s .state .devices) → Streaming b t at c s 0 0 at c s a
+-- whether typed-in details are obeyed or not
+abbrev pub StreamingEither : Bool → List ℕ → ℕ → Clock → Stand → ℕ → ℕ → ℕ → Clock → Stand → List ℕ → Type 0
+StreamingEither b t at₀ c₀ s₀ n e at c s a = (typed : Bool) → Streaming typed b t at₀ c₀ s₀ n e at c s a
+
+pub streaming-start : {typed : Bool} {b : Bool} (t : List ℕ) (at : ℕ) (c : Clock) {s : Stand} {a : List ℕ} → Fits b (s .state) → length (s .state .devices) ≡ 64 → Addressed 64 a (s .state .devices) → Streaming typed b t at c s 0 0 at c s a
 streaming-start t at c {s} f m d = record { leads = leads-start t at c s; sizes = λ k u. refl; fits = f; many = m; addressed = d }
 
 -- a record that the loop does not take
-pub streaming-ends : {b : Bool} {t a : List ℕ} {at₀ n e at : ℕ} {c₀ c : Clock} {s₀ s : Stand} → Streaming b t at₀ c₀ s₀ n e at c s a
-    → Runs t at₀ c₀ s₀ (record { going = true; answer = 0; taken = n; eights = e; place = at; clock = c; decoder = s .state .decoder; devices = s .state .devices }) (s .state .table) (s .state .logs) (s .shelf)
+pub streaming-ends : {typed : Bool} {b : Bool} {t a : List ℕ} {at₀ n e at : ℕ} {c₀ c : Clock} {s₀ s : Stand} → Streaming typed b t at₀ c₀ s₀ n e at c s a
+    → Runs typed t at₀ c₀ s₀ (record { going = true; answer = 0; taken = n; eights = e; place = at; clock = c; decoder = s .state .decoder; devices = s .state .devices }) (s .state .table) (s .state .logs) (s .shelf)
 streaming-ends g = record { leads = λ z. g .leads; over = λ z. absurd (true≢false z); counted = (g .leads .few, g .leads .eights) }
 
 abbrev pub bytesOf : List ℕ → Part → List ℕ
 bytesOf t p = take (p .end - p .start) (drop (p .start) t)
 
-module _ {b : Bool} {t a : List ℕ} {at₀ n e at : ℕ} {c₀ c : Clock} {s₀ s : Stand} {p : Part} (g : Streaming b t at₀ c₀ s₀ n e at c s a) (k : IsPart b (nextAt t at) p) where
+module _ {typed : Bool} {b : Bool} {t a : List ℕ} {at₀ n e at : ℕ} {c₀ c : Clock} {s₀ s : Stand} {p : Part} (g : Streaming typed b t at₀ c₀ s₀ n e at c s a) (k : IsPart b (nextAt t at) p) where
   pub streaming-unfinished : s .state .decoder .finished ≡ false
   streaming-unfinished = g .fits .unfinished (k .ready)
 
@@ -173,22 +177,22 @@ module _ {b : Bool} {t a : List ℕ} {at₀ n e at : ℕ} {c₀ c : Clock} {s₀
   -- ---- what a packet leaves
 
   module _ {answer : ℕ} {s′ : State} {h′ : List ℕ} {c′ : Clock} (tick : c′ ≡ tickOf c (p .ticks)) (x : PacketCall (bytesOf t p) (c′ .time) (s .state) (s .shelf) answer s′ h′) where
-    gives : Gives t (nextAt t at) c s answer (stand s′ h′)
+    gives : Gives typed t (nextAt t at) c s answer (stand s′ h′)
     gives =
-        here t at c s (Packet (p .ticks) (p .start) (p .end) (k .next)) answer (stand s′ h′) (k .found)
+        here typed t at c s (Packet (p .ticks) (p .start) (p .end) (k .next)) answer (stand s′ h′) (k .found)
         (subst (λ (u : Clock). PacketCall (bytesOf t p) (u .time) (s .state) (s .shelf) answer s′ h′) tick x)
 
     -- a refused packet leaves what is the loop's, too, as it was: the devices, the log of requests and the shelf
-    left : accepts answer ≡ false → Takes t at₀ c₀ s₀ n e answer at c (stand (state (s′ .decoder) (s .state .devices) (s′ .table) (withRequests (s .state .logs .requests) (s′ .logs))) (s .shelf))
+    left : accepts answer ≡ false → Takes typed t at₀ c₀ s₀ n e answer at c (stand (state (s′ .decoder) (s .state .devices) (s′ .table) (withRequests (s .state .logs .requests) (s′ .logs))) (s .shelf))
     left h =
-        let same = gives-same t (nextAt t at) c s answer (stand s′ h′) gives h in
-        subst (Takes t at₀ c₀ s₀ n e answer at c) (λ i. stand (state (s′ .decoder) (same i .state .devices) (s′ .table) (withRequests (same i .state .logs .requests) (s′ .logs))) (same i .shelf))
+        let same = gives-same typed t (nextAt t at) c s answer (stand s′ h′) gives h in
+        subst (Takes typed t at₀ c₀ s₀ n e answer at c) (λ i. stand (state (s′ .decoder) (same i .state .devices) (s′ .table) (withRequests (same i .state .logs .requests) (s′ .logs))) (same i .shelf))
         (leads-over (g .leads) (stops gives h))
 
-    pub streaming-stops : accepts answer ≡ false → Runs t at₀ c₀ s₀ (record { going = false; answer = answer; taken = n; eights = e; place = at; clock = c; decoder = s′ .decoder; devices = s .state .devices }) (s′ .table) (withRequests (s .state .logs .requests) (s′ .logs)) (s .shelf)
+    pub streaming-stops : accepts answer ≡ false → Runs typed t at₀ c₀ s₀ (record { going = false; answer = answer; taken = n; eights = e; place = at; clock = c; decoder = s′ .decoder; devices = s .state .devices }) (s′ .table) (withRequests (s .state .logs .requests) (s′ .logs)) (s .shelf)
     streaming-stops h = record { leads = λ z. absurd (true≢false (sym z)); over = λ z. left h; counted = (g .leads .few, g .leads .eights) }
 
-    goes : accepts answer ≡ true → Goes t at c s answer (p .next) c′ (stand s′ h′)
+    goes : accepts answer ≡ true → Goes typed t at c s answer (p .next) c′ (stand s′ h′)
     goes h =
         record {
           gives = gives;
@@ -199,7 +203,7 @@ module _ {b : Bool} {t a : List ℕ} {at₀ n e at : ℕ} {c₀ c : Clock} {s₀
         }
 
     pub streaming-more : {a′ : List ℕ} {u : ℕ} → accepts answer ≡ true → u ≡ one (eqb answer 8) → Addressed 64 a′ (s′ .devices) → SameSizes (s .state .logs) (s′ .logs)
-        → Streaming b t at₀ c₀ s₀ (n + 1) (e + u) (p .next) c′ (stand s′ h′) a′
+        → Streaming typed b t at₀ c₀ s₀ (n + 1) (e + u) (p .next) c′ (stand s′ h′) a′
     streaming-more h q d z =
         let l = leads-one (goes h) in
-        record { leads = leads-then (g .leads) (subst (λ (f : ℕ). Leads t at c s 1 f (p .next) c′ (stand s′ h′)) (sym q) l); sizes = λ j u. z j u ∙ g .sizes j u; fits = l .fits b (g .fits); many = l .many ∙ g .many; addressed = d }
+        record { leads = leads-then (g .leads) (subst (λ (f : ℕ). Leads typed t at c s 1 f (p .next) c′ (stand s′ h′)) (sym q) l); sizes = λ j u. z j u ∙ g .sizes j u; fits = l .fits b (g .fits); many = l .many ∙ g .many; addressed = d }

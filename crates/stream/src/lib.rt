@@ -27,7 +27,7 @@ ghost use mathlib.Core.Bool.{true};
 ghost use mathlib.Core.Path.{_≡_};
 ghost use Rattle.call.specs.State.{state, logs};
 ghost use Rattle.step.specs.Block.{stand};
-ghost use Rattle.stream.specs.Leads.{Fits, Runs};
+ghost use Rattle.stream.specs.Leads.{Fits, RunsEither};
 
 // Where it ends: at a record that it doesn't take, so the block goes on there; or at a packet that was refused, with that answer.
 pub struct Run {
@@ -65,7 +65,7 @@ pub fn run_packets(
     shelf: &mut Shelf,
 ) -> Run
     requires { ⌜ Fits ready (state d devices (now table) (logs (now bytes) (now «device_rows») (now «endpoint_rows») (now packets) (now events) (now transactions) (now groups) (now statebytes) (now states) (now items) (now links) (now requests))) ⌝ }
-    ensures { λ r. ⌜ Runs (now (records .entry)) at clock (stand (state d devices (now (table .entry)) (logs (now (bytes .entry)) (now («device_rows» .entry)) (now («endpoint_rows» .entry)) (now (packets .entry)) (now (events .entry)) (now (transactions .entry)) (now (groups .entry)) (now (statebytes .entry)) (now (states .entry)) (now (items .entry)) (now (links .entry)) (now (requests .entry)))) (now (shelf .entry))) r (now (table .exit)) (logs (now (bytes .exit)) (now («device_rows» .exit)) (now («endpoint_rows» .exit)) (now (packets .exit)) (now (events .entry)) (now (transactions .exit)) (now (groups .exit)) (now (statebytes .exit)) (now (states .exit)) (now (items .exit)) (now (links .exit)) (now (requests .exit))) (now (shelf .exit)) ⌝ }
+    ensures { λ r. ⌜ RunsEither (now (records .entry)) at clock (stand (state d devices (now (table .entry)) (logs (now (bytes .entry)) (now («device_rows» .entry)) (now («endpoint_rows» .entry)) (now (packets .entry)) (now (events .entry)) (now (transactions .entry)) (now (groups .entry)) (now (statebytes .entry)) (now (states .entry)) (now (items .entry)) (now (links .entry)) (now (requests .entry)))) (now (shelf .entry))) r (now (table .exit)) (logs (now (bytes .exit)) (now («device_rows» .exit)) (now («endpoint_rows» .exit)) (now (packets .exit)) (now (events .entry)) (now (transactions .exit)) (now (groups .exit)) (now (statebytes .exit)) (now (states .exit)) (now (items .exit)) (now (links .exit)) (now (requests .exit))) (now (shelf .exit)) ⌝ }
 {
     let mut decoder = d;
     let mut addresses = addresses_of(devices);

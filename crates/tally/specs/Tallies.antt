@@ -1,4 +1,4 @@
--- Inner (cited by private contracts alone): how many rows a call adds, step by step (steps), before anything is written; and the counts then.
+-- Inner (cited by private contracts alone): how many rows a call adds, step by step (plan), before anything is written; and the counts then.
 use Prim.Native.Nat.{ℕ, _+_, _-_, _^_, _<_, _≤_}
 use mathlib.Core.Bool.{Bool, false, not, _&&_}
 use Rattle.rows.specs.One.{one}

@@ -187,6 +187,17 @@ pub fn request_line(
     note_end(out, next, note % 4, note / 4)
 }
 
+// The last line: how many details were typed in; none where there are none.
+pub fn details_line(out: &mut [u8], at: usize, n: u64) -> usize
+    requires { ⌜ Room (now out) at (lines.detailsLine n) ⌝ }
+    ensures { λ r. ⌜ Appended (now (out .entry)) at (lines.detailsLine n) (now (out .exit)) r ⌝ }
+{
+    if n == 0 {
+        return at;
+    }
+    line(out, at, b"details", &[n], b"\n")
+}
+
 pub fn refused_line(out: &mut [u8], at: usize, answer: u64, place: u64) -> usize
     requires { ⌜ Room (now out) at (lines.refusedLine answer place) ⌝ }
     ensures { λ r. ⌜ Appended (now (out .entry)) at (lines.refusedLine answer place) (now (out .exit)) r ⌝ }

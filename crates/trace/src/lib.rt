@@ -1,5 +1,6 @@
 // The UTL trace (document 01, "Trace and listing"): its header, its records taken one at a time, and their times.
 pub mod clock;
+pub mod details;
 pub mod reader;
 
 ghost use mathlib.Core.Path.{_≡_};

@@ -29,7 +29,7 @@ use Rattle.record.specs.declared.Decoder.{Decoder}
 use Rattle.call.specs.Outcome.{countsAfter, decoderOf, accepts, Left, worldAt}
 use Rattle.call.specs.OutcomeLaws.{unique}
 use Rattle.call.specs.State.{Logs, State}
-use Rattle.start.specs.Detail.{Details}
+use Rattle.typed.specs.Detail.{Details}
 use Rattle.start.specs.Fresh.{Makes}
 use Rattle.start.specs.FreshLaws.{fresh-stands}
 use Rattle.packet.specs.Call.{after, PacketCall}

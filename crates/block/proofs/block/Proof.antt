@@ -9,7 +9,6 @@ block-spec =
     tie.close
     (tie.spec
     (λ c κs. tt)
-    (λ c. returns·records c .records .kept .1 .1 .1 .1 .1 .1 .0)
     (λ c. returns·records c .records .kept .1 .1 .1 .1 .1 .1 .1 .0)
     (λ c. returns·records c .records .kept .1 .1 .1 .1 .1 .1 .1 .1 .0)
     (λ c. returns·records c .records .kept .1 .1 .1 .1 .1 .1 .1 .1 .1 .0)
@@ -21,4 +20,5 @@ block-spec =
     (λ c. returns·records c .records .kept .1 .1 .1 .1 .1 .1 .1 .1 .1 .1 .1 .1 .1 .1 .1 .0)
     (λ c. returns·records c .records .kept .1 .1 .1 .1 .1 .1 .1 .1 .1 .1 .1 .1 .1 .1 .1 .1 .0)
     (λ c. returns·records c .records .kept .1 .1 .1 .1 .1 .1 .1 .1 .1 .1 .1 .1 .1 .1 .1 .1 .1 .0)
+    (λ c. returns·records c .records .kept .1 .1 .1 .1 .1 .1 .1 .1 .1 .1 .1 .1 .1 .1 .1 .1 .1 .1 .0)
     (λ c. returns·records c .records .ensures))

@@ -15,11 +15,11 @@ mod Places
 use Places.*
 
 abbrev Inv-loop : tie.InvT-loop
-Inv-loop records start table₀ bytes₀ device-rows₀ endpoint-rows₀ packets₀ events₀ transactions₀ groups₀ statebytes₀ states₀ items₀ links₀ requests₀ shelf₀ sound ready run₀ table bytes device-rows endpoint-rows packets events transactions groups statebytes states items links requests shelf run =
-    Taking ready records (run₀ .place) (run₀ .clock) (stand (state (run₀ .decoder) (run₀ .devices) table₀ (logs bytes₀ device-rows₀ endpoint-rows₀ packets₀ events₀ transactions₀ groups₀ statebytes₀ states₀ items₀ links₀ requests₀)) shelf₀) run table (logs bytes device-rows endpoint-rows packets events transactions groups statebytes states items links requests) shelf
+Inv-loop typed records start table₀ bytes₀ device-rows₀ endpoint-rows₀ packets₀ events₀ transactions₀ groups₀ statebytes₀ states₀ items₀ links₀ requests₀ shelf₀ sound ready run₀ table bytes device-rows endpoint-rows packets events transactions groups statebytes states items links requests shelf run =
+    Taking typed ready records (run₀ .place) (run₀ .clock) (stand (state (run₀ .decoder) (run₀ .devices) table₀ (logs bytes₀ device-rows₀ endpoint-rows₀ packets₀ events₀ transactions₀ groups₀ statebytes₀ states₀ items₀ links₀ requests₀)) shelf₀) run table (logs bytes device-rows endpoint-rows packets events transactions groups statebytes states items links requests) shelf
 
 abbrev μ-loop : tie.MeasureT-loop
-μ-loop records start table₀ bytes₀ device-rows₀ endpoint-rows₀ packets₀ events₀ transactions₀ groups₀ statebytes₀ states₀ items₀ links₀ requests₀ shelf₀ sound ready run₀ table bytes device-rows endpoint-rows packets events transactions groups statebytes states items links requests shelf run =
+μ-loop typed records start table₀ bytes₀ device-rows₀ endpoint-rows₀ packets₀ events₀ transactions₀ groups₀ statebytes₀ states₀ items₀ links₀ requests₀ shelf₀ sound ready run₀ table bytes device-rows endpoint-rows packets events transactions groups statebytes states items links requests shelf run =
     length records - run .place
 
 -- the state that the block begins with
@@ -31,12 +31,11 @@ abbrev lent : tie.At-loop Inv-loop μ-loop → Logs
 lent c = logs (c .loop .bytes) (c .loop .device-rows) (c .loop .endpoint-rows) (c .loop .packets) (c .loop .events) (c .loop .transactions) (c .loop .groups) (c .loop .statebytes) (c .loop .states) (c .loop .items) (c .loop .links) (c .loop .requests)
 
 abbrev left : tie.After-round Inv-loop μ-loop → Logs
-left c = logs (c .round .last .1 .1 .1 .1 .0) (c .round .last .1 .1 .1 .1 .1 .0) (c .round .last .1 .1 .1 .1 .1 .1 .0) (c .round .last .1 .1 .1 .1 .1 .1 .1 .0) (c .round .last .1 .1 .1 .1 .1 .1 .1 .1 .0) (c .round .last .1 .1 .1 .1 .1 .1 .1 .1 .1 .0) (c .round .last .1 .1 .1 .1 .1 .1 .1 .1 .1 .1 .0) (c .round .last .1 .1 .1 .1 .1 .1 .1 .1 .1 .1 .1 .0) (c .round .last .1 .1 .1 .1 .1 .1 .1 .1 .1 .1 .1 .1 .0) (c .round .last .1 .1 .1 .1 .1 .1 .1 .1 .1 .1 .1 .1 .1 .0) (c .round .last .1 .1 .1 .1 .1 .1 .1 .1 .1 .1 .1 .1 .1 .1 .0) (c .round .last .1 .1 .1 .1 .1 .1 .1 .1 .1 .1 .1 .1 .1 .1 .1 .0)
+left c = logs (c .round .last .1 .1 .1 .1 .1 .0) (c .round .last .1 .1 .1 .1 .1 .1 .0) (c .round .last .1 .1 .1 .1 .1 .1 .1 .0) (c .round .last .1 .1 .1 .1 .1 .1 .1 .1 .0) (c .round .last .1 .1 .1 .1 .1 .1 .1 .1 .1 .0) (c .round .last .1 .1 .1 .1 .1 .1 .1 .1 .1 .1 .0) (c .round .last .1 .1 .1 .1 .1 .1 .1 .1 .1 .1 .1 .0) (c .round .last .1 .1 .1 .1 .1 .1 .1 .1 .1 .1 .1 .1 .0) (c .round .last .1 .1 .1 .1 .1 .1 .1 .1 .1 .1 .1 .1 .1 .0) (c .round .last .1 .1 .1 .1 .1 .1 .1 .1 .1 .1 .1 .1 .1 .1 .0) (c .round .last .1 .1 .1 .1 .1 .1 .1 .1 .1 .1 .1 .1 .1 .1 .1 .0) (c .round .last .1 .1 .1 .1 .1 .1 .1 .1 .1 .1 .1 .1 .1 .1 .1 .1 .0)
 
 left-sizes : (c : tie.After-round Inv-loop μ-loop) → SameSizes (lent (round·At-loop c)) (left c)
 left-sizes c =
     each-log _
-    (c .round .kept .1 .1 .1 .1 .0)
     (c .round .kept .1 .1 .1 .1 .1 .0)
     (c .round .kept .1 .1 .1 .1 .1 .1 .0)
     (c .round .kept .1 .1 .1 .1 .1 .1 .1 .0)
@@ -48,6 +47,7 @@ left-sizes c =
     (c .round .kept .1 .1 .1 .1 .1 .1 .1 .1 .1 .1 .1 .1 .1 .0)
     (c .round .kept .1 .1 .1 .1 .1 .1 .1 .1 .1 .1 .1 .1 .1 .1 .0)
     (c .round .kept .1 .1 .1 .1 .1 .1 .1 .1 .1 .1 .1 .1 .1 .1 .1 .0)
+    (c .round .kept .1 .1 .1 .1 .1 .1 .1 .1 .1 .1 .1 .1 .1 .1 .1 .1 .0)
 
 sizes : (c : tie.After-round Inv-loop μ-loop) → SameSizes (begun (round·Start c) .logs) (left c)
 sizes c k u = left-sizes c k u ∙ round·At-loop c .loop .inv .sizes k u

@@ -16,7 +16,10 @@ run-requires : tie.Need-run-requires
 run-requires c κs = tt
 
 report-requires : tie.Need-report-requires
-report-requires c κs = let r = report-requires·run c in (has-rows (r .run .ensures), text-room (r .run .ensures) (run·Start r .args .out .now) (same-room r) (run·Start r .pre))
+report-requires c κs =
+    let r = report-requires·run c in
+    let e = report-requires·count-details c .count-details .ensures in
+    (has-rows (r .run .ensures) e, text-room (r .run .ensures) e (run·Start r .args .out .now) (same-room r) (run·Start r .pre))
 
 same-length : tie.Need-same-length
 same-length c = returns·run c .run .kept .1 .1 .0
@@ -55,16 +58,20 @@ same-length-12 : tie.Need-same-length-12
 same-length-12 c = returns·run c .run .kept .1 .1 .1 .1 .1 .1 .1 .1 .1 .1 .1 .1 .1 .0
 
 same-length-13 : tie.Need-same-length-13
-same-length-13 c = returns·report c .report .kept .1 .1 .1 .1 .1 .1 .1 .1 .1 .1 .1 .1 .1 .1 .0
+same-length-13 c = returns·report c .report .kept .1 .1 .1 .1 .1 .1 .1 .1 .1 .1 .1 .1 .1 .1 .1 .0
 
 returns : tie.Need-returns
-returns c = let r = returns·run c in shows (r .run .ensures) (text-room (r .run .ensures) (run·Start r .args .out .now) (same-room r) (run·Start r .pre)) (returns·report c .report .ensures)
+returns c =
+    let r = returns·run c in
+    let e = returns·count-details c .count-details .ensures in
+    shows (r .run .ensures) e (text-room (r .run .ensures) e (run·Start r .args .out .now) (same-room r) (run·Start r .pre)) (returns·report c .report .ensures)
 
 pub show-spec : {M : Type 1} → statement M
 show-spec =
     tie.close
     (tie.spec
     run-requires
+    (λ c κs. tt)
     report-requires
     same-length
     same-length-2

@@ -5,10 +5,16 @@ abbrev pub run·Start : tie.After-run → tie.Start
 run·Start c = c .before .before .before .before .before .before .before .before .before .before .before .before .before .before .before .before .before .before .before .before .before .before .before .before .before .before .before .before .before
 
 abbrev pub report-requires·run : tie.After-report-arg12 → tie.After-run
-report-requires·run c = c .before .before .before .before .before .before .before .before .before .before .before .before .before .before .before .before .before .before .before .before .before .before .before .before .before .before .before .before .before .before .before .before .before .before .before .before .before .before
+report-requires·run c = c .before .before .before .before .before .before .before .before .before .before .before .before .before .before .before .before .before .before .before .before .before .before .before .before .before .before .before .before .before .before .before .before .before .before .before .before .before .before .before
+
+abbrev pub report-requires·count-details : tie.After-report-arg12 → tie.After-count-details
+report-requires·count-details c = c .before .before .before .before .before .before .before .before .before .before .before .before
 
 abbrev pub returns·run : tie.After-slice-known26 → tie.After-run
-returns·run c = c .before .before .before .before .before .before .before .before .before .before .before .before .before .before .before .before .before .before .before .before .before .before .before .before .before .before .before .before .before .before .before .before .before .before .before .before .before .before .before .before .before
+returns·run c = c .before .before .before .before .before .before .before .before .before .before .before .before .before .before .before .before .before .before .before .before .before .before .before .before .before .before .before .before .before .before .before .before .before .before .before .before .before .before .before .before .before .before
 
 abbrev pub returns·report : tie.After-slice-known26 → tie.After-report
 returns·report c = c .before .before
+
+abbrev pub returns·count-details : tie.After-slice-known26 → tie.After-count-details
+returns·count-details c = c .before .before .before .before .before .before .before .before .before .before .before .before .before .before .before

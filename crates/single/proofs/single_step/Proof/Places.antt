@@ -19,62 +19,74 @@ part-packet-end·Start c = c .before .before .before .before .before .before .be
 abbrev pub part-packet-end·found : tie.After-tick → tie.After-found
 part-packet-end·found c = c .before .before
 
-abbrev pub returns·Start : tie.After-went → tie.Start
-returns·Start c = c .before .before .before .before .before .before .before .before .before .before .before .before .before .before .before .before .before .before .before .before .before .before .before .before .before .before .before .before .before .before .before .before .before .before .before .before .before .before .before .before .before .before .before .before .before .before .before .before .before .before .before .before .before .before .before .before .before .before
+abbrev pub returns·Then1 : tie.After-over → tie.Then1
+returns·Then1 c = c .before
 
-abbrev pub returns·found : tie.After-went → tie.After-found
-returns·found c = c .before .before .before .before .before .before .before .before .before .before .before .before .before .before .before .before .before .before .before .before .before .before .before .before .before .before .before .before .before .before .before .before .before .before .before .before .before .before .before .before .before .before .before
+abbrev pub returns·Start : tie.After-over → tie.Start
+returns·Start c = c .before .before .before .before .before .before .before .before .before .before .before .before .before .before .before .before .before .before
 
-abbrev pub returns·tick : tie.After-went → tie.After-tick
-returns·tick c = c .before .before .before .before .before .before .before .before .before .before .before .before .before .before .before .before .before .before .before .before .before .before .before .before .before .before .before .before .before .before .before .before .before .before .before .before .before .before .before .before .before
+abbrev pub returns·found3 : tie.After-over → tie.After-found3
+returns·found3 c = c .before .before .before
 
-abbrev pub returns·packet : tie.After-went → tie.After-packet
-returns·packet c = c .before .before .before .before .before .before .before .before .before .before .before .before .before .before .before .before .before .before .before .before .before .before .before .before .before
+abbrev pub returns-2·Start : tie.After-went → tie.Start
+returns-2·Start c = c .before .before .before .before .before .before .before .before .before .before .before .before .before .before .before .before .before .before .before .before .before .before .before .before .before .before .before .before .before .before .before .before .before .before .before .before .before .before .before .before .before .before .before .before .before .before .before .before .before .before .before .before .before .before .before .before .before .before
 
-abbrev pub returns-2·Start : tie.After-went2 → tie.Start
-returns-2·Start c = c .before .before .before .before .before .before .before .before .before .before .before .before .before .before .before .before .before .before .before .before .before .before .before .before .before .before .before .before .before .before .before .before .before .before .before .before .before .before .before .before .before .before .before .before .before .before .before .before .before .before
+abbrev pub returns-2·found : tie.After-went → tie.After-found
+returns-2·found c = c .before .before .before .before .before .before .before .before .before .before .before .before .before .before .before .before .before .before .before .before .before .before .before .before .before .before .before .before .before .before .before .before .before .before .before .before .before .before .before .before .before .before .before
 
-abbrev pub returns-2·found2 : tie.After-went2 → tie.After-found2
-returns-2·found2 c = c .before .before .before .before .before .before .before .before .before .before .before .before .before .before .before .before .before .before .before .before .before .before .before .before .before .before .before .before .before .before .before .before .before .before .before
+abbrev pub returns-2·tick : tie.After-went → tie.After-tick
+returns-2·tick c = c .before .before .before .before .before .before .before .before .before .before .before .before .before .before .before .before .before .before .before .before .before .before .before .before .before .before .before .before .before .before .before .before .before .before .before .before .before .before .before .before .before
 
-abbrev pub returns-2·tick2 : tie.After-went2 → tie.After-tick2
-returns-2·tick2 c = c .before .before .before .before .before .before .before .before .before .before .before .before .before .before .before .before .before .before .before .before .before .before .before .before .before .before .before .before .before .before .before .before .before
+abbrev pub returns-2·packet : tie.After-went → tie.After-packet
+returns-2·packet c = c .before .before .before .before .before .before .before .before .before .before .before .before .before .before .before .before .before .before .before .before .before .before .before .before .before
 
-abbrev pub returns-2·event : tie.After-went2 → tie.After-event
-returns-2·event c = c .before .before .before .before .before .before .before .before .before .before .before .before .before .before .before .before .before .before .before
+abbrev pub returns-3·Start : tie.After-went2 → tie.Start
+returns-3·Start c = c .before .before .before .before .before .before .before .before .before .before .before .before .before .before .before .before .before .before .before .before .before .before .before .before .before .before .before .before .before .before .before .before .before .before .before .before .before .before .before .before .before .before .before .before .before .before .before .before .before .before
 
-abbrev pub returns-3·Start : tie.After-went3 → tie.Start
-returns-3·Start c = c .before .before .before .before .before .before .before .before .before .before .before .before .before .before .before .before .before .before .before .before .before .before .before .before .before .before .before .before .before .before .before .before .before
+abbrev pub returns-3·found2 : tie.After-went2 → tie.After-found2
+returns-3·found2 c = c .before .before .before .before .before .before .before .before .before .before .before .before .before .before .before .before .before .before .before .before .before .before .before .before .before .before .before .before .before .before .before .before .before .before .before
 
-abbrev pub returns-3·found3 : tie.After-went3 → tie.After-found3
-returns-3·found3 c = c .before .before .before .before .before .before .before .before .before .before .before .before .before .before .before .before .before .before
+abbrev pub returns-3·tick2 : tie.After-went2 → tie.After-tick2
+returns-3·tick2 c = c .before .before .before .before .before .before .before .before .before .before .before .before .before .before .before .before .before .before .before .before .before .before .before .before .before .before .before .before .before .before .before .before .before
 
-abbrev pub returns-3·detail : tie.After-went3 → tie.After-detail
-returns-3·detail c = c .before .before .before
+abbrev pub returns-3·event : tie.After-went2 → tie.After-event
+returns-3·event c = c .before .before .before .before .before .before .before .before .before .before .before .before .before .before .before .before .before .before .before
 
-abbrev pub returns-4·After-enum-told : tie.After-over → tie.After-enum-told
-returns-4·After-enum-told c = c .before .before
+abbrev pub returns-4·Else1 : tie.After-went3 → tie.Else1
+returns-4·Else1 c = c .before .before .before .before .before .before .before .before .before .before .before .before .before .before .before .before .before
 
-abbrev pub returns-4·Start : tie.After-over → tie.Start
-returns-4·Start c = c .before .before .before .before .before .before .before .before .before .before .before .before .before .before .before .before .before
+abbrev pub returns-4·Start : tie.After-went3 → tie.Start
+returns-4·Start c = c .before .before .before .before .before .before .before .before .before .before .before .before .before .before .before .before .before .before .before .before .before .before .before .before .before .before .before .before .before .before .before .before .before .before
 
-abbrev pub returns-4·answer : tie.After-over → tie.After-answer
-returns-4·answer c = c .before
+abbrev pub returns-4·found3 : tie.After-went3 → tie.After-found3
+returns-4·found3 c = c .before .before .before .before .before .before .before .before .before .before .before .before .before .before .before .before .before .before .before
 
-abbrev pub returns-5·enum-told2 : tie.After-over2 → tie.After-enum-told2
-returns-5·enum-told2 c = c .before .before
+abbrev pub returns-4·detail : tie.After-went3 → tie.After-detail
+returns-4·detail c = c .before .before .before
+
+abbrev pub returns-5·After-enum-told : tie.After-over2 → tie.After-enum-told
+returns-5·After-enum-told c = c .before .before
 
 abbrev pub returns-5·Start : tie.After-over2 → tie.Start
 returns-5·Start c = c .before .before .before .before .before .before .before .before .before .before .before .before .before .before .before .before .before
 
-abbrev pub returns-5·answer2 : tie.After-over2 → tie.After-answer2
-returns-5·answer2 c = c .before
+abbrev pub returns-5·answer : tie.After-over2 → tie.After-answer
+returns-5·answer c = c .before
 
-abbrev pub returns-6·enum-told3 : tie.After-over3 → tie.After-enum-told3
-returns-6·enum-told3 c = c .before .before
+abbrev pub returns-6·enum-told2 : tie.After-over3 → tie.After-enum-told2
+returns-6·enum-told2 c = c .before .before
 
 abbrev pub returns-6·Start : tie.After-over3 → tie.Start
 returns-6·Start c = c .before .before .before .before .before .before .before .before .before .before .before .before .before .before .before .before .before
 
-abbrev pub returns-6·answer3 : tie.After-over3 → tie.After-answer3
-returns-6·answer3 c = c .before
+abbrev pub returns-6·answer2 : tie.After-over3 → tie.After-answer2
+returns-6·answer2 c = c .before
+
+abbrev pub returns-7·enum-told3 : tie.After-over4 → tie.After-enum-told3
+returns-7·enum-told3 c = c .before .before
+
+abbrev pub returns-7·Start : tie.After-over4 → tie.Start
+returns-7·Start c = c .before .before .before .before .before .before .before .before .before .before .before .before .before .before .before .before .before
+
+abbrev pub returns-7·answer3 : tie.After-over4 → tie.After-answer3
+returns-7·answer3 c = c .before

@@ -33,8 +33,8 @@ use Rattle.record.specs.declared.Counts.{Counts}
 use Rattle.call.specs.Outcome.{isIll, countsAfter, decoderOf, TableOf, Left, accepts, worldAt}
 use Rattle.call.specs.OutcomeLaws.{unique, same-left, refused, accepted, sound, ill-by, waiting-entries}
 use Rattle.call.specs.State.{State, state, roomOf}
-use Rattle.start.specs.Detail.{Details}
-use Rattle.start.specs.Judges.{Judges}
+use Rattle.typed.specs.Detail.{Details}
+use Rattle.typed.specs.Judges.{Judges}
 
 -- 01: "any two permitted outcomes coincide"
 pub detail-unique : (address number direction kind max : ℕ) (s : State) (a b : ℕ) (s′ s″ : State)

@@ -1,4 +1,5 @@
-// The detail call (01, "Details and tables"): the type and the max of one endpoint of the device that stands for an address.
+// The detail record of an old trace (01, "Details and tables"; 02, 13): the type and the max of one endpoint of the device that stands for an address. No call
+// for users: descriptors give these now, and no typed-in detail overrides one.
 use call::Called;
 use call::is_ill;
 use call::room_of;
@@ -15,8 +16,8 @@ ghost use Rattle.details.specs.Lookup.{foundDevice};
 ghost use Rattle.record.specs.Formed.{wellFormed};
 ghost use Rattle.record.specs.Room.{long};
 ghost use Rattle.call.specs.State.{logs, state};
-ghost use Rattle.start.specs.Detail.{Details};
-ghost use Rattle.start.specs.Judges.{Judges};
+ghost use Rattle.typed.specs.Detail.{Details};
+ghost use Rattle.typed.specs.Judges.{Judges};
 
 // The answer and, where that is 0, the row of the device.
 struct Verdict {

@@ -1,11 +1,11 @@
--- `start::detail::judged` meets its contract: the tests in their order, each return by its law.
+-- `typed::judged` meets its contract: the tests in their order, each return by its law.
 use mathlib.Core.Path.{sym, ap, _∙_}
 use borrow.Author.Needs.{needs}
 use Rattle.details.specs.Lookup.{detailAnswer}
 use Rattle.call.specs.OutcomeLaws.{sound-by}
-use Rattle.start.specs.DetailLaws.{judged-ill, judged-finished, judged-detail, no-device}
-use Rattle.start.proofs.detail.judged.Statement.{statement}
-use Rattle.start.proofs.detail.judged.Tie as tie
+use Rattle.typed.specs.DetailLaws.{judged-ill, judged-finished, judged-detail, no-device}
+use Rattle.typed.proofs.judged.Statement.{statement}
+use Rattle.typed.proofs.judged.Tie as tie
 mod Places
 use Places.*
 

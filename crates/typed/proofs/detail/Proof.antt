@@ -1,4 +1,4 @@
--- `start::detail::detail` meets its contract: the verdict of `judged` at the state that was lent, and the device stored where it is 0.
+-- `typed::detail` meets its contract: the verdict of `judged` at the state that was lent, and the device stored where it is 0.
 use Prim.Native.Nat.{_<_}
 use native.Mathlib.Omega.{arith}
 use mathlib.Core.Path.{_≡_}
@@ -9,10 +9,10 @@ use Rattle.rules.specs.Endpoints.{deviceFor}
 use Rattle.call.specs.Outcome.{isIll, worldAt}
 use Rattle.call.specs.OutcomeLaws.{sound}
 use Rattle.call.specs.State.{State, state, logs}
-use Rattle.start.specs.Judges.{Judges}
-use Rattle.start.specs.DetailLaws.{judged-at, passed, detail-refused, detail-accepted, found-below}
-use Rattle.start.proofs.detail.detail.Statement.{statement}
-use Rattle.start.proofs.detail.detail.Tie as tie
+use Rattle.typed.specs.Judges.{Judges}
+use Rattle.typed.specs.DetailLaws.{judged-at, passed, detail-refused, detail-accepted, found-below}
+use Rattle.typed.proofs.detail.Statement.{statement}
+use Rattle.typed.proofs.detail.Tie as tie
 mod Places
 use Places.*
 
