@@ -27,6 +27,7 @@ fn main() {
         if name == "decoder" {
             mutants(&text, "mutants", &out);
             mutants(&text, "slips", &out);
+            traced(&text, &out);
             let (text, cases) = counted::counted(&text);
             fs::write(out.join("counted.rs"), text).expect("OUT_DIR can be written");
             fs::write(out.join("cases.rs"), counted::table(&cases)).expect("OUT_DIR can be written");
@@ -72,6 +73,19 @@ fn changed(mut text: String, script: &str) -> String {
         }
     }
     text
+}
+
+/// The slips that the ledger must find (src/once.rs).
+const COUNTED_WRONG: [&str; 2] = ["payload_seen", "wait_kept"];
+
+/// The decoder, and those with such a slip, with an account of what they count (changes/traced.txt).
+fn traced(decoder: &str, out: &Path) {
+    let script = fs::read_to_string("changes/traced.txt").expect("traced");
+    fs::write(out.join("traced.rs"), changed(decoder.to_string(), &script)).expect("OUT_DIR can be written");
+    for slip in COUNTED_WRONG {
+        let text = fs::read_to_string(out.join(format!("mutant_{slip}.rs"))).expect(slip);
+        fs::write(out.join(format!("traced_{slip}.rs")), changed(text, &script)).expect("OUT_DIR can be written");
+    }
 }
 
 /// A decoder with one deliberate fault for each part of the file that starts with `mutant NAME`, and a list of what `check` finds in each.

@@ -286,7 +286,7 @@ pub struct CaptureWriter {
 
 /// An empty capture. With a trail the journal has the place of packet, group and item rows too.
 pub fn create_capture(trail: bool, descriptors: Descriptors) -> CaptureWriter {
-    let journal = Rc::new(RefCell::new(Journal { marks: Vec::new(), links: 0, trail }));
+    let journal = Rc::new(RefCell::new(Journal { trail, ..Journal::default() }));
     let mut capture = CaptureWriter {
         counters: CounterSet { endpoints: 0, journal: journal.clone() },
         shared: Arc::new(CaptureShared {

@@ -16,6 +16,7 @@ pub mod damage;
 pub mod descriptors;
 pub mod enumerations;
 pub mod generate;
+pub mod ledger;
 pub mod lemmas;
 #[cfg(feature = "port")]
 pub mod library;
@@ -23,6 +24,7 @@ pub mod limits;
 pub mod listed;
 pub mod listing;
 pub mod mixed;
+pub mod once;
 pub mod own;
 pub mod own_and_ruled;
 pub mod packets;
@@ -91,6 +93,22 @@ macro_rules! decoder_module {
     };
 }
 
+/// A decoder that keeps an account of the payloads it counts (changes/traced.txt), and what the ledger is told of it.
+#[macro_export]
+macro_rules! traced_module {
+    ($name:ident, $file:literal) => {
+        #[allow(dead_code)]
+        pub mod $name {
+            include!(concat!(env!("OUT_DIR"), $file));
+            pub mod machine {
+                include!(concat!(env!("CARGO_MANIFEST_DIR"), "/src/machine.rs"));
+                include!(concat!(env!("CARGO_MANIFEST_DIR"), "/src/told.rs"));
+            }
+        }
+    };
+}
+
 decoder_module!(decoder, "/decoder.rs");
 // The same with its cases counted (build/counted.rs).
 decoder_module!(counted, "/counted.rs");
+traced_module!(traced, "/traced.rs");

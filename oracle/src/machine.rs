@@ -26,7 +26,7 @@ pub struct Saved {
     endpoint_writers: VecMap<EndpointId, crate::capture::EndpointWriter>,
     endpoint_index: VecMap<DeviceAddr, VecMap<EndpointAddr, EndpointId>>,
     devices: Vec<DeviceData>,
-    lengths: [usize; 16],
+    lengths: [usize; 17],
 }
 
 impl Machine {
@@ -36,18 +36,7 @@ impl Machine {
 
     /// The PID and the status of a packet, were it the next.
     pub fn status(&self, packet: &[u8]) -> (u8, &'static str) {
-        use TransactionStatus::*;
-        let (pid, status) = transaction_status(&self.decoder().transaction_state, packet).expect("a status");
-        let name = match status {
-            New => "New",
-            Continue => "Continue",
-            Retry => "Retry",
-            Done => "Done",
-            Fail => "Fail",
-            Ambiguous => "Ambiguous",
-            Invalid => "Invalid",
-        };
-        (pid as u8, name)
+        named_status(&self.decoder().transaction_state, packet)
     }
 
     fn decoder_mut(&mut self) -> &mut Decoder {
@@ -77,7 +66,7 @@ impl Machine {
     }
 }
 
-fn lengths(c: &CaptureWriter) -> [usize; 16] {
+fn lengths(c: &CaptureWriter) -> [usize; 17] {
     [
         c.packet_data.rows.len(),
         c.packet_index.stream.rows.len(),
@@ -95,10 +84,11 @@ fn lengths(c: &CaptureWriter) -> [usize; 16] {
         c.shared.requests.rows.borrow().len(),
         c.counters.endpoints as usize,
         c.counters.journal.borrow().links,
+        c.counters.journal.borrow().counted.len(),
     ]
 }
 
-fn truncate(c: &mut CaptureWriter, n: &[usize; 16]) {
+fn truncate(c: &mut CaptureWriter, n: &[usize; 17]) {
     c.packet_data.rows.truncate(n[0]);
     c.packet_index.stream.rows.truncate(n[1]);
     c.packet_times.stream.rows.truncate(n[2]);
@@ -115,6 +105,7 @@ fn truncate(c: &mut CaptureWriter, n: &[usize; 16]) {
     c.shared.requests.truncate(n[13]);
     c.counters.endpoints = n[14] as u64;
     c.counters.journal.borrow_mut().links = n[15];
+    c.counters.journal.borrow_mut().counted.truncate(n[16]);
 }
 
 fn transaction_view(t: &TransactionState) -> TransactionView {
@@ -269,6 +260,44 @@ impl Mechanism for Machine {
     }
 }
 
+// ---- transaction_status alone, for those who ask it about a decoder that may have a fault
+
+fn named_status(state: &Option<TransactionState>, packet: &[u8]) -> (u8, &'static str) {
+    use TransactionStatus::*;
+    let (pid, status) = transaction_status(state, packet).expect("a status");
+    let name = match status {
+        New => "New",
+        Continue => "Continue",
+        Retry => "Retry",
+        Done => "Done",
+        Fail => "Fail",
+        Ambiguous => "Ambiguous",
+        Invalid => "Invalid",
+    };
+    (pid as u8, name)
+}
+
+/// The PID and the status of a packet behind a transaction.
+pub fn status_behind(found: Option<Style>, packet: &[u8]) -> (u8, &'static str) {
+    let state = found.map(|t| TransactionState {
+        style: match t.split {
+            None => TransactionStyle::Simple(PID::from(t.first)),
+            Some((sc, kind)) => {
+                let token = (t.first != 0).then(|| PID::from(t.first));
+                TransactionStyle::Split(StartComplete::from(sc), usb::EndpointType::from(kind), token)
+            }
+        },
+        id: TransactionId::from(0),
+        last: PID::from(t.last),
+        endpoint_id: None,
+        endpoint_type: (t.kind < 4).then(|| usb::EndpointType::from(t.kind)),
+        ep_transaction_id: None,
+        setup: None,
+        payload: None,
+    });
+    named_status(&state, packet)
+}
+
 // ---- group_status alone, for a comparison on states that no trace need reach
 
 /// The words of a state, in the order of `pivotspark_group_status` (crates/pivotspark).
@@ -299,7 +328,7 @@ pub fn group_status_words(s: &State) -> [u64; 10] {
         (TransactionSideEffect::NoEffect, None) => [0; 4],
         (TransactionSideEffect::NewDevice(address), _) => [1, address.0 as u64, 0, 0],
         (TransactionSideEffect::PendingData(data), _) => [3, data.len() as u64, 0, 0],
-        (TransactionSideEffect::IndexData(length, id), _) => [4, length as u64, id.is_some() as u64, id.map_or(0, |id| id.value)],
+        (TransactionSideEffect::IndexData(length, id, ..), _) => [4, length as u64, id.is_some() as u64, id.map_or(0, |id| id.value)],
     };
     let setup = e.setup.map_or(0, |fields| u64::from_le_bytes(fields.bytes()));
     let waits = e.pending_payload.is_some() as u64;
@@ -327,7 +356,7 @@ fn endpoint_of(s: &State, address: EndpointAddr) -> EndpointData {
     e.last_success = s[4] == 1;
     e.setup = setup_of(s[5], s[6]);
     e.payload = vec![0; s[7] as usize];
-    e.pending_payload = (s[8] == 1).then(|| (vec![0; s[9] as usize], EndpointTransactionId::from(s[10])));
+    e.pending_payload = (s[8] == 1).then(|| (vec![0; s[9] as usize].into(), EndpointTransactionId::from(s[10])));
     e
 }
 
@@ -345,6 +374,6 @@ fn transaction_of(s: &State) -> TransactionState {
         endpoint_type: None,
         ep_transaction_id: None,
         setup: setup_of(s[15], s[16]),
-        payload: (s[17] == 1).then(|| vec![0; s[18] as usize]),
+        payload: (s[17] == 1).then(|| vec![0; s[18] as usize].into()),
     }
 }

@@ -9,7 +9,7 @@ use oracle::decoder::machine::Machine;
 use oracle::descriptors::Descriptors;
 use oracle::generate::{EXTRA, KINDS, download, generate};
 use oracle::mixed::mixed;
-use oracle::{bench, compare, lemmas, listing, own_and_ruled, report, selfcheck, trace, traces, training};
+use oracle::{bench, compare, ledger, lemmas, listing, own_and_ruled, report, selfcheck, trace, traces, training};
 
 const USAGE: &str = "usage: oracle COMMAND
   listing [OPTION..]     a UTL trace on standard input; prints the listing of document 01
@@ -19,7 +19,9 @@ const USAGE: &str = "usage: oracle COMMAND
   download MIB TIMES     writes the trace of change request 11: an enumeration and a bulk download, so many times in so many MiB
   mixed BYTES            writes the mixed sequence of the benchmarks, 200,000 packets with payloads of at most so many bytes
   bench FILE             the time of the raw Rust decoder on a trace, median of five runs
-  selfcheck N            N random calls, 01's well-formed list, demand 3, reasons, stamps and details after each; then the mutants
+  ledger FILE            the Rust's own account of the payloads that it counts in a trace: endpoint, packet, length, total before
+  selfcheck N            N random calls, 01's well-formed list, demand 3, reasons, stamps and details after each; then the mutants;
+                         then N random calls with the ledger of change request 8 after each, and the slips that it must find
   coverage N SEED        plays the traces of `compare traces N SEED` by the Rust alone: which cases of decoder.rs they meet
   descriptors N SEED     the Rust's own decode_request beside the rules of change request 2, on N random traces: what differs
                          outside the listed cases, and how often each of them was met
@@ -126,6 +128,10 @@ fn run(words: &[String]) -> Result<bool, String> {
         ("bench", [path]) => {
             let bytes = std::fs::read(path).map_err(|e| format!("{path}: {e}"))?;
             bench::bench::<Machine>(&bytes)?;
+        }
+        ("ledger", [path]) => {
+            let bytes = std::fs::read(path).map_err(|e| format!("{path}: {e}"))?;
+            output(ledger::text(&bytes, Rows::LARGEST).as_bytes())?;
         }
         ("selfcheck", [n]) => return Ok(selfcheck::report(number(n)?)),
         ("coverage", [n, seed]) => {

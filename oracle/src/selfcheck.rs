@@ -13,6 +13,7 @@ use crate::capture::{Detail, DeviceData, Met, Request};
 use crate::descriptors::{Entry, Kind, kind};
 use crate::generate::{EXTRA, KINDS, Random, generate};
 use crate::listing::{last_line, listing, rows};
+use crate::once;
 use crate::storage::Mark;
 use crate::trace::{Clock, HEADER, Reader, Record, call, count_details, run};
 use crate::usb::{Direction, EndpointAddr, EndpointNum, EndpointType, reason_of};
@@ -45,7 +46,7 @@ fn check_by(seed: u64, calls: u64, one: impl Fn(&[u8], Rows) -> Result<u64, Stri
 }
 
 /// Room that runs out, in one log or another.
-fn small(random: &mut Random) -> Rows {
+pub(crate) fn small(random: &mut Random) -> Rows {
     let mut room = Rows::PROGRAM;
     let log = random.below(12) as usize;
     room.0[log] = room.0[log] / 8 + random.below(room.0[log] / 4);
@@ -298,7 +299,7 @@ fn transaction_formed<M: Mechanism>(t: &TransactionView, view: &View, calls: &Ca
     hold(t.link.is_some() || in_or_out || idle, || format!("a transaction on endpoint {x} lacks its T link"))
 }
 
-fn hold(fact: bool, fault: impl FnOnce() -> String) -> Result<(), String> {
+pub(crate) fn hold(fact: bool, fault: impl FnOnce() -> String) -> Result<(), String> {
     if fact { Ok(()) } else { Err(fault()) }
 }
 
@@ -462,6 +463,7 @@ pub fn report(calls: u64) -> bool {
             }
         }
     }
+    let counted = once::report(seed, calls);
     let _ = std::panic::take_hook();
-    good
+    good && counted
 }

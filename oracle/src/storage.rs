@@ -156,6 +156,8 @@ pub struct Journal {
     /// How many of the marks are link rows (T, G, D, E).
     pub links: usize,
     pub trail: bool,
+    /// The account of a traced decoder (src/ledger.rs): of each payload that it counted the endpoint, the packet, the length and the total before.
+    pub counted: Vec<[u64; 4]>,
 }
 
 impl Journal {
