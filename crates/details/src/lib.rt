@@ -137,14 +137,14 @@ pub fn set_detail(device: Device, number: u8, direction: u8, kind: u8, max: u16)
     ensures { λ r. ⌜ r ≡ withDetail device number direction kind max ⌝ }
 {
     let at = detail_entry(number, direction);
-    let known = device.details[at];
-    if known.given {
+    let before = device.details[at];
+    if before.given {
         return device;
     }
     let mut device = device;
     device.details[at] = Detail {
         kind,
-        given: false,
+        given: before.given,
         max,
     };
     device

@@ -4,6 +4,9 @@ use Rattle.block.proofs.block.Tie as tie
 mod Places
 use Places.*
 
+returns : tie.Need-returns
+returns c = returns·records c .records .ensures
+
 pub block-spec : {M : Type 1} → statement M
 block-spec =
     tie.close
@@ -21,4 +24,4 @@ block-spec =
     (λ c. returns·records c .records .kept .1 .1 .1 .1 .1 .1 .1 .1 .1 .1 .1 .1 .1 .1 .1 .1 .0)
     (λ c. returns·records c .records .kept .1 .1 .1 .1 .1 .1 .1 .1 .1 .1 .1 .1 .1 .1 .1 .1 .1 .0)
     (λ c. returns·records c .records .kept .1 .1 .1 .1 .1 .1 .1 .1 .1 .1 .1 .1 .1 .1 .1 .1 .1 .1 .0)
-    (λ c. returns·records c .records .ensures))
+    returns)

@@ -13,11 +13,11 @@ detail-entry-requires c κs = search needs
 below : (c : tie.After-detail-entry) → detailEntry (c .before .args .number) (c .before .args .direction) < 32
 below c = entry-below (c .before .args .number) (c .before .args .direction) (search needs) (search needs)
 
-mul-known : tie.Need-mul-known
-mul-known c = omega (arith, c .detail-entry .ensures, below c)
+mul-before : tie.Need-mul-before
+mul-before c = omega (arith, c .detail-entry .ensures, below c)
 
-element-copy-out-known : tie.Need-element-copy-out-known
-element-copy-out-known c = omega (arith, c .detail-entry .ensures, below c)
+element-copy-out-before : tie.Need-element-copy-out-before
+element-copy-out-before c = omega (arith, c .detail-entry .ensures, below c)
 
 returns : tie.Need-returns
 unfolding withDetail
@@ -34,4 +34,4 @@ unfolding withDetail
 returns-2 c = simp (c .before .before .detail-entry .ensures, rw (c .before .before .detail-entry .ensures) at (c .if1 .left))
 
 pub set-detail-spec : {M : Type 1} → statement M
-set-detail-spec = tie.close (tie.spec detail-entry-requires mul-known element-copy-out-known returns mul-t10 element-set-from-device returns-2)
+set-detail-spec = tie.close (tie.spec detail-entry-requires mul-before element-copy-out-before returns mul-t10 element-set-from-device returns-2)

@@ -9,12 +9,13 @@ use std::path::{Path, PathBuf};
 use std::process::{Command, ExitCode};
 
 use oracle::bench::{packets_of, run as decode};
+use oracle::blocks::Input;
 use oracle::calls::{BYTES, Calls, ENDPOINTS, LOGS, Mechanism, Rows, STATE_BYTES, WIDTHS};
 use oracle::decoder::machine::Machine;
 use oracle::generate::download;
 use oracle::library;
 use oracle::mixed::mixed;
-use oracle::trace::{Reader, Record, run as play};
+use oracle::trace::{Clock, HEADER, Reader, Record, run as play};
 use oracle::usb::validate_packet;
 
 use system::{Logs, processor_time};
@@ -50,6 +51,8 @@ struct Figures {
     check: f64,
     rust_check: f64,
     rust_reading: f64,
+    /// Each record as a block of its own, pages touched; 0 where that was not run.
+    alone: f64,
     /// Peak memory of a process that runs the trace once, in MiB: port and Rust.
     peaks: [f64; 2],
 }
@@ -71,16 +74,16 @@ fn room(bytes: usize, records: u64) -> Rows {
     Rows(std::array::from_fn(|log| wanted[log].min(Rows::LARGEST.0[log])))
 }
 
-/// Where the packets of a trace stand, and how many records it has.
-fn packets(trace: &[u8]) -> (Vec<Range<usize>>, u64) {
-    let (mut reader, mut packets, mut records) = (Reader::new(trace), Vec::new(), 0);
+/// Where the packets of a trace stand, and where each record ends.
+fn packets(trace: &[u8]) -> (Vec<Range<usize>>, Vec<usize>) {
+    let (mut reader, mut packets, mut ends) = (Reader::new(trace), Vec::new(), Vec::new());
     while let Some(Ok(record)) = reader.next() {
-        records += 1;
+        ends.push(reader.at);
         if let Record::Packet { bytes, .. } = record {
             packets.push(reader.at - bytes.len()..reader.at);
         }
     }
-    (packets, records)
+    (packets, ends)
 }
 
 /// How the rows of the port differ from the Rust's and from what change requests add to them, if they do.
@@ -108,10 +111,12 @@ struct Case {
     /// How often a round has it.
     turns: usize,
     packets: Vec<Range<usize>>,
+    /// Where each record ends, from the first one on, where each is to be a block of its own too.
+    cuts: Vec<u64>,
     room: Rows,
     rows: Rows,
     again: Logs,
-    least: [f64; 6],
+    least: [f64; 7],
 }
 
 impl Case {
@@ -120,8 +125,9 @@ impl Case {
         let (name, trace) = (plan.name, (plan.make)());
         let file = PathBuf::from(folder).join(name.replace(' ', "-") + ".utl");
         std::fs::write(&file, &trace).map_err(|e| format!("{}: {e}", file.display()))?;
-        let (packets, records) = packets(&trace);
-        let room = room(trace.len(), records);
+        let (packets, ends) = packets(&trace);
+        let room = room(trace.len(), ends.len() as u64);
+        let cuts = if plan.alone { ends.iter().map(|end| (end - HEADER) as u64).collect() } else { Vec::new() };
         let mut again = Logs::new(&room);
         let rows = again.run(&trace).map_err(|e| format!("{name}: {e}"))?;
         let rust =
@@ -129,13 +135,14 @@ impl Case {
         if let Some(text) = difference(&rust, &again, &rows) {
             return Err(format!("{name}: {text}"));
         }
-        Ok(Case { name, file, trace, turns: plan.turns, packets, room, rows, again, least: [f64::MAX; 6] })
+        Ok(Case { name, file, trace, turns: plan.turns, packets, cuts, room, rows, again, least: [f64::MAX; 7] })
     }
 
     /// Port, Rust and port, then the parts that can be run alone.
     fn turn(&mut self) -> Result<(), String> {
         let (trace, packets) = (&self.trace, || self.packets.iter().map(|place| &self.trace[place.clone()]));
         let mut left = Vec::new();
+        let input = Input { records: &trace[HEADER..], clock: Clock::default(), cuts: self.cuts.clone() };
         let spent = [
             time(|| {
                 let mut fresh = Logs::new(&self.room);
@@ -147,7 +154,17 @@ impl Case {
             time(|| packets().map(|packet| library::check(packet) as u64).sum::<u64>()),
             time(|| packets().map(|packet| validate_packet(packet).map_or(0, |pid| pid as u64)).sum::<u64>()),
             time(|| read(trace)),
+            match input.cuts.is_empty() {
+                true => 0.0,
+                false => time(|| self.again.run_one_by_one(&input).map(drop)),
+            },
         ];
+        if !input.cuts.is_empty() {
+            let rows = self.again.run_one_by_one(&input)?;
+            if packets_of(&rows) != packets_of(&self.rows) {
+                return Err(format!("{}: one by one the port leaves another count of packets", self.name));
+            }
+        }
         for (least, spent) in self.least.iter_mut().zip(spent) {
             *least = least.min(spent);
         }
@@ -159,7 +176,7 @@ impl Case {
 
     fn figures(self) -> Result<Figures, String> {
         let count = packets_of(&self.rows);
-        let [fresh, rust, touched, check, rust_check, rust_reading] = self.least.map(|spent| spent / count as f64);
+        let [fresh, rust, touched, check, rust_check, rust_reading, alone] = self.least.map(|spent| spent / count as f64);
         let peaks = [peak("port", &self.file)?, peak("rust", &self.file)?];
         let (bytes, endpoints) = (self.trace.len(), self.rows.0[ENDPOINTS]);
         Ok(Figures {
@@ -173,6 +190,7 @@ impl Case {
             check,
             rust_check,
             rust_reading,
+            alone,
             peaks,
         })
     }
@@ -271,6 +289,8 @@ struct Plan {
     name: String,
     make: Box<dyn Fn() -> Vec<u8>>,
     turns: usize,
+    /// Whether its records are run as blocks of one, too; those of a download have details, which no block takes.
+    alone: bool,
 }
 
 /// The sizes with some 10 endpoints, the largest with more, and the two mixed sequences.
@@ -280,11 +300,13 @@ fn plans(sizes: &[usize]) -> Vec<Plan> {
         name: format!("download {mib} MiB x{times}"),
         make: Box::new(move || download(mib << 20, times)),
         turns: (largest / mib).clamp(1, MORE),
+        alone: false,
     };
     let short = |longest: usize, turns: usize| Plan {
         name: format!("mixed {longest} bytes"),
         make: Box::new(move || mixed(longest)),
         turns,
+        alone: true,
     };
     let grown = sizes.iter().map(|mib| long(*mib, TIMES[0]));
     let crowded = TIMES[1..].iter().map(|times| long(largest, *times));
@@ -306,6 +328,8 @@ fn bench(folder: &str, rounds: usize, sizes: &[usize]) -> Result<(), String> {
     all.iter().for_each(|figures| println!("{}", figures.row()));
     println!("\n{}", PARTS.join("\n"));
     all.iter().for_each(|figures| println!("{}", figures.parts()));
+    println!("\nns a packet, each record as a block of its own, pages touched before:");
+    all.iter().filter(|figures| figures.alone > 0.0).for_each(|figures| println!("{:24} | {:6.0}", figures.name, figures.alone));
     let (grown, crowded): (Vec<&Figures>, Vec<&Figures>) =
         (all[..sizes.len()].iter().collect(), all[sizes.len() - 1..sizes.len() + 2].iter().collect());
     let (long, short) = (crowded[2], &all[sizes.len() + 2]);

@@ -3,6 +3,7 @@
 
 use std::ffi::c_void;
 
+use oracle::blocks::Input;
 use oracle::calls::{BYTES, Rows, STATE_BYTES, WIDTHS};
 use oracle::descriptors::SHELF;
 use oracle::library::{self, Lent, TABLE};
@@ -65,23 +66,36 @@ impl Logs {
         Logs { table: Pages::new(TABLE * 8), shelf: Pages::new(SHELF), logs, lengths }
     }
 
-    /// A whole trace, which must end with 0; the rows that it leaves in each log.
-    pub fn run(&mut self, trace: &[u8]) -> Result<Rows, String> {
+    fn lend(&mut self) -> Lent {
         let bytes = |log: usize| (self.logs[log].place.cast(), self.lengths[log]);
         let words: Vec<_> =
             (0..12).filter(|log| !is_bytes(*log)).map(|log| (self.logs[log].place.cast(), self.lengths[log])).collect();
-        let lent = Lent {
+        Lent {
             table: self.table.place.cast(),
             shelf: self.shelf.place.cast(),
             bytes: bytes(BYTES),
             statebytes: bytes(STATE_BYTES),
             words: words.try_into().expect("ten logs of words"),
-        };
-        let mut rows = Rows([0; 12]);
+        }
+    }
+
+    /// A whole trace, which must end with 0; the rows that it leaves in each log.
+    pub fn run(&mut self, trace: &[u8]) -> Result<Rows, String> {
+        let (lent, mut rows) = (self.lend(), Rows([0; 12]));
         // The pages are this struct's own, zeros at first, and have the lengths that are told.
         match unsafe { library::trace(trace, &lent, &mut rows.0) } {
             (0, _) => Ok(rows),
             (answer, at) => Err(format!("the port answers {answer} at {at}")),
+        }
+    }
+
+    /// Its records, each as a block of its own, so that each is tested as by a call of its own; the rows that they leave.
+    pub fn run_one_by_one(&mut self, input: &Input) -> Result<Rows, String> {
+        let (lent, mut rows) = (self.lend(), Rows([0; 12]));
+        // Likewise; with no words for what the blocks give back, none are stored.
+        match unsafe { library::blocks(input, &lent, &mut [], &mut rows.0) } {
+            (0, blocks) if blocks == input.cuts.len() as u64 + 1 => Ok(rows),
+            (answer, blocks) => Err(format!("the port makes a decoder with {answer}, and {blocks} blocks")),
         }
     }
 
