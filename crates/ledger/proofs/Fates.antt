@@ -30,7 +30,7 @@ use Rattle.ledger.specs.Ledger.{Setup, Stray, Replaced, Failed, Unused, 
 
 abbrev tells : List Lent → World → Ledger → Ledger
 tells [] w l = l
-tells (k ∷ ks) w l = tells ks (runs (k ∷ []) w) (turns (k (w .shelf)) w l)
+tells (k ∷ ks) w l = tells ks (runs (k ∷ []) w) (turns false (k (w .shelf)) w l)
 
 -- packet row, length and fate
 abbrev line : ℕ → ℕ → Fate → Line

@@ -2,6 +2,7 @@
 -- Assumes nothing.
 use Prim.Native.Nat.{ℕ, zero, suc, _+_, _*_, _≤_, _<_}
 use native.Mathlib.Omega.{arith}
+use mathlib.Core.Bool.{false}
 use mathlib.Core.List.{List, _++_}
 use mathlib.Core.Path.{_≡_, refl, sym, ap, subst}
 use lib.ListN.{length, replicate, length-append, length-replicate}
@@ -42,7 +43,7 @@ shown-fits : (a p k : ℕ) (n : Counts) (l l₀ : Logs) → (a ≡ 0 → Within 
 shown-fits zero p k n l l₀ h = omega (arith, length-append (listing n l) (detailsLine k), listing-fits n l, details-fits k, rows-within n (roomOf l₀) (h refl))
 shown-fits (suc a) p k n l l₀ h = omega (arith, refused-fits (suc a) p)
 
-module _ {trace t : List ℕ} {l : Logs} {h : List ℕ} {a p : ℕ} {q : Stand} (ran : Ran trace t l h a p q) {k : ℕ} (e : k ≡ detailsOf trace) where
+module _ {trace t : List ℕ} {l : Logs} {h : List ℕ} {a p : ℕ} {q : Stand} (ran : Ran false trace t l h a p q) {k : ℕ} (e : k ≡ detailsOf trace) where
   abbrev s : State
   s = q .state
 

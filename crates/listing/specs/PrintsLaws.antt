@@ -80,11 +80,11 @@ runs-within z (Runs.ends x f) e = finish-within (takes-whole x z) f e
 runs-within z (Runs.stops x h) e = absurd (h e)
 
 -- a fresh decoder has given back none
-made-whole : (v : List Device) (t : List ℕ) (l : Logs) → Whole (made v t l)
+made-whole : (high : Bool) (v : List Device) (t : List ℕ) (l : Logs) → Whole (made high v t l)
 unfolding made
-made-whole v t l = fresh-first t
+made-whole high v t l = fresh-first t
 
-pub ran-within : {trace t : List ℕ} {l : Logs} {h : List ℕ} {a p : ℕ} {s : Stand} → Ran trace t l h a p s → a ≡ 0 → Within (s .state .decoder .counts) (roomOf (s .state .logs))
+pub ran-within : {high : Bool} {trace t : List ℕ} {l : Logs} {h : List ℕ} {a p : ℕ} {s : Stand} → Ran high trace t l h a p s → a ≡ 0 → Within (s .state .decoder .counts) (roomOf (s .state .logs))
 ran-within (Ran.wrong h) e = absurd (h e)
 ran-within (Ran.refused h m n) e = absurd (n e)
-ran-within {t = t} {l} (Ran.runs h m r) e = runs-within (subst Whole (sym (m .accepted refl)) (made-whole noDevices t l)) r e
+ran-within {high} {t = t} {l} (Ran.runs h m r) e = runs-within (subst Whole (sym (m .accepted refl)) (made-whole high noDevices t l)) r e

@@ -1,5 +1,6 @@
 -- Inner (cited by private contracts alone): what `report` and `shown` ask and leave: a run on a table and logs that a caller lent.
 use Prim.Native.Nat.{ℕ, _≤_}
+use mathlib.Core.Bool.{false}
 use mathlib.Core.List.{List}
 use mathlib.Core.Path.{_≡_}
 use lib.ListN.{length}
@@ -17,7 +18,7 @@ pub record Shows (trace t : List ℕ) (l : Logs) (h before after : List ℕ) (en
   pub answer : ℕ
   pub place : ℕ
   pub final : Stand
-  pub ran : Ran trace t l h answer place final
+  pub ran : Ran false trace t l h answer place final
   pub appended : Appended before 0 (shown answer place (detailsOf trace) (final .state .decoder .counts) (final .state .logs)) after end
   pub within : end ≤ length before
 

@@ -66,7 +66,7 @@ fn report(
     text::details_line(out, next, details as u64)
 }
 
-// The text of a trace that is run on the lent table, logs and shelf; gives its length.
+// The text of a trace that is run on the lent table, logs and shelf, without the mode for high-bandwidth isochronous data; gives its length.
 fn show(
     trace: &[u8],
     table: &mut Table,
@@ -89,6 +89,7 @@ fn show(
     ensures { λ r. ⌜ Shows (now (trace .entry)) (now (table .entry)) (logs (now (bytes .entry)) (now («device_rows» .entry)) (now («endpoint_rows» .entry)) (now (packets .entry)) (now (events .entry)) (now (transactions .entry)) (now (groups .entry)) (now (statebytes .entry)) (now (states .entry)) (now (items .entry)) (now (links .entry)) (now (requests .entry))) (now (shelf .entry)) (now (out .entry)) (now (out .exit)) r ⌝ }
 {
     let r = run(
+        false,
         trace,
         table,
         bytes,

@@ -59,7 +59,7 @@ records : {trace : List ℕ} {at a p : ℕ} {c : Clock} {s s′ : Stand} → Com
 records q (ends x f) = let b = block-sequence (q .sequence) x in record { history = _; sequence = then finishing _ _ (b .sequence) f }
 records q (stops x h) = let b = block-sequence (q .sequence) x in record { history = _; sequence = b .sequence }
 
-pub comes : {trace t : List ℕ} {l : Logs} {h : List ℕ} {a p : ℕ} {s : Stand} → length t ≡ word.table → Ran trace t l h a p s → a ≡ 0 → Comes (s .state)
+pub comes : {high : Bool} {trace t : List ℕ} {l : Logs} {h : List ℕ} {a p : ℕ} {s : Stand} → length t ≡ word.table → Ran high trace t l h a p s → a ≡ 0 → Comes (s .state)
 comes ht (wrong h) e = absurd (h e)
 comes ht (refused h m n) e = absurd (n e)
 comes ht (runs h m r) e = records (record { history = _; sequence = made refl ht m }) r
