@@ -79,7 +79,7 @@ impl Logs {
         };
         let mut rows = Rows([0; 12]);
         // The pages are this struct's own, zeros at first, and have the lengths that are told.
-        match unsafe { library::trace(trace, &lent, &mut rows.0) } {
+        match unsafe { library::trace(false, trace, &lent, &mut rows.0) } {
             (0, _) => Ok(rows),
             (answer, at) => Err(format!("the port answers {answer} at {at}")),
         }
