@@ -54,7 +54,7 @@ second-false true true h = h
 
 item-fits : (time : ℕ) (bytes : List ℕ) → time / 10 ^ 9 < 2 ^ 32 → length bytes < 2 ^ 32 → Fit writtenFormat (itemAt time bytes)
 item-fits time bytes h g =
-    record { seconds-fit = h; fraction-fit = omega arith; size-fit = g; below-second = omega arith }
+    record { seconds-fit = omega arith; fraction-fit = omega arith; size-fit = g; below-second = omega arith }
 
 kept-fits : (b : Bool) (time : ℕ) (bytes : List ℕ) (rest : List Item) → length bytes < 2 ^ 32
     → (late rest ≡ false → Fits writtenFormat rest)
@@ -82,29 +82,29 @@ module _ (l : Source) (short : length (l .bytes) < 2 ^ 32) where
 
 module _ (m : ℕ) (bytes : List ℕ) (n : ℕ) (packets : List ℕ) (e : ℕ) (events : List ℕ) {x : Extent}
     (q : x ≡ extentOf m (length bytes) n (length packets) e (length events)) where
-  a : x .bytes ≡ counted 1073741824 m (length bytes)
-  a = ap (λ (y : Extent). y .bytes) q
+  bytes-are : x .bytes ≡ counted 1073741824 m (length bytes)
+  bytes-are = ap (λ (y : Extent). y .bytes) q
 
-  b : x .rows ≡ counted 16777216 n (length packets / 2)
-  b = ap (λ (y : Extent). y .rows) q
+  rows-are : x .rows ≡ counted 16777216 n (length packets / 2)
+  rows-are = ap (λ (y : Extent). y .rows) q
 
-  c : x .marks ≡ counted 16777216 e (length events / 2)
-  c = ap (λ (y : Extent). y .marks) q
+  marks-are : x .marks ≡ counted 16777216 e (length events / 2)
+  marks-are = ap (λ (y : Extent). y .marks) q
 
   pub counted-within : Within (lent (take (x .bytes) bytes) (x .rows) packets (x .marks) events)
   counted-within =
       record {
-        packet-rows = omega (arith, b);
-        event-rows = omega (arith, c);
-        few = omega (arith, b);
-        short = omega (arith, a, length-take (x .bytes) bytes);
+        packet-rows = omega (arith, rows-are);
+        event-rows = omega (arith, marks-are);
+        few = omega (arith, rows-are);
+        short = omega (arith, bytes-are, length-take (x .bytes) bytes);
       }
 
   pub counted-length : x .bytes ≡ length (take (x .bytes) bytes)
-  counted-length = omega (arith, a, length-take (x .bytes) bytes)
+  counted-length = omega (arith, bytes-are, length-take (x .bytes) bytes)
 
   pub counted-source : lent (take (x .bytes) bytes) (x .rows) packets (x .marks) events ≡ sourceOf m bytes n packets e events
-  counted-source = λ i. lent (take (a i) bytes) (b i) packets (c i) events
+  counted-source = λ i. lent (take (bytes-are i) bytes) (rows-are i) packets (marks-are i) events
 
 pub source-within : (m : ℕ) (bytes : List ℕ) (n : ℕ) (packets : List ℕ) (e : ℕ) (events : List ℕ) → Within (sourceOf m bytes n packets e events)
 source-within m bytes n packets e events = counted-within m bytes n packets e events refl
@@ -218,6 +218,13 @@ module _ (l : Source) (before : List ℕ) {after : List ℕ} {r : Exported} (x :
         ap readFile accepted-file
         ∙ file-written false true (itemsOf l) (fits-all l g (fine .0))
         ∙ ap (λ (y : Exported). record { items = itemsOf l; answer = 0; place = y .length }) (sym accepted-is)
+
+-- of any logs, by any counts
+pub export-read : (m : ℕ) (bytes : List ℕ) (n : ℕ) (packets : List ℕ) (e : ℕ) (events : List ℕ) (before : List ℕ) {after : List ℕ} {r : Exported}
+    → Exports (sourceOf m bytes n packets e events) before after r → r .answer ≡ 0
+    → readFile (take (r .length) after) ≡ record { items = itemsOf (sourceOf m bytes n packets e events); answer = 0; place = r .length }
+export-read m bytes n packets e events before x h =
+    there-and-back (sourceOf m bytes n packets e events) before x h (omega (arith, source-within m bytes n packets e events .short))
 
 -- a row's time is that of its record
 pub time-back : (l : Source) (k : ℕ) → timeOf writtenFormat (itemOf l k .seconds) (itemOf l k .fraction) ≡ getD (l .packets) (k * packetWidth + 1) 0
