@@ -79,15 +79,16 @@ pub mod capture {
     include!("capture_parts.rs");
 }
 
-/// A decoder made from the source, and the machine over it that the calls drive.
+/// A decoder made from the source, and the machine over it that the calls drive, with one file more where it is named.
 #[macro_export]
 macro_rules! decoder_module {
-    ($name:ident, $file:literal) => {
+    ($name:ident, $file:literal $(, $more:literal)?) => {
         #[allow(dead_code)]
         pub mod $name {
             include!(concat!(env!("OUT_DIR"), $file));
             pub mod machine {
                 include!(concat!(env!("CARGO_MANIFEST_DIR"), "/src/machine.rs"));
+                $(include!(concat!(env!("CARGO_MANIFEST_DIR"), $more));)?
             }
         }
     };
@@ -97,14 +98,7 @@ macro_rules! decoder_module {
 #[macro_export]
 macro_rules! traced_module {
     ($name:ident, $file:literal) => {
-        #[allow(dead_code)]
-        pub mod $name {
-            include!(concat!(env!("OUT_DIR"), $file));
-            pub mod machine {
-                include!(concat!(env!("CARGO_MANIFEST_DIR"), "/src/machine.rs"));
-                include!(concat!(env!("CARGO_MANIFEST_DIR"), "/src/told.rs"));
-            }
-        }
+        $crate::decoder_module!($name, $file, "/src/told.rs");
     };
 }
 

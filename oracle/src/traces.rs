@@ -4,13 +4,13 @@
 use std::fs;
 use std::path::Path;
 
-use crate::calls::Rows;
+use crate::calls::{Calls, Rows};
 use crate::decoder::machine::Machine;
 use crate::enumerations;
 use crate::generate::{KINDS, generate};
 use crate::listing::{BUFFER, listing};
 use crate::packets::{data, handshake, sof, split, token};
-use crate::trace::Writer;
+use crate::trace::{Clock, Reader, Writer, call};
 use crate::typed;
 use crate::usb::PID;
 
@@ -179,6 +179,18 @@ pub fn written(text: &str) -> Vec<u8> {
         }
     }
     trace.bytes
+}
+
+/// The decoder after a sequence whose calls are all answered 0.
+pub fn after(text: &str) -> Calls<Machine> {
+    let trace = written(text);
+    let mut calls = Calls::new(Rows::LARGEST, 0, false);
+    let mut reader = Reader::new(&trace);
+    let mut clock = Clock::default();
+    while let Some(record) = reader.next() {
+        assert_eq!(call(&mut calls, &mut clock, &record.expect("a record")), 0);
+    }
+    calls
 }
 
 /// A packet by its words.

@@ -6,7 +6,7 @@ use oracle::generate::{KINDS, Random, generate};
 use oracle::listing::listing;
 use oracle::packets::{data, token};
 use oracle::trace::{Clock, Reader, answers, call};
-use oracle::traces::written;
+use oracle::traces::{after, written};
 use oracle::usb::{PID, validate_packet};
 
 fn list(text: &str) -> String {
@@ -19,18 +19,6 @@ fn answered(text: &str) -> Vec<u8> {
 
 fn lines<'a>(listing: &'a str, start: &str) -> Vec<&'a str> {
     listing.lines().filter(|l| l.starts_with(start)).collect()
-}
-
-/// The decoder after a sequence.
-fn after(text: &str) -> Calls<Machine> {
-    let trace = written(text);
-    let mut calls = Calls::new(Rows::LARGEST, 0, false);
-    let mut reader = Reader::new(&trace);
-    let mut clock = Clock::default();
-    while let Some(record) = reader.next() {
-        assert_eq!(call(&mut calls, &mut clock, &record.expect("a record")), 0);
-    }
-    calls
 }
 
 #[test]

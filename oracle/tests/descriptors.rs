@@ -1,6 +1,6 @@
 //! The rules of change request 2 (src/descriptors.rs), one by one. What is expected is reckoned by hand from the request and USB 2.0, chapter 9.
 
-use oracle::calls::{Calls, Mechanism, Rows};
+use oracle::calls::{Mechanism, Rows};
 use oracle::chapter9::{association, configuration, device, disk, endpoint, interface, unknown};
 use oracle::decoder::machine::Machine;
 use oracle::descriptors::{Descriptors, Entry, Kind, Shelf, device_max, kind, whole};
@@ -9,20 +9,7 @@ use oracle::enumerations::{
 };
 use oracle::listing::{BUFFER, listing_by};
 use oracle::packets::setup;
-use oracle::trace::{Clock, Reader, call};
-use oracle::traces::written;
-
-/// The decoder after a sequence.
-fn after(text: &str) -> Calls<Machine> {
-    let trace = written(text);
-    let mut calls = Calls::reading(Descriptors::Ruled, Rows::LARGEST, 0, false);
-    let mut reader = Reader::new(&trace);
-    let mut clock = Clock::default();
-    while let Some(record) = reader.next() {
-        assert_eq!(call(&mut calls, &mut clock, &record.expect("a record")), 0);
-    }
-    calls
-}
+use oracle::traces::{after, written};
 
 /// Type and max of an endpoint of the device at 5; a type of 4 is unknown, a max of 0 too.
 fn detail(text: &str, address: u8) -> (u8, usize) {

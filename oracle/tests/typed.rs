@@ -1,26 +1,14 @@
 //! Change request 13 on the oracle: detail records beside descriptors, and the last line. What is expected is written from the request by hand.
 
-use oracle::calls::{Calls, Mechanism, Rows};
+use oracle::calls::{Mechanism, Rows};
 use oracle::capture::Met;
 use oracle::chapter9::{configuration, device, disk, endpoint, interface};
 use oracle::decoder::machine::Machine;
 use oracle::enumerations::{joined, read, read_configuration, set_address, set_configuration, set_interface};
 use oracle::listing::{BUFFER, listing};
-use oracle::trace::{Clock, Reader, answers, call};
-use oracle::traces::written;
+use oracle::trace::answers;
+use oracle::traces::{after, written};
 use oracle::typed;
-
-/// The decoder after a sequence whose calls are all answered 0.
-fn after(text: &str) -> Calls<Machine> {
-    let trace = written(text);
-    let mut calls = Calls::new(Rows::LARGEST, 0, false);
-    let mut reader = Reader::new(&trace);
-    let mut clock = Clock::default();
-    while let Some(record) = reader.next() {
-        assert_eq!(call(&mut calls, &mut clock, &record.expect("a record")), 0);
-    }
-    calls
-}
 
 /// Type and max of an endpoint of the device at 5; a type of 4 is unknown, a max of 0 too.
 fn known(steps: &[&str], address: u8) -> (u8, usize) {
