@@ -25,14 +25,27 @@ fn main() {
         let text = made(&fs::read_to_string(changes.join(name).with_extension("txt")).expect(name), source);
         fs::write(out.join(name).with_extension("rs"), &text).expect("OUT_DIR can be written");
         if name == "decoder" {
-            mutants(&text, "mutants", &out);
-            mutants(&text, "slips", &out);
-            traced(&text, &out);
-            let (text, cases) = counted::counted(&text);
-            fs::write(out.join("counted.rs"), text).expect("OUT_DIR can be written");
-            fs::write(out.join("cases.rs"), counted::table(&cases)).expect("OUT_DIR can be written");
+            mutants(&text, "mutants", false, &out);
+            mutants(&text, "slips", false, &out);
+            decoders(&text, "", 0, &COUNTED_WRONG, &out);
+            let high = changed(text, &fs::read_to_string(changes.join("high.txt")).expect("high"));
+            fs::write(out.join("high.rs"), &high).expect("OUT_DIR can be written");
+            mutants(&high, "high_slips", true, &out);
+            decoders(&high, "high_", HIGH_COUNTERS, &HIGH_WRONG, &out);
         }
     }
+}
+
+/// Where the counters of the decoder in the mode of change request 6 begin: behind those of the other.
+const HIGH_COUNTERS: usize = 512;
+
+/// What else is made from a decoder that is right: the one that counts its cases, with their table, and the one with an account of what it
+/// counts; and those with such a slip and an account.
+fn decoders(text: &str, prefix: &str, first: usize, slips: &[&str], out: &Path) {
+    traced(text, prefix, slips, out);
+    let (text, cases) = counted::counted(text, first);
+    fs::write(out.join(format!("{prefix}counted.rs")), text).expect("OUT_DIR can be written");
+    fs::write(out.join(format!("{prefix}cases.rs")), counted::table(&cases)).expect("OUT_DIR can be written");
 }
 
 /// The lines that `take` names, with inner comments made plain (they may not stand in an included file), then changed.
@@ -75,21 +88,23 @@ fn changed(mut text: String, script: &str) -> String {
     text
 }
 
-/// The slips that the ledger must find (src/once.rs).
+/// The slips that the ledger must find (src/once.rs), without the mode and in it.
 const COUNTED_WRONG: [&str; 2] = ["payload_seen", "wait_kept"];
+const HIGH_WRONG: [&str; 4] = ["in_mdata_done", "out_mdata_lost", "unknown_done2", "split_mdata_lost"];
 
 /// The decoder, and those with such a slip, with an account of what they count (changes/traced.txt).
-fn traced(decoder: &str, out: &Path) {
+fn traced(decoder: &str, prefix: &str, slips: &[&str], out: &Path) {
     let script = fs::read_to_string("changes/traced.txt").expect("traced");
-    fs::write(out.join("traced.rs"), changed(decoder.to_string(), &script)).expect("OUT_DIR can be written");
-    for slip in COUNTED_WRONG {
+    fs::write(out.join(format!("{prefix}traced.rs")), changed(decoder.to_string(), &script)).expect("OUT_DIR can be written");
+    for slip in slips {
         let text = fs::read_to_string(out.join(format!("mutant_{slip}.rs"))).expect(slip);
         fs::write(out.join(format!("traced_{slip}.rs")), changed(text, &script)).expect("OUT_DIR can be written");
     }
 }
 
-/// A decoder with one deliberate fault for each part of the file that starts with `mutant NAME`, and a list of what `check` finds in each.
-fn mutants(decoder: &str, name: &str, out: &Path) {
+/// A decoder with one deliberate fault for each part of the file that starts with `mutant NAME`, and a list of what `check` finds in each. `high`
+/// says whether they are in the mode.
+fn mutants(decoder: &str, name: &str, high: bool, out: &Path) {
     let script = fs::read_to_string(Path::new("changes").join(name).with_extension("txt")).expect(name);
     let mut names = Vec::new();
     for part in script.split("\nmutant ").skip(1) {
@@ -97,7 +112,7 @@ fn mutants(decoder: &str, name: &str, out: &Path) {
         fs::write(out.join(format!("mutant_{name}.rs")), changed(decoder.to_string(), body)).expect("OUT_DIR can be written");
         names.push(name);
     }
-    let modules: String = names.iter().map(|n| format!("crate::decoder_module!({n}, \"/mutant_{n}.rs\");\n")).collect();
+    let modules: String = names.iter().map(|n| format!("crate::decoder_module!({n}, \"/mutant_{n}.rs\", {high});\n")).collect();
     let list: String =
         names.iter().map(|n| format!("    found.push((\"{n}\", check::<{n}::machine::Machine>(seed, calls)));\n")).collect();
     let all = format!(

@@ -16,10 +16,10 @@ pub struct Case {
     first: usize,
 }
 
-/// The text with its counts, and the cases in the order of the source.
-pub fn counted(text: &str) -> (String, Vec<Case>) {
+/// The text with its counts, and the cases in the order of the source; the first counter has a number.
+pub fn counted(text: &str, first: usize) -> (String, Vec<Case>) {
     let mut counter =
-        Counter { text: plain(text), function: String::new(), of: String::new(), cases: BTreeMap::new(), counters: 0 };
+        Counter { text: plain(text), function: String::new(), of: String::new(), cases: BTreeMap::new(), counters: first };
     let mut out = String::new();
     let mut at = 0;
     while let Some(found) = counter.text[at..].find("fn ") {

@@ -1,11 +1,13 @@
 //! Blocks of records (change request 3): what a block must answer, by single calls, and the comparison with a port that takes blocks. A detail
 //! record is refused there (change request 13).
 
+use std::marker::PhantomData;
+
 use crate::calls::{Calls, LOGS, Mechanism, Rows};
 use crate::compare::{Left, Rust, Shelves, difference};
 use crate::damage::made;
-use crate::decoder::machine::Machine;
 use crate::generate::Random;
+use crate::mode::Mode;
 use crate::trace::{Clock, HEADER, Reader, Record, Writer, call};
 
 /// What a block answers.
@@ -135,10 +137,10 @@ fn without_details(mut records: Vec<u8>) -> Vec<u8> {
     records
 }
 
-/// The records of a random trace, and its kind. A block stops at the first detail, so they are taken out; in one of eight they stay, or one is put in
+/// The records of a random trace in a mode, and its kind. A block stops at the first detail, so they are taken out; in one of eight they stay, or one is put in
 /// at any place, also one that its call would refuse.
-fn recorded(random: &mut Random) -> (Vec<u8>, &'static str) {
-    let made = made(random);
+fn recorded(random: &mut Random, high: bool) -> (Vec<u8>, &'static str) {
+    let made = made(random, high);
     let records = made.bytes.get(HEADER..).unwrap_or_default().to_vec();
     let typed = random.below(8) == 0;
     if typed && random.chance(50) && first_detail(&records).is_some() {
@@ -217,9 +219,10 @@ fn start(random: &mut Random) -> Clock {
     }
 }
 
-/// What was compared, and what came of it.
+/// What was compared in a mode, and what came of it.
 #[derive(Default)]
-pub struct Tally {
+pub struct Tally<D: Mode> {
+    mode: PhantomData<D>,
     pub runs: u64,
     pub blocks: u64,
     pub records: u64,
@@ -245,10 +248,10 @@ pub const DETAILS: [&str; 4] =
 /// Where no more differences are told.
 const TOLD: u64 = 20;
 
-impl Tally {
+impl<D: Mode> Tally<D> {
     fn run(&mut self, port: &mut dyn Blocks, input: &Input, room: &Rows, what: &str) -> Taken {
         self.shelves.fill();
-        let rust = taken(input, room, &mut self.shelves.rust, block::<Machine>);
+        let rust = taken(input, room, &mut self.shelves.rust, block::<D::Machine>);
         let took = port.take(input, room, &mut self.shelves.port);
         self.shelved += self.shelves.written();
         if let Some(text) = took.map_or_else(Some, |port| differs(&rust, &port).or_else(|| self.shelves.difference())) {
@@ -300,14 +303,14 @@ fn differs(rust: &Taken, port: &Taken) -> Option<String> {
 }
 
 /// So many traces in blocks, each with room for just its rows, with a few more, and with one row fewer in one log (the logs in turn).
-pub fn blocks(port: &mut dyn Blocks, count: u64, seed: u64) -> Tally {
+pub fn blocks<D: Mode>(port: &mut dyn Blocks, count: u64, seed: u64) -> Tally<D> {
     let mut tally = Tally::default();
     for i in 0..count {
         let mut random = Random::of(seed, i);
-        let (records, kind) = recorded(&mut random);
+        let (records, kind) = recorded(&mut random, D::HIGH);
         let input = input(&mut random, &records);
         let what = format!("trace {i} of seed {seed} ({kind})");
-        let enough = Rows(taken(&input, &Rows::LARGEST, &mut [], block::<Machine>).left.rows);
+        let enough = Rows(taken(&input, &Rows::LARGEST, &mut [], block::<D::Machine>).left.rows);
         tally.run(port, &input, &enough, &what);
         tally.run(port, &input, &Rows(enough.0.map(|rows| rows + random.below(5))), &what);
         let log = (i as usize..).map(|k| k % LOGS.len()).find(|log| enough.0[*log] > 0).expect("a log with rows");
@@ -323,6 +326,8 @@ pub fn blocks(port: &mut dyn Blocks, count: u64, seed: u64) -> Tally {
 #[cfg(test)]
 mod tests {
     use super::*;
+    use crate::decoder::machine::Machine;
+    use crate::mode::{High, Plain};
     use crate::report;
 
     type One = fn(&mut Calls<Machine>, Clock, &[u8]) -> Block;
@@ -441,7 +446,7 @@ mod tests {
     fn cuts_change_nothing() {
         for i in 0..300 {
             let mut random = Random::of(2, i);
-            let (records, _) = recorded(&mut random);
+            let (records, _) = recorded(&mut random, false);
             let cut = input(&mut random, &records);
             let mut shelves = Shelves::default();
             shelves.fill();
@@ -457,7 +462,7 @@ mod tests {
 
     #[test]
     fn each_is_found() {
-        let right = blocks(&mut Rust::<Machine>::default(), 1000, 1);
+        let right = blocks::<Plain>(&mut Rust::<Machine>::default(), 1000, 1);
         assert!(report::blocks(&right), "the comparison meets what it is for and finds nothing in the Rust");
         let slips: [(&str, One); 13] = [
             ("clock_of_refused", clock_of_refused),
@@ -475,7 +480,20 @@ mod tests {
             ("details_ahead", details_ahead),
         ];
         for (name, one) in slips {
-            assert_ne!(blocks(&mut Slip(one), 100, 1).differences, 0, "{name} is not found");
+            assert_ne!(blocks::<Plain>(&mut Slip(one), 100, 1).differences, 0, "{name} is not found");
         }
+    }
+
+    /// In the mode of change request 6, where a port without it must be found.
+    #[test]
+    fn in_the_mode() {
+        assert!(report::blocks(&blocks::<High>(&mut Rust::<<High as Mode>::Machine>::default(), 1000, 1)));
+        assert_ne!(
+            blocks::<High>(&mut Rust::<Machine>::default(), 100, 1).differences,
+            0,
+            "a port without the mode is not found"
+        );
+        let high = blocks::<Plain>(&mut Rust::<<High as Mode>::Machine>::default(), 100, 1);
+        assert_ne!(high.differences, 0, "a port always in the mode is not found");
     }
 }

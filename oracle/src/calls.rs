@@ -68,6 +68,8 @@ pub struct Style {
 
 /// What the calls need of a decoder; each decoder made from the source has it (src/machine.rs).
 pub trait Mechanism: Sized {
+    /// Whether it is in the mode of change request 6.
+    const HIGH: bool;
     type Saved;
     fn fresh(trail: bool, descriptors: Descriptors) -> Self;
     fn packet(&mut self, packet: &[u8], time: u64) -> Result<(), Error>;

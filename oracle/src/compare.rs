@@ -5,16 +5,16 @@ use std::collections::BTreeMap;
 use std::marker::PhantomData;
 
 use crate::calls::{Calls, LINKS, LOGS, Mechanism, REQUESTS, Rows, TRANSACTIONS, WIDTHS};
+use crate::cameras;
 use crate::capture::Met;
-use crate::counted::machine::Machine as Counted;
 use crate::coverage::Seen;
 use crate::damage::{DAMAGES, INPUTS, Made, made};
-use crate::decoder::machine::Machine;
 use crate::descriptors::{PART, SHELF};
 use crate::generate::Random;
 use crate::generate::steered::every_pair;
 use crate::limits::limits;
 use crate::listing::{BUFFER, listing};
+use crate::mode::{Mode, Plain};
 use crate::trace::{Played, play};
 use crate::traces::{all, written};
 
@@ -127,9 +127,10 @@ impl Shelves {
     }
 }
 
-/// What was compared, and what came of it.
+/// What was compared in a mode, and what came of it.
 #[derive(Default)]
-pub struct Tally {
+pub struct Tally<D: Mode> {
+    mode: PhantomData<D>,
     pub traces: u64,
     pub kinds: BTreeMap<&'static str, u64>,
     pub damages: [u64; DAMAGES.len()],
@@ -166,7 +167,7 @@ pub struct Tally {
 /// Where no more differences are told.
 const TOLD: u64 = 20;
 
-impl Tally {
+impl<D: Mode> Tally<D> {
     fn differ(&mut self, text: String) {
         self.differences += 1;
         if self.differences <= TOLD {
@@ -177,13 +178,13 @@ impl Tally {
     /// One trace with one room: the Rust, the counting Rust and the port.
     fn run(&mut self, port: &mut dyn Port, trace: &[u8], room: &Rows, what: &str) -> Left {
         self.shelves.fill();
-        let played = play::<Machine>(trace, *room, 0, &mut ());
+        let played = play::<D::Machine>(trace, *room, 0, &mut ());
         self.written_by(&played);
         if let Some(Met { obeyed, unheard, overridden }) = played.calls.as_ref().map(Calls::met) {
             self.met.iter_mut().zip([obeyed, unheard, overridden]).for_each(|(sum, n)| *sum += n);
         }
         let rust = left(trace, played, &mut self.shelves.rust);
-        let counted = left(trace, play::<Counted>(trace, *room, 0, &mut self.seen), &mut []);
+        let counted = left(trace, play::<D::Counted>(trace, *room, 0, &mut self.seen), &mut []);
         if let Some(text) = difference(&rust, &counted) {
             self.differ(format!("{what}: counting changes what the Rust does: {text}"));
         }
@@ -211,7 +212,7 @@ impl Tally {
     }
 
     /// What wrote the group rows. An event's own row is on endpoint 0, and the others it writes come before its packet row.
-    fn written_by(&mut self, played: &Played<Machine>) {
+    fn written_by(&mut self, played: &Played<D::Machine>) {
         let Some(calls) = &played.calls else { return };
         let capture = calls.machine.capture();
         for (i, (row, stamp)) in capture.group_index.rows.iter().zip(calls.stamps()).enumerate() {
@@ -228,7 +229,7 @@ impl Tally {
 
     /// A trace with several rooms: just enough, one row short in one log, some more than enough, and much less in one log.
     fn rooms(&mut self, port: &mut dyn Port, trace: &[u8], what: &str, random: &mut Random) {
-        let (answer, enough) = wanted(trace);
+        let (answer, enough) = wanted::<D>(trace);
         if answer == 7 {
             self.full[(enough.0[2] == 128) as usize] += 1;
         }
@@ -265,7 +266,7 @@ impl Tally {
 
     /// Where the program runs out of room: of which log, and what it prints of the trace before that.
     fn program_limit(&mut self, lister: &mut dyn Lister, trace: &[u8], what: &str) {
-        let refusal = |room| play::<Machine>(trace, room, 0, &mut ()).refused.filter(|r| r.answer == 7);
+        let refusal = |room| play::<D::Machine>(trace, room, 0, &mut ()).refused.filter(|r| r.answer == 7);
         let Some(refused) = refusal(Rows::PROGRAM).filter(|_| trace.len() <= BUFFER) else { return };
         for log in 0..12 {
             let mut room = Rows::LARGEST;
@@ -277,7 +278,7 @@ impl Tally {
 
     /// What the program prints.
     fn listed(&mut self, lister: &mut dyn Lister, trace: &[u8], what: &str) {
-        let rust = listing::<Machine>(trace, BUFFER, Rows::PROGRAM, 0);
+        let rust = listing::<D::Machine>(trace, BUFFER, Rows::PROGRAM, 0);
         let words: Vec<&str> = rust.split(' ').take(2).collect();
         let key = if words[0] == "refused" { words.join(" ") } else { rust.lines().next().unwrap_or("").to_string() };
         *self.listings.entry(key).or_default() += 1;
@@ -291,8 +292,8 @@ impl Tally {
 }
 
 /// The answer of a trace and the rows that it leaves where there is all the room that may be; the program's room where it leaves none.
-fn wanted(trace: &[u8]) -> (u8, Rows) {
-    let whole = left(trace, play::<Machine>(trace, Rows::LARGEST, 0, &mut ()), &mut []);
+fn wanted<D: Mode>(trace: &[u8]) -> (u8, Rows) {
+    let whole = left(trace, play::<D::Machine>(trace, Rows::LARGEST, 0, &mut ()), &mut []);
     (whole.answer, if whole.rows[1] == 0 { Rows::PROGRAM } else { Rows(whole.rows) })
 }
 
@@ -304,14 +305,14 @@ fn line_difference(rust: &str, port: &str) -> String {
 
 /// The traces of `systematic`, then so many at random, each through the port with several rooms and through the program; then each log at
 /// its limits.
-pub fn traces(port: &mut dyn Port, lister: &mut dyn Lister, count: u64, seed: u64) -> Tally {
+pub fn traces<D: Mode>(port: &mut dyn Port, lister: &mut dyn Lister, count: u64, seed: u64) -> Tally<D> {
     let mut tally = Tally::default();
-    for (kind, name, bytes) in systematic() {
+    for (kind, name, bytes) in systematic(D::HIGH) {
         tally.trace(port, lister, Made { bytes, kind, damage: None }, &format!("{kind}: {name}"), &mut Random::new(seed));
     }
     for i in 0..count {
         let mut random = Random::of(seed, i);
-        let made = made(&mut random);
+        let made = made(&mut random, D::HIGH);
         let damage = made.damage.map_or("whole", |d| DAMAGES[d].0);
         let what = format!("trace {i} of seed {seed} ({}, {damage})", made.kind);
         tally.trace(port, lister, made, &what, &mut random);
@@ -321,18 +322,20 @@ pub fn traces(port: &mut dyn Port, lister: &mut dyn Lister, count: u64, seed: u6
     tally
 }
 
-/// Traces that are the same under every seed: each packet to each transaction, each log of the program filled, and those of traces/.
-fn systematic() -> Vec<(&'static str, String, Vec<u8>)> {
+/// Traces that are the same under every seed: each packet to each transaction, each log of the program filled, and those of traces/; in the mode of
+/// change request 6 those of traces/high besides.
+fn systematic(high: bool) -> Vec<(&'static str, String, Vec<u8>)> {
     let pairs = every_pair().into_iter().enumerate().map(|(i, bytes)| ("every pair", i.to_string(), bytes));
     let limits = limits().into_iter().map(|(log, bytes)| ("one too many", log.to_string(), bytes));
     let named = all().into_iter().map(|(name, bytes)| ("traces/", name, bytes));
-    pairs.chain(limits).chain(named).collect()
+    let cameras = cameras::all().into_iter().filter(|_| high).map(|(name, bytes)| ("traces/high/", name, bytes));
+    pairs.chain(limits).chain(named).chain(cameras).collect()
 }
 
 /// The traces that fill a log, with one row short in each log that they write to.
-fn shortest(port: &mut dyn Port, tally: &mut Tally) {
+fn shortest<D: Mode>(port: &mut dyn Port, tally: &mut Tally<D>) {
     for (name, trace) in limits() {
-        let (_, enough) = wanted(&trace);
+        let (_, enough) = wanted::<D>(&trace);
         for log in (0..12).filter(|log| enough.0[*log] > 0) {
             tally.one_short(port, &trace, &enough, log, &format!("{name}, and one row short of {}", LOGS[log]));
         }
@@ -340,7 +343,7 @@ fn shortest(port: &mut dyn Port, tally: &mut Tally) {
 }
 
 /// Each log with the most rows that may be lent, and with one more (answer 1).
-fn largest(port: &mut dyn Port, tally: &mut Tally) {
+fn largest<D: Mode>(port: &mut dyn Port, tally: &mut Tally<D>) {
     let trace = written("IN 0 1; DATA0 *8; ACK; SETUP 0 0; event 1");
     for log in 0..12 {
         for more in 0..2 {
@@ -352,7 +355,7 @@ fn largest(port: &mut dyn Port, tally: &mut Tally) {
 }
 
 /// So many inputs to the program, each kind in turn.
-pub fn inputs(lister: &mut dyn Lister, count: u64, seed: u64) -> Tally {
+pub fn inputs(lister: &mut dyn Lister, count: u64, seed: u64) -> Tally<Plain> {
     let mut tally = Tally::default();
     for i in 0..count {
         let mut random = Random::of(seed, i);
@@ -372,6 +375,7 @@ mod slips {
 
     use super::*;
     use crate::calls::{EVENTS, GROUPS, PACKETS};
+    use crate::decoder::machine::Machine;
     use crate::descriptors::BYTES;
     use crate::enumerations;
     use crate::trace::count_details;
@@ -382,7 +386,7 @@ mod slips {
     /// The differences of a decoder on so many traces, or a panic of it.
     fn check<M: Mechanism>(seed: u64, count: u64) -> Result<u64, String> {
         let (mut port, mut lister) = (Rust::<M>::default(), Rust::<M>::default());
-        let played = catch_unwind(AssertUnwindSafe(|| traces(&mut port, &mut lister, count, seed)));
+        let played = catch_unwind(AssertUnwindSafe(|| traces::<Plain>(&mut port, &mut lister, count, seed)));
         Ok(played.map_or(u64::MAX, |tally| tally.differences))
     }
 
@@ -391,6 +395,38 @@ mod slips {
         assert_eq!(check::<Machine>(1, 50), Ok(0));
         for (name, differences) in each(1, 50) {
             assert_ne!(differences, Ok(0), "{name} is not found");
+        }
+    }
+
+    /// In the mode of change request 6 (changes/high_slips.txt): those of the mode, and a decoder without it; and one in it where it is not chosen.
+    mod high {
+        use super::*;
+        use crate::mode::High;
+
+        include!(concat!(env!("OUT_DIR"), "/high_slips.rs"));
+
+        /// The differences of a decoder on the traces of traces/high and on so many at random.
+        fn check_in<D: Mode, M: Mechanism>(seed: u64, count: u64) -> Result<u64, String> {
+            let mut tally = Tally::<D>::default();
+            let random = (0..count).map(|i| made(&mut Random::of(seed, i), true).bytes);
+            for trace in cameras::all().into_iter().map(|(_, trace)| trace).chain(random) {
+                tally.rooms(&mut Rust::<M>::default(), &trace, "a trace of the mode", &mut Random::new(seed));
+            }
+            Ok(tally.differences)
+        }
+
+        fn check<M: Mechanism>(seed: u64, count: u64) -> Result<u64, String> {
+            check_in::<High, M>(seed, count)
+        }
+
+        #[test]
+        fn each_is_found() {
+            assert_eq!(check::<<High as Mode>::Machine>(1, 50), Ok(0));
+            for (name, differences) in each(1, 50) {
+                assert_ne!(differences, Ok(0), "{name} is not found");
+            }
+            assert_ne!(check::<Machine>(1, 50), Ok(0), "a decoder that drops the mode is not found");
+            assert_ne!(check_in::<Plain, <High as Mode>::Machine>(1, 50), Ok(0), "a decoder always in the mode is not found");
         }
     }
 
@@ -455,7 +491,7 @@ mod slips {
             }),
         ];
         for (name, slip) in slips {
-            let mut tally = Tally::default();
+            let mut tally = Tally::<Plain>::default();
             for (what, trace) in all() {
                 tally.listed(&mut LastLine(slip), &trace, &what);
             }
@@ -502,7 +538,7 @@ mod slips {
     /// Each is found in a word of a log by the traces of traces/.
     fn each_is_found_in(log: usize, word: usize, slips: &[(&str, Slip)]) {
         for (name, slip) in slips {
-            let mut tally = Tally::default();
+            let mut tally = Tally::<Plain>::default();
             for (what, trace) in all() {
                 tally.rooms(&mut Reckoned { log, word, slip: *slip }, &trace, &what, &mut Random::new(1));
             }
@@ -614,7 +650,7 @@ mod slips {
             ("another device's part is written", |_, shelf| shelf.copy_within(PART..2 * PART, 2 * PART)),
         ];
         for (name, slip) in slips {
-            let mut tally = Tally::default();
+            let mut tally = Tally::<Plain>::default();
             for (what, trace) in enumerations::all() {
                 tally.rooms(&mut Shelved(slip), &trace, &what, &mut Random::new(1));
             }

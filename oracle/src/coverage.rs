@@ -22,6 +22,8 @@ pub struct Case {
 
 /// All cases, in the order of the source.
 pub const CASES: &[Case] = include!(concat!(env!("OUT_DIR"), "/cases.rs"));
+/// Those of the decoder in the mode of change request 6; their counters are others.
+pub const HIGH_CASES: &[Case] = include!(concat!(env!("OUT_DIR"), "/high_cases.rs"));
 
 static COUNTS: [AtomicU64; 1024] = [const { AtomicU64::new(0) }; 1024];
 

@@ -1,7 +1,7 @@
 //! Traces for the comparison: a kind and a length from a random generator, whole or damaged in one of several ways; and inputs that are
 //! hardly a trace at all.
 
-use crate::generate::{EXTRA, KINDS, Random, generate};
+use crate::generate::{CAMERA, EXTRA, KINDS, Random, generate};
 use crate::trace::{Reader, Writer};
 
 /// How a trace is damaged.
@@ -94,8 +94,12 @@ pub struct Made {
     pub damage: Option<usize>,
 }
 
-/// A kind of trace; those of `EXTRA` two times in five, and the last of them, in which details and descriptors meet, once more in twenty.
-fn any_kind(random: &mut Random) -> &'static str {
+/// A kind of trace; those of `EXTRA` two times in five, and the last of them, in which details and descriptors meet, once more in twenty. In the mode
+/// of change request 6 one in three is a camera's.
+fn any_kind(random: &mut Random, high: bool) -> &'static str {
+    if high && random.below(3) == 0 {
+        return CAMERA.0;
+    }
     match random.below(20) {
         0 => EXTRA[EXTRA.len() - 1].0,
         1..9 => random.pick(&EXTRA).0,
@@ -104,8 +108,8 @@ fn any_kind(random: &mut Random) -> &'static str {
 }
 
 /// A trace of any kind: most short enough for the program, some long.
-pub fn made(random: &mut Random) -> Made {
-    let kind = any_kind(random);
+pub fn made(random: &mut Random, high: bool) -> Made {
+    let kind = any_kind(random, high);
     let most = random.pick(&[20, 20, 100, 200, 200, 200, 200, 300, 400, 3000]);
     let records = random.below(most) + 1;
     let mut bytes = generate(random.next(), records, kind).expect("a kind of the list");
@@ -171,7 +175,7 @@ fn damaged(random: &mut Random) -> Vec<u8> {
 }
 
 fn whole(random: &mut Random) -> Vec<u8> {
-    let kind = any_kind(random);
+    let kind = any_kind(random, false);
     let most = random.pick(&[10, 50, 150, 800]);
     let records = random.below(most) + 1;
     generate(random.next(), records, kind).expect("a kind of the list")

@@ -127,7 +127,7 @@ fn damaged(random: &mut Random, mut bytes: Vec<u8>) -> Vec<u8> {
 
 impl Bench {
     /// A read with its payload; some are stalled, break off before the status stage, or have a packet acknowledged twice.
-    fn read(&mut self, address: u8, request: [u8; 8], payload: &[u8], size: usize) {
+    pub(super) fn read(&mut self, address: u8, request: [u8; 8], payload: &[u8], size: usize) {
         self.setup_stage(address, 0, &request);
         for part in payload.chunks(size) {
             self.stage(IN, address, 0, part);

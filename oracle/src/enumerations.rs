@@ -7,7 +7,7 @@ use crate::traces::written;
 const DEVICE: u16 = 0x0100;
 const CONFIGURATION: u16 = 0x0200;
 
-fn hex(bytes: &[u8]) -> String {
+pub fn hex(bytes: &[u8]) -> String {
     let words: Vec<String> = bytes.iter().map(|b| format!("{b:02X}")).collect();
     if bytes.is_empty() { "*0".to_string() } else { format!("={}", words.join(" ")) }
 }

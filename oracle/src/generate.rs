@@ -9,6 +9,8 @@ use crate::usb::PID::*;
 mod described;
 #[path = "steered.rs"]
 pub mod steered;
+#[path = "streamed.rs"]
+mod streamed;
 
 /// A small random generator (splitmix64).
 pub struct Random(u64);
@@ -90,13 +92,26 @@ pub const DESCRIBED: [(&str, fn(&mut Bench)); 2] = [("descriptors", Bench::descr
 /// The one of them in which details and descriptors meet (change request 13).
 const TYPED: (&str, fn(&mut Bench)) = ("typed", Bench::retyped);
 
+/// The kind of change request 6. It is played in the mode alone, and stands apart from all others, so that what is made of those stays as it is.
+pub const CAMERA: (&str, fn(&mut Bench)) = ("camera", Bench::camera);
+
+/// The kinds that random calls are made of, in the mode of change request 6 or without it.
+pub fn kinds(high: bool) -> Vec<(&'static str, fn(&mut Bench))> {
+    let mut kinds = [&KINDS[..], &EXTRA].concat();
+    if high {
+        // As often as four of the others.
+        kinds.extend([CAMERA; 4]);
+    }
+    kinds
+}
+
 /// A trace of n records of a kind, or none where there is no such kind.
 pub fn generate(seed: u64, n: u64, kind: &str) -> Option<Vec<u8>> {
-    let (_, scene) = KINDS.iter().chain(&EXTRA).find(|(name, _)| *name == kind)?;
+    let (_, scene) = KINDS.iter().chain(&EXTRA).chain([&CAMERA]).find(|(name, _)| *name == kind)?;
     let mut bench = Bench::new(seed);
     if kind == "mixed" {
         bench.noise = 6;
-    } else if DESCRIBED.iter().chain([&TYPED]).any(|(name, _)| *name == kind) {
+    } else if DESCRIBED.iter().chain([&TYPED, &CAMERA]).any(|(name, _)| *name == kind) {
         // Most of these traces run undisturbed, so that the reads in them come to their end.
         bench.noise = [0, 0, 0, 1, 3][seed as usize % 5];
     }

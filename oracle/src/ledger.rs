@@ -6,9 +6,9 @@ use std::collections::BTreeMap;
 use std::ops::Deref;
 
 use crate::calls::{Calls, Mechanism, Place, Rows, Style};
-use crate::decoder::machine::{State, group_status_words, status_behind};
+use crate::decoder::machine::{State, group_status_words};
+use crate::mode::{status_behind, yields};
 use crate::trace::{Clock, Record, Refused, call, run};
-use crate::traced;
 use crate::usb::{PID, validate_packet};
 
 // ---- the Rust's own account
@@ -44,8 +44,8 @@ pub fn account<M: Told>(machine: &M) -> Vec<Note> {
 }
 
 /// The account of a trace, a line for each payload: `counted ENDPOINT PACKET LENGTH TOTAL`. A refused trace has its refusal, as in the listing.
-pub fn text(trace: &[u8], room: Rows) -> String {
-    match run::<traced::machine::Machine>(trace, room, 0) {
+pub fn text<M: Told>(trace: &[u8], room: Rows) -> String {
+    match run::<M>(trace, room, 0) {
         Ok(calls) => {
             let line = |[x, packet, length, total]: Note| format!("counted {x} {packet} {length} {total}\n");
             account(&calls.machine).into_iter().map(line).collect()
@@ -139,6 +139,8 @@ pub enum Fate {
 
 #[derive(Clone, Default)]
 pub struct Ledger {
+    /// Whether the decoder is in the mode of change request 6: it says which packets are data packets, and their status.
+    pub high: bool,
     /// The payload of the current or suspended transaction.
     pub held: Option<Data>,
     /// That of each endpoint which waits for a split to complete.
@@ -167,12 +169,17 @@ impl<'a> Call<'a> {
     }
 }
 
-/// The length of a data packet's payload: a valid packet whose PID yields one. None for any other packet.
-fn payload_length(packet: &[u8]) -> Option<u64> {
-    matches!(validate_packet(packet), Ok(PID::DATA0 | PID::DATA1)).then(|| packet.len() as u64 - 3)
-}
-
 impl Ledger {
+    /// An empty one, in the mode or not.
+    pub fn of(high: bool) -> Ledger {
+        Ledger { high, ..Ledger::default() }
+    }
+
+    /// The length of a data packet's payload: a valid packet whose PID yields one. None for any other packet.
+    fn payload_length(&self, packet: &[u8]) -> Option<u64> {
+        validate_packet(packet).is_ok_and(|pid| yields(self.high, pid)).then(|| packet.len() as u64 - 3)
+    }
+
     /// A call with its answer, on the world before it: seven sentences, numbered as in the design.
     /// 1: a refused call leaves the ledger, and so does a detail.
     pub fn follow(&mut self, world: &World, call: &Call, answer: u8) {
@@ -197,7 +204,7 @@ impl Ledger {
     /// 5: New ends the old transaction without success; Done, Retry and Fail end it as the rules say; Continue and Ambiguous do not.
     fn packet(&mut self, world: &World, packet: &[u8]) {
         let found = world.place.transaction;
-        let (pid, status) = status_behind(found, packet);
+        let (pid, status) = status_behind(self.high, found, packet);
         let Some(style) = found.filter(|_| status != "Invalid") else {
             // The other way here is a token that finds no transaction.
             if status == "Invalid" {
@@ -210,7 +217,7 @@ impl Ledger {
         };
         if takes_setup(&style) && pid == PID::DATA0 as u8 {
             self.own_passes(Why::Setup, world.endpoint, world, packet);
-        } else if let Some(length) = payload_length(packet) {
+        } else if let Some(length) = self.payload_length(packet) {
             let before = self.held.replace((world.packets, length));
             assert!(before.is_none(), "a transaction gets a second payload");
         }
@@ -271,7 +278,7 @@ impl Ledger {
 
     /// The call's own packet passes, where it is a data packet.
     fn own_passes(&mut self, why: Why, endpoint: Option<u64>, world: &World, packet: &[u8]) {
-        if let Some(length) = payload_length(packet) {
+        if let Some(length) = self.payload_length(packet) {
             self.passes(why, endpoint, (world.packets, length));
         }
     }

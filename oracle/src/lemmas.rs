@@ -3,8 +3,10 @@
 use std::fmt::Write;
 
 use crate::calls::{Calls, Mechanism, Rows};
-use crate::decoder::machine::Machine;
-use crate::generate::{KINDS, generate};
+use crate::cameras;
+use crate::generate::{CAMERA, KINDS, generate};
+use crate::listing::listing;
+use crate::mode::{High, Mode, Plain};
 use crate::trace::{Clock, Reader, Record, call};
 use crate::traces::{SEQUENCES, written};
 
@@ -74,9 +76,9 @@ fn written_call(record: &Record, time: u64) -> String {
     }
 }
 
-/// A trace and its finish as one lemma: refused calls are no step, and a long packet is left out.
-fn lemma(name: &str, trace: &[u8]) -> String {
-    let mut calls = Calls::<Machine>::new(Rows::LARGEST, 0, false);
+/// A trace and its finish as one lemma in a mode: refused calls are no step, and a long packet is left out.
+fn lemma<D: Mode>(name: &str, trace: &[u8]) -> String {
+    let mut calls = Calls::<D::Machine>::new(Rows::LARGEST, 0, false);
     let mut reader = Reader::new(trace);
     let mut clock = Clock::default();
     let mut steps = Vec::new();
@@ -92,7 +94,8 @@ fn lemma(name: &str, trace: &[u8]) -> String {
     }
     assert_eq!(calls.finish(), 0, "a run of ours is refused at its end");
     steps.push("finishing".to_string());
-    let mut out = format!("\nrun-{name} :\n    Leaves ({})\n    (", list(steps.into_iter()));
+    let leaves = if D::HIGH { HIGH_LEAVES } else { LEAVES };
+    let mut out = format!("\nrun-{name} :\n    {leaves} ({})\n    (", list(steps.into_iter()));
     for log in calls.words() {
         write!(out, "{} ∷ ", numbers(&log)).ok();
     }
@@ -104,11 +107,42 @@ fn lemma(name: &str, trace: &[u8]) -> String {
 pub fn lemmas(seed: u64, runs: u64, records: u64) -> String {
     let mut out = HEADER.to_string();
     for (name, text) in SEQUENCES.iter().chain(PLACES) {
-        out += &lemma(name, &written(text));
+        out += &lemma::<Plain>(name, &written(text));
     }
     for i in 0..runs {
         let kind = KINDS[(i % KINDS.len() as u64) as usize].0;
-        out += &lemma(&format!("{kind}-{}", seed + i), &generate(seed + i, records, kind).expect("a kind of the list"));
+        out += &lemma::<Plain>(&format!("{kind}-{}", seed + i), &generate(seed + i, records, kind).expect("a kind of the list"));
+    }
+    out
+}
+
+/// What the crate `rules` says of a run, and in the mode of change request 6; and what the header has otherwise there.
+const LEAVES: &str = "Leaves";
+const HIGH_LEAVES: &str = "LeavesIn true";
+const HIGH_USES: [(&str, &str); 4] = [
+    ("of docs/src,", "of docs/src in the mode of change request 6 (oracle/changes/high.txt),"),
+    ("`oracle lemmas SEED", "`oracle lemmas --high SEED"),
+    ("finishing, Leaves}", "finishing, LeavesIn}"),
+    ("use mathlib.Core.List.{List, [], _∷_}\n", "use mathlib.Core.List.{List, [], _∷_}\nuse mathlib.Core.Bool.{true}\n"),
+];
+
+/// A run is computed with a shelf that has no bytes, so a trace that reads a descriptor to its end is left out.
+const READS: [&str; 2] = ["camera-in", "read-by-mdata"];
+
+/// The same in the mode: the traces of traces/high, and so many runs of so many records, of those from the seed on on which the mode shows.
+pub fn high(seed: u64, runs: u64, records: u64) -> String {
+    let mut out = HIGH_USES.iter().fold(HEADER.to_string(), |text, (old, new)| text.replace(old, new));
+    for (name, trace) in cameras::all().into_iter().filter(|(name, _)| !READS.contains(&name.as_str())) {
+        out += &lemma::<High>(&name, &trace);
+    }
+    let shows = |trace: &[u8]| {
+        let (large, all) = (Rows::LARGEST, usize::MAX);
+        let in_mode = listing::<<High as Mode>::Machine>(trace, all, large, 0);
+        in_mode != listing::<<Plain as Mode>::Machine>(trace, all, large, 0)
+    };
+    let random = (seed..).map(|seed| (seed, generate(seed, records, CAMERA.0).expect("a kind")));
+    for (seed, trace) in random.filter(|(_, trace)| shows(trace)).take(runs as usize) {
+        out += &lemma::<High>(&format!("{}-{seed}", CAMERA.0), &trace);
     }
     out
 }

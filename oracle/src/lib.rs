@@ -8,6 +8,7 @@ pub use crates::{CRC_16_USB, Context, Crc, Error};
 pub mod bench;
 pub mod blocks;
 pub mod calls;
+pub mod cameras;
 pub mod chapter9;
 pub mod compare;
 pub mod coverage;
@@ -24,6 +25,7 @@ pub mod limits;
 pub mod listed;
 pub mod listing;
 pub mod mixed;
+pub mod mode;
 pub mod once;
 pub mod own;
 pub mod own_and_ruled;
@@ -79,12 +81,16 @@ pub mod capture {
     include!("capture_parts.rs");
 }
 
-/// A decoder made from the source, and the machine over it that the calls drive, with one file more where it is named.
+/// A decoder made from the source, and the machine over it that the calls drive, with one file more where it is named; whether it is in the mode of change request 6.
 #[macro_export]
 macro_rules! decoder_module {
-    ($name:ident, $file:literal $(, $more:literal)?) => {
+    ($name:ident, $file:literal) => {
+        $crate::decoder_module!($name, $file, false);
+    };
+    ($name:ident, $file:literal, $high:literal $(, $more:literal)?) => {
         #[allow(dead_code)]
         pub mod $name {
+            pub const HIGH: bool = $high;
             include!(concat!(env!("OUT_DIR"), $file));
             pub mod machine {
                 include!(concat!(env!("CARGO_MANIFEST_DIR"), "/src/machine.rs"));
@@ -98,7 +104,10 @@ macro_rules! decoder_module {
 #[macro_export]
 macro_rules! traced_module {
     ($name:ident, $file:literal) => {
-        $crate::decoder_module!($name, $file, "/src/told.rs");
+        $crate::traced_module!($name, $file, false);
+    };
+    ($name:ident, $file:literal, $high:literal) => {
+        $crate::decoder_module!($name, $file, $high, "/src/told.rs");
     };
 }
 
@@ -106,3 +115,10 @@ decoder_module!(decoder, "/decoder.rs");
 // The same with its cases counted (build/counted.rs).
 decoder_module!(counted, "/counted.rs");
 traced_module!(traced, "/traced.rs");
+
+/// The same three in the mode of change request 6 (changes/high.txt).
+pub mod high {
+    crate::decoder_module!(decoder, "/high.rs", true);
+    crate::decoder_module!(counted, "/high_counted.rs", true);
+    crate::traced_module!(traced, "/high_traced.rs", true);
+}

@@ -86,19 +86,20 @@ macro_rules! entry {
     };
 }
 
-entry!(pivotspark_trace(trace: *const u8, trace_len: usize));
+entry!(pivotspark_trace(high: u8, trace: *const u8, trace_len: usize));
 
-/// A whole trace by the port: the answer and the offset.
+/// A whole trace by the port, its decoder fresh in the mode of change request 6 or not: the answer and the offset.
 ///
 /// # Safety
 /// Each log, the table and the shelf have as many elements as is said, are initialised, and nobody else uses them during the call.
-pub unsafe fn trace(trace: &[u8], lent: &Lent, counts: &mut [u64]) -> (u8, u64) {
-    unsafe { pivotspark_trace(trace.as_ptr(), trace.len(), lent, counts) }
+pub unsafe fn trace(high: bool, trace: &[u8], lent: &Lent, counts: &mut [u64]) -> (u8, u64) {
+    unsafe { pivotspark_trace(high as u8, trace.as_ptr(), trace.len(), lent, counts) }
 }
 
 entry!(
     #[cfg(feature = "blocks")]
     pivotspark_blocks(
+        high: u8,
         records: *const u8, records_len: usize,
         last: u32, time: u64,
         cuts: *const u64, cuts_len: usize,
@@ -113,9 +114,17 @@ entry!(
 /// # Safety
 /// As for `trace`.
 #[cfg(feature = "blocks")]
-pub unsafe fn blocks(input: &Input, lent: &Lent, out: &mut [u64], counts: &mut [u64]) -> (u8, u64) {
+pub unsafe fn blocks(high: bool, input: &Input, lent: &Lent, out: &mut [u64], counts: &mut [u64]) -> (u8, u64) {
     let (last, time) = input.clock.state();
     let (records, cuts) = (input.records, &input.cuts);
-    let (r, c, o) = ((records.as_ptr(), records.len()), (cuts.as_ptr(), cuts.len()), (out.as_mut_ptr(), out.len()));
-    unsafe { pivotspark_blocks(r.0, r.1, last, time, c.0, c.1, o.0, o.1, lent, counts) }
+    unsafe {
+        pivotspark_blocks(
+            high as u8,
+            records.as_ptr(), records.len(),
+            last, time,
+            cuts.as_ptr(), cuts.len(),
+            out.as_mut_ptr(), out.len(),
+            lent, counts,
+        )
+    }
 }

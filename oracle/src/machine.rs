@@ -5,6 +5,7 @@ use super::*;
 use crate::calls::{EndpointView, Mechanism, Place, Style, TransactionView, View};
 use crate::capture::{DeviceData, create_capture};
 use crate::descriptors::{Descriptors, Kind, kind};
+use crate::mode::yields;
 use crate::storage::Journal;
 
 pub struct Machine {
@@ -43,8 +44,8 @@ impl Machine {
         self.decoder.as_mut().expect("a decoder that has not finished")
     }
 
-    /// Lays a payload by before its packet is taken (src/descriptors.rs, R3): a DATA0 or DATA1 that the transaction takes and that is no
-    /// setup data, on an endpoint whose kept setup is a read. What it may count for is seen here, whether it counts is not.
+    /// Lays a payload by before its packet is taken (src/descriptors.rs, R3): that of a packet which yields one, which the transaction takes and
+    /// which is no setup data, on an endpoint whose kept setup is a read. What it may count for is seen here, whether it counts is not.
     fn lay(&self, packet: &[u8]) {
         use TransactionStyle::*;
         let d = self.decoder();
@@ -55,7 +56,7 @@ impl Machine {
             (&state.style, pid),
             (Simple(PID::SETUP) | Split(StartComplete::Start, usb::EndpointType::Control, Some(PID::SETUP)), PID::DATA0)
         );
-        if !matches!(pid, PID::DATA0 | PID::DATA1) || of_setup || status == TransactionStatus::Invalid {
+        if !yields(HIGH, pid) || of_setup || status == TransactionStatus::Invalid {
             return;
         }
         let e = &d.endpoint_data[id];
@@ -139,6 +140,7 @@ fn endpoint_view(e: &EndpointData) -> EndpointView {
 }
 
 impl Mechanism for Machine {
+    const HIGH: bool = HIGH;
     type Saved = Saved;
 
     fn fresh(trail: bool, descriptors: Descriptors) -> Self {

@@ -5,22 +5,28 @@
 use std::panic::{AssertUnwindSafe, catch_unwind};
 
 use crate::calls::{Calls, PACKETS, Rows};
+use crate::cameras;
 use crate::capture::CaptureWriter;
-use crate::decoder;
 use crate::generate::steered::every_pair;
-use crate::generate::{EXTRA, KINDS, Random, generate};
-use crate::ledger::{Call, Fate, Ledger, Note, Told, WHYS, World, account};
+use crate::generate::{Random, generate, kinds};
+use crate::ledger::{Call, Fate, Ledger, Note, Told, WHYS, Why, World, account};
+use crate::mode::{High, Mode, Plain, status_behind};
 use crate::selfcheck::{hold, small};
 use crate::storage::Mark;
 use crate::trace::{Clock, Reader, Record};
-use crate::traced;
 use crate::traces::{SEQUENCES, written};
-use crate::usb::reason_of;
+use crate::usb::{PID, reason_of};
 
 /// Decoders with a slip in what they count (changes/slips.txt), traced.
 pub mod slips {
     crate::traced_module!(payload_seen, "/traced_payload_seen.rs");
     crate::traced_module!(wait_kept, "/traced_wait_kept.rs");
+
+    // In the mode of change request 6 (changes/high_slips.txt).
+    crate::traced_module!(in_mdata_done, "/traced_in_mdata_done.rs", true);
+    crate::traced_module!(out_mdata_lost, "/traced_out_mdata_lost.rs", true);
+    crate::traced_module!(unknown_done2, "/traced_unknown_done2.rs", true);
+    crate::traced_module!(split_mdata_lost, "/traced_split_mdata_lost.rs", true);
 }
 
 /// What was met.
@@ -38,38 +44,63 @@ pub struct Met {
     pub passed: [u64; WHYS.len()],
     /// Payloads that were open at the end of a run: held, and waiting.
     pub open: [u64; 2],
+    /// Payloads of DATA2 and MDATA: those that were counted, in the order of `HIGH_COUNTED`, and those that passed, in that of `WHYS`.
+    pub high_counted: [u64; HIGH_COUNTED.len()],
+    pub high_passed: [u64; WHYS.len()],
+}
+
+/// What counts in the mode of change request 6 and not without it.
+pub const HIGH_COUNTED: [&str; 5] =
+    ["DATA2 behind IN", "DATA2 behind OUT", "MDATA behind OUT", "MDATA of an isochronous split", "MDATA of an interrupt split"];
+
+/// The place of a counted packet in `HIGH_COUNTED`, by the transaction that it came to.
+fn high_place(pid: u8, world: &World) -> Option<usize> {
+    const DATA2: u8 = PID::DATA2 as u8;
+    const MDATA: u8 = PID::MDATA as u8;
+    let style = world.place.transaction?;
+    match (pid, style.split, style.first == PID::IN as u8) {
+        (DATA2, None, true) => Some(0),
+        (DATA2, None, false) => Some(1),
+        (MDATA, None, false) => Some(2),
+        (MDATA, Some((_, 1)), _) => Some(3),
+        (MDATA, Some((_, 3)), _) => Some(4),
+        _ => None,
+    }
 }
 
 /// Plays the sequences of traces/ and those in which each packet comes to each transaction, then so many calls at random: what was met, or the
 /// first fault. Beside the decoder that is right there is the one without an account, and what it holds is looked at too; one with a slip must be
-/// found by what it counts.
-pub fn check<M: Told>(seed: u64, calls: u64, right: bool) -> Result<Met, String> {
+/// found by what it counts. What is right goes by the mode.
+pub fn check<D: Mode, M: Told>(seed: u64, calls: u64, right: bool) -> Result<Met, String> {
     let mut met = Met::default();
     for (name, text) in SEQUENCES {
-        tried::<M>(&written(text), Rows::LARGEST, right, &mut met, name)?;
+        tried::<D, M>(&written(text), Rows::LARGEST, right, &mut met, name)?;
+    }
+    for (name, trace) in cameras::all().iter().filter(|_| D::HIGH) {
+        tried::<D, M>(trace, Rows::LARGEST, right, &mut met, name)?;
     }
     for (i, trace) in every_pair().iter().enumerate() {
-        tried::<M>(trace, Rows::LARGEST, right, &mut met, &format!("pair {i}"))?;
+        tried::<D, M>(trace, Rows::LARGEST, right, &mut met, &format!("pair {i}"))?;
     }
-    let kinds: Vec<&str> = KINDS.iter().chain(&EXTRA).map(|(kind, _)| *kind).collect();
+    let kinds: Vec<&str> = kinds(D::HIGH).iter().map(|(kind, _)| *kind).collect();
     let (mut random, before) = (Random::new(seed), met.calls);
     while met.calls < before + calls {
         let (kind, seed, records) = (random.pick(&kinds), random.next(), random.below(400) + 1);
         let room = if random.chance(30) { small(&mut random) } else { Rows::LARGEST };
         let trace = generate(seed, records, kind).expect("a kind of the list");
-        tried::<M>(&trace, room, right, &mut met, &format!("{kind} {seed} of {records} records"))?;
+        tried::<D, M>(&trace, room, right, &mut met, &format!("{kind} {seed} of {records} records"))?;
     }
     Ok(met)
 }
 
-fn tried<M: Told>(trace: &[u8], room: Rows, right: bool, met: &mut Met, name: &str) -> Result<(), String> {
+fn tried<D: Mode, M: Told>(trace: &[u8], room: Rows, right: bool, met: &mut Met, name: &str) -> Result<(), String> {
     let done = met.calls;
-    let run = catch_unwind(AssertUnwindSafe(|| check_trace::<M>(trace, room, right, met)));
+    let run = catch_unwind(AssertUnwindSafe(|| check_trace::<D, M>(trace, room, right, met)));
     run.unwrap_or_else(|_| Err("a panic".to_string())).map_err(|fault| format!("{fault} (trace {name}, after {done} calls)"))
 }
 
-fn check_trace<M: Told>(trace: &[u8], room: Rows, right: bool, met: &mut Met) -> Result<(), String> {
-    let mut run = Run::<M>::new(room, right);
+fn check_trace<D: Mode, M: Told>(trace: &[u8], room: Rows, right: bool, met: &mut Met) -> Result<(), String> {
+    let mut run = Run::<D, M>::new(room, right);
     if run.calls.fresh != 0 {
         return Ok(());
     }
@@ -88,10 +119,10 @@ fn check_trace<M: Told>(trace: &[u8], room: Rows, right: bool, met: &mut Met) ->
 }
 
 /// A run of calls, and what was seen of it.
-struct Run<M: Told> {
+struct Run<D: Mode, M: Told> {
     calls: Calls<M>,
     /// The decoder without an account, beside one that is right.
-    plain: Option<Calls<decoder::machine::Machine>>,
+    plain: Option<Calls<D::Machine>>,
     /// The time of each.
     clocks: [Clock; 2],
     ledger: Ledger,
@@ -102,13 +133,13 @@ struct Run<M: Told> {
     data: Vec<Option<u64>>,
 }
 
-impl<M: Told> Run<M> {
+impl<D: Mode, M: Told> Run<D, M> {
     fn new(room: Rows, right: bool) -> Self {
         Run {
             calls: Calls::new(room, 0, false),
             plain: right.then(|| Calls::new(room, 0, false)),
             clocks: [Clock::default(); 2],
-            ledger: Ledger::default(),
+            ledger: Ledger::of(D::HIGH),
             fates: Vec::new(),
             account: Vec::new(),
             data: Vec::new(),
@@ -142,13 +173,18 @@ impl<M: Told> Run<M> {
         let (Some(packet), Some(world)) = (call.packet(), world) else {
             return Err(format!("{new:?} is counted by a call that is no packet's"));
         };
-        let status = decoder::machine::status_behind(world.place.transaction, packet).1;
+        let status = status_behind(D::HIGH, world.place.transaction, packet).1;
         hold(answer == 0 && matches!(status, "Done" | "Retry"), || {
             format!("{new:?} is counted by a packet whose status is {status}, answer {answer}")
         })?;
         met.retried += if status == "Retry" { new.len() as u64 } else { 0 };
         let waited = |note: &&Note| world.entries.iter().any(|e| e.waiting == Some((note[1], note[2])));
         met.waited += new.iter().filter(waited).count() as u64;
+        // DATA2 and MDATA never wait: the packet that counts is their own.
+        let own = new.iter().any(|note| note[1] == world.packets);
+        if let Some(place) = packet.first().filter(|_| own).and_then(|pid| high_place(*pid, world)) {
+            met.high_counted[place] += 1;
+        }
         Ok(())
     }
 
@@ -165,7 +201,7 @@ impl<M: Told> Run<M> {
     /// The lines of the claim.
     fn claim(&mut self) -> Result<(), String> {
         for row in self.data.len()..self.calls.rows().0[PACKETS] as usize {
-            self.data.push(logged_length(packet_bytes(self.calls.machine.capture(), row)));
+            self.data.push(logged_length(D::HIGH, packet_bytes(self.calls.machine.capture(), row)));
         }
         self.twice()?;
         let totals = self.rows()?;
@@ -264,7 +300,11 @@ impl<M: Told> Run<M> {
                     met.counted += 1;
                     met.bytes += length;
                 }
-                Fate::Passed(why, ..) => met.passed[why as usize] += 1,
+                Fate::Passed(why, _, packet, _) => {
+                    met.passed[why as usize] += 1;
+                    let pid = packet_bytes(self.calls.machine.capture(), packet as usize)[0];
+                    met.high_passed[why as usize] += (pid == PID::DATA2 as u8 || pid == PID::MDATA as u8) as u64;
+                }
             }
         }
         met.open[0] += self.ledger.held.is_some() as u64;
@@ -282,29 +322,47 @@ fn packet_bytes(capture: &CaptureWriter, row: usize) -> &[u8] {
 }
 
 /// The length of the payload of a packet in the log, where it is a data packet. Told in another way than the ledger tells it of a call's packet.
-fn logged_length(bytes: &[u8]) -> Option<u64> {
-    const DATA0: u8 = 0xC3;
-    const DATA1: u8 = 0x4B;
+fn logged_length(high: bool, bytes: &[u8]) -> Option<u64> {
+    // DATA0 and DATA1; DATA2 and MDATA.
+    let pids: &[u8] = if high { &[0xC3, 0x4B, 0x87, 0x0F] } else { &[0xC3, 0x4B] };
     match bytes {
-        [DATA0 | DATA1, payload @ .., _, _] if reason_of(bytes) == 0 => Some(payload.len() as u64),
+        [pid, payload @ .., _, _] if pids.contains(pid) && reason_of(bytes) == 0 => Some(payload.len() as u64),
         _ => None,
     }
 }
 
 /// The second half of `oracle selfcheck`: no fault in the right decoder, with each fate met; each slip found.
 pub fn report(seed: u64, calls: u64) -> bool {
-    let mut good = match check::<traced::machine::Machine>(seed, calls, true) {
-        Ok(met) => met.told(),
+    let slips: [(&str, Checked); 2] = [
+        ("payload_seen", check::<Plain, slips::payload_seen::machine::Machine>),
+        ("wait_kept", check::<Plain, slips::wait_kept::machine::Machine>),
+    ];
+    report_by::<Plain>(seed, calls, &slips)
+}
+
+/// That of `oracle selfcheck --high`. A decoder that is right without the mode is wrong in it, too.
+pub fn report_high(seed: u64, calls: u64) -> bool {
+    let slips: [(&str, Checked); 5] = [
+        ("in_mdata_done", check::<High, slips::in_mdata_done::machine::Machine>),
+        ("out_mdata_lost", check::<High, slips::out_mdata_lost::machine::Machine>),
+        ("unknown_done2", check::<High, slips::unknown_done2::machine::Machine>),
+        ("split_mdata_lost", check::<High, slips::split_mdata_lost::machine::Machine>),
+        ("mode_dropped", check::<High, <Plain as Mode>::Traced>),
+    ];
+    report_by::<High>(seed, calls, &slips)
+}
+
+type Checked = fn(u64, u64, bool) -> Result<Met, String>;
+
+fn report_by<D: Mode>(seed: u64, calls: u64, slips: &[(&str, Checked)]) -> bool {
+    let mut good = match check::<D, D::Traced>(seed, calls, true) {
+        Ok(met) => met.told() && (!D::HIGH || met.high_told()),
         Err(fault) => {
             println!("fault: {fault}");
             false
         }
     };
-    let slips = [
-        ("payload_seen", check::<slips::payload_seen::machine::Machine>(seed, calls, false)),
-        ("wait_kept", check::<slips::wait_kept::machine::Machine>(seed, calls, false)),
-    ];
-    for (name, found) in slips {
+    for (name, found) in slips.iter().map(|(name, check)| (name, check(seed, calls, false))) {
         match found {
             Err(fault) => println!("slip {name}: found: {fault}"),
             Ok(met) => {
@@ -330,6 +388,21 @@ impl Met {
         let met = counted > 0 && waited > 0 && retried > 0 && self.passed.iter().all(|n| *n > 0);
         if !met {
             println!("fault: a fate was not met");
+        }
+        met
+    }
+
+    /// The same of DATA2 and MDATA. What is not counted of them is stray, dropped, or unused: a transaction takes none without ending.
+    fn high_told(&self) -> bool {
+        let counted = HIGH_COUNTED.iter().zip(self.high_counted).map(|(name, n)| format!("{name} {n}"));
+        println!("counted in the mode alone: {}", counted.collect::<Vec<_>>().join(", "));
+        let passed = WHYS.iter().zip(self.high_passed).map(|(why, n)| format!(" {why:?} {n}"));
+        println!("DATA2 and MDATA that passed:{}", passed.collect::<String>());
+        let met = |why: &Why| matches!(why, Why::Stray | Why::Dropped | Why::Unused);
+        let as_said = WHYS.iter().zip(self.high_passed).all(|(why, n)| met(why) == (n > 0));
+        let met = self.high_counted.iter().all(|n| *n > 0) && as_said;
+        if !met {
+            println!("fault: a cell of the mode was not met, or another than there can be");
         }
         met
     }

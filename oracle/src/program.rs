@@ -9,20 +9,23 @@ use crate::compare::Lister;
 
 pub struct Program {
     path: PathBuf,
+    high: bool,
     turn: u64,
 }
 
 impl Program {
-    pub fn new(path: &str) -> Result<Program, String> {
+    /// In the mode of change request 6, or without it.
+    pub fn new(path: &str, high: bool) -> Result<Program, String> {
         let path = PathBuf::from(path);
         match path.is_file() {
-            true => Ok(Program { path, turn: 0 }),
+            true => Ok(Program { path, high, turn: 0 }),
             false => Err(format!("{}: no program", path.display())),
         }
     }
 
     fn output(&mut self, input: &[u8]) -> std::io::Result<Output> {
-        let mut child = Command::new(&self.path).stdin(Stdio::piped()).stdout(Stdio::piped()).stderr(Stdio::piped()).spawn()?;
+        let arguments: &[&str] = if self.high { &["--high"] } else { &[] };
+        let mut child = Command::new(&self.path).args(arguments).stdin(Stdio::piped()).stdout(Stdio::piped()).stderr(Stdio::piped()).spawn()?;
         self.turn += 1;
         self.feed(child.stdin.take().expect("a pipe to the program"), input);
         child.wait_with_output()

@@ -3,9 +3,11 @@
 use crate::blocks::{self, DETAIL, DETAILS};
 use crate::calls::{LOGS, Style};
 use crate::compare::Tally;
-use crate::coverage::{CASES, Case, NEXT, count};
+use crate::coverage::{Case, NEXT, count};
 use crate::damage::DAMAGES;
-use crate::usb::REASONS;
+use crate::mode::{Mode, Plain, status_behind};
+use crate::packets::data;
+use crate::usb::{PID, REASONS};
 
 /// Ways that no call can take: the function, the case, the way, and why. Any other way that is not met is a fault of the comparison, and
 /// one of these that is met is a fault here.
@@ -50,7 +52,7 @@ fn named<'a>(names: impl IntoIterator<Item = &'a str>, numbers: &[u64]) -> Strin
 }
 
 /// What came of inputs to the program; false where something differs.
-pub fn inputs(t: &Tally) -> bool {
+pub fn inputs(t: &Tally<Plain>) -> bool {
     let kinds: Vec<String> = t.kinds.iter().map(|(kind, n)| format!("{kind} {n}")).collect();
     println!("inputs {}: {}", t.traces, kinds.join(", "));
     listings(t);
@@ -62,7 +64,7 @@ pub fn inputs(t: &Tally) -> bool {
 
 /// What came of blocks; false where something differs, or where something that can be met was not. 2 and 9 are as in `answers`, 5 and 6 a
 /// trace's, 10 and 11 a header's, 14 to 19 no answers of a block; 1 wants a log that is too long, which is tried on whole traces.
-pub fn blocks(t: &blocks::Tally) -> bool {
+pub fn blocks<D: Mode>(t: &blocks::Tally<D>) -> bool {
     let numbers: Vec<String> = (0..t.ends.len()).map(|i| i.to_string()).collect();
     let names = || numbers.iter().map(String::as_str);
     println!("runs {}, blocks {}, records taken {}, 8s among them {}", t.runs, t.blocks, t.records, t.eights);
@@ -99,7 +101,7 @@ const OUTPUTS: [&str; 11] = [
     "too long",
 ];
 
-fn listings(t: &Tally) {
+fn listings<D: Mode>(t: &Tally<D>) {
     let listings: Vec<String> = t.listings.iter().map(|(first, n)| format!("{first}: {n}")).collect();
     println!("listings compared {}: {}", t.listings.values().sum::<u64>(), listings.join(", "));
     println!("listings that end with the line of details: {}", t.typed);
@@ -107,15 +109,17 @@ fn listings(t: &Tally) {
 
 /// Prints what was compared and, with the table, how often each case was met; false where something differs, or where something that can
 /// be met was not.
-pub fn traces(tally: &Tally, table: bool) -> bool {
+pub fn traces<D: Mode>(tally: &Tally<D>, table: bool) -> bool {
     what_was_compared(tally);
     let notes = all_met("note", NOTES, &tally.notes);
     let reasons = all_met("reason", REASONS, &tally.reasons);
     let writers = all_met("group row of", WRITERS, &tally.writers);
     let met = all_met("of details:", MET, &tally.met) & all_met("listing", ["with a line of details"], &[tally.typed]);
-    let good = [answers(tally), limits(tally), cases(table), pairs(tally), events(tally, table), notes, reasons, writers, met];
+    let good =
+        [answers(tally), limits(tally), cases::<D>(table), pairs(tally), events(tally, table), notes, reasons, writers, met];
+    let cells = !D::HIGH || cells(tally);
     println!("{} differences", tally.differences);
-    good == [true; 9] && tally.differences == 0
+    good == [true; 9] && cells && tally.differences == 0
 }
 
 /// How the lines of requests end.
@@ -128,7 +132,7 @@ pub const WRITERS: [&str; 4] = ["a packet", "an event", "an event before its pac
 const MET: [&str; 3] =
     ["set by a detail", "left by a detail, since a descriptor gave it", "given by a descriptor behind a detail"];
 
-fn what_was_compared(t: &Tally) {
+fn what_was_compared<D: Mode>(t: &Tally<D>) {
     let kinds: Vec<String> = t.kinds.iter().map(|(kind, n)| format!("{kind} {n}")).collect();
     println!("traces {}: {}", t.traces, kinds.join(", "));
     println!("damaged {}: {}", t.damages.iter().sum::<u64>(), named(DAMAGES.iter().map(|d| d.0), &t.damages));
@@ -151,7 +155,7 @@ fn all_met<'a>(what: &str, names: impl IntoIterator<Item = &'a str>, numbers: &[
 }
 
 /// Answers of calls and of the reader. 2 wants a call behind finish and 9 a total past 2^64 - 1: no trace comes to either.
-fn answers(t: &Tally) -> bool {
+fn answers<D: Mode>(t: &Tally<D>) -> bool {
     let numbers: Vec<String> = (0..14).map(|i| i.to_string()).collect();
     let names = || numbers.iter().map(String::as_str);
     println!("answers of calls: {}", named(names(), &t.seen.answers));
@@ -163,7 +167,7 @@ fn answers(t: &Tally) -> bool {
     all_met("answer", names(), &met) & all_met("listing", ["too long"], &[too_long])
 }
 
-fn limits(t: &Tally) -> bool {
+fn limits<D: Mode>(t: &Tally<D>) -> bool {
     println!("room just enough: {}; one row short and so refused with 7: {}", t.enough, named(LOGS, &t.short));
     println!("a 65th device refused: {}; a 129th endpoint: {}", t.full[0], t.full[1]);
     println!("logs that the program ran out of: {}", named(LOGS, &t.wanting));
@@ -172,10 +176,10 @@ fn limits(t: &Tally) -> bool {
 }
 
 /// In the table a line for each case: how often it was met, and the way of it that was met least.
-fn cases(table: bool) -> bool {
+fn cases<D: Mode>(table: bool) -> bool {
     let (mut ways, mut met, mut good) = (0, 0, true);
     let mut heading = ("", "");
-    for case in CASES {
+    for case in D::CASES {
         let counts: Vec<u64> = (0..case.ways.len()).map(|i| count(case.first + i)).collect();
         if table {
             headings(case, &mut heading);
@@ -187,7 +191,7 @@ fn cases(table: bool) -> bool {
             good &= way_holds(case, way, *n, table);
         }
     }
-    println!("decoder.rs: {} cases with {ways} ways: {met} met, {} that no call can take", CASES.len(), NEVER.len());
+    println!("decoder.rs: {} cases with {ways} ways: {met} met, {} that no call can take", D::CASES.len(), NEVER.len());
     good
 }
 
@@ -224,7 +228,7 @@ fn way_holds(case: &Case, way: &str, n: u64, table: bool) -> bool {
 }
 
 /// The transactions that packets found, and whether each kind of packet came to each.
-fn pairs(t: &Tally) -> bool {
+fn pairs<D: Mode>(t: &Tally<D>) -> bool {
     let met: usize = t.seen.pairs.values().map(|row| row.iter().filter(|n| **n > 0).count()).sum();
     let states = t.seen.pairs.len();
     let resumed = t.seen.pairs.keys().filter(|(resumed, _)| *resumed).count();
@@ -243,15 +247,45 @@ fn pairs(t: &Tally) -> bool {
     met == states * NEXT.len()
 }
 
+/// Types by number; 4 is unknown.
+const TYPES: [&str; 5] = ["control", "isochronous", "bulk", "interrupt", "unknown"];
+
 fn style_name(style: &Option<Style>) -> String {
     let Some(s) = style else { return "none".to_string() };
-    let kind = |k: u8| ["control", "isochronous", "bulk", "interrupt", "unknown"][k as usize];
+    let kind = |k: u8| TYPES[k as usize];
     match s.split {
         None => format!("{:02X} then {:02X}, {}", s.first, s.last, kind(s.kind)),
         Some((sc, k)) => {
             format!("split {} {}, token {:02X}, last {:02X}", ["start", "complete"][sc as usize], kind(k), s.first, s.last)
         }
     }
+}
+
+/// The cells of change request 6: DATA2 and MDATA behind an IN or OUT of each type, and MDATA behind the IN of a complete split of the two types that
+/// take it. Each with how often it was met, and the status without the mode and in it; false where one was not met.
+fn cells<D: Mode>(t: &Tally<D>) -> bool {
+    let (first, last) = ([PID::IN, PID::OUT], [(PID::DATA2, "DATA2"), (PID::MDATA, "MDATA")]);
+    let plain = first.iter().flat_map(|first| last.map(|next| (*first, next))).flat_map(|(first, next)| {
+        (0..5).map(move |kind| (Style { split: None, first: first as u8, last: first as u8, kind }, next))
+    });
+    let (token, next) = (PID::IN as u8, last[1]);
+    let splits = [1, 3].map(|kind| (Style { split: Some((1, kind)), first: token, last: token, kind: 4 }, next));
+    println!("cells of the mode, with the status without it and in it:");
+    let mut good = true;
+    for (style, (pid, name)) in plain.chain(splits) {
+        let place = NEXT.iter().position(|next| *next == name).expect("a packet of the list");
+        // What the endpoint of a split is known as does not matter.
+        let same = |found: &Style| Style { kind: if style.split.is_some() { 4 } else { found.kind }, ..*found } == style;
+        let found = t.seen.pairs.iter().filter(|((_, found), _)| found.as_ref().is_some_and(same));
+        let met: u64 = found.map(|(_, row)| row[place]).sum();
+        let [off, on] = [false, true].map(|high| status_behind(high, Some(style), &data(pid, &[0; 3])).1);
+        let kind = TYPES[style.split.map_or(style.kind, |(_, kind)| kind) as usize];
+        let split = if style.split.is_some() { "complete split, " } else { "" };
+        let cell = format!("{split}{kind}, {} then {name}", if style.first == PID::IN as u8 { "IN" } else { "OUT" });
+        println!("{met:>12}  {cell}: {off}, {on}{}", if split.is_empty() { "" } else { " with its payload" });
+        good &= all_met("cell", [cell.as_str()], &[met]);
+    }
+    good
 }
 
 const EVENT_STATES: [&str; 8] = [
@@ -266,7 +300,7 @@ const EVENT_STATES: [&str; 8] = [
 ];
 
 /// Each event state with each kind of event.
-fn events(t: &Tally, table: bool) -> bool {
+fn events<D: Mode>(t: &Tally<D>, table: bool) -> bool {
     let met = t.seen.events.iter().flatten().filter(|n| **n > 0).count();
     println!("event states with the event: {met} of {} pairs", 8 * 8);
     for (name, row) in EVENT_STATES.iter().zip(&t.seen.events).filter(|_| table) {

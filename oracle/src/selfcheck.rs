@@ -11,8 +11,9 @@ use crate::calls::{
 };
 use crate::capture::{Detail, DeviceData, Met, Request};
 use crate::descriptors::{Entry, Kind, kind};
-use crate::generate::{EXTRA, KINDS, Random, generate};
+use crate::generate::{Random, generate, kinds};
 use crate::listing::{last_line, listing, rows};
+use crate::mode::{High, Mode};
 use crate::once;
 use crate::storage::Mark;
 use crate::trace::{Clock, HEADER, Reader, Record, call, count_details, run};
@@ -22,12 +23,12 @@ include!(concat!(env!("OUT_DIR"), "/mutants.rs"));
 
 /// Runs so many calls, trace after trace: how many were run, or the first fault.
 pub fn check<M: Mechanism>(seed: u64, calls: u64) -> Result<u64, String> {
-    check_by(seed, calls, check_trace::<M>)
+    check_by(seed, calls, M::HIGH, check_trace::<M>)
 }
 
 /// The same with a check of one trace, which tells how many calls it ran.
-fn check_by(seed: u64, calls: u64, one: impl Fn(&[u8], Rows) -> Result<u64, String>) -> Result<u64, String> {
-    let kinds = [&KINDS[..], &EXTRA].concat();
+fn check_by(seed: u64, calls: u64, high: bool, one: impl Fn(&[u8], Rows) -> Result<u64, String>) -> Result<u64, String> {
+    let kinds = kinds(high);
     let mut random = Random::new(seed);
     let mut done = 0;
     while done < calls {
@@ -439,21 +440,35 @@ impl Track {
     }
 }
 
-/// The command: the true decoder must show no fault, each faulty one must be found.
-pub fn report(calls: u64) -> bool {
-    let seed = 1;
-    let mut good = true;
-    match check::<crate::decoder::machine::Machine>(seed, calls) {
+fn no_fault<M: Mechanism>(seed: u64, calls: u64) -> bool {
+    match check::<M>(seed, calls) {
         Ok(done) => println!("{done} calls: no fault"),
         Err(fault) => {
             println!("fault: {fault}");
-            good = false;
+            return false;
         }
     }
+    true
+}
+
+/// The same in the mode of change request 6. Its slips are of what is counted: the ledger must find each.
+pub fn report_high(calls: u64) -> bool {
+    let seed = 1;
+    let good = no_fault::<<High as Mode>::Machine>(seed, calls);
+    std::panic::set_hook(Box::new(|_| {}));
+    let counted = once::report_high(seed, calls);
+    let _ = std::panic::take_hook();
+    good && counted
+}
+
+/// The command: the true decoder must show no fault, each faulty one must be found.
+pub fn report(calls: u64) -> bool {
+    let seed = 1;
+    let mut good = no_fault::<crate::decoder::machine::Machine>(seed, calls);
     // A faulty decoder may fail the Rust's own assert; that is found too, and its message is not wanted.
     std::panic::set_hook(Box::new(|_| {}));
-    let lines =
-        LAST_LINES.map(|(name, last)| (name, check_by(seed, calls.min(1000), |trace, room| check_last_line(last, trace, room))));
+    let lines = LAST_LINES
+        .map(|(name, last)| (name, check_by(seed, calls.min(1000), false, |trace, room| check_last_line(last, trace, room))));
     for (name, found) in each(seed, calls).into_iter().chain(lines) {
         match found {
             Err(fault) => println!("mutant {name}: found: {fault}"),

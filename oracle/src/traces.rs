@@ -4,11 +4,13 @@
 use std::fs;
 use std::path::Path;
 
-use crate::calls::{Calls, Rows};
+use crate::calls::{Calls, Mechanism, Rows};
+use crate::cameras;
 use crate::decoder::machine::Machine;
 use crate::enumerations;
 use crate::generate::{KINDS, generate};
 use crate::listing::{BUFFER, listing};
+use crate::mode::{High, Mode};
 use crate::packets::{data, handshake, sof, split, token};
 use crate::trace::{Clock, Reader, Writer, call};
 use crate::typed;
@@ -209,8 +211,9 @@ pub fn packet(words: &[&str]) -> Vec<u8> {
             let kind = kinds.iter().position(|k| *k == words[2]).expect("a type") as u8;
             split(1, (words[1] == "complete") as u8, 1, kind)
         }
-        "DATA0" | "DATA1" => {
-            let pid = if words[0] == "DATA0" { PID::DATA0 } else { PID::DATA1 };
+        name @ ("DATA0" | "DATA1" | "DATA2" | "MDATA") => {
+            let pids = [("DATA0", PID::DATA0), ("DATA1", PID::DATA1), ("DATA2", PID::DATA2), ("MDATA", PID::MDATA)];
+            let pid = pids.iter().find(|(word, _)| *word == name).expect("a data packet").1;
             match words[1].split_at(1) {
                 ("*", n) => data(pid, &(0..n.parse::<u16>().expect("a number")).map(|i| i as u8).collect::<Vec<u8>>()),
                 (_, first) => data(pid, &hex(&[&[first], &words[2..]].concat())),
@@ -229,7 +232,11 @@ pub fn packet(words: &[&str]) -> Vec<u8> {
 
 /// What the program must print for a trace.
 pub fn expected(trace: &[u8]) -> String {
-    listing::<Machine>(trace, BUFFER, Rows::PROGRAM, 0)
+    expected_by::<Machine>(trace)
+}
+
+fn expected_by<M: Mechanism>(trace: &[u8]) -> String {
+    listing::<M>(trace, BUFFER, Rows::PROGRAM, 0)
 }
 
 /// The files of the folder by name: NAME.utl and NAME.listing for every trace.
@@ -241,17 +248,35 @@ fn files() -> Vec<(String, Vec<u8>)> {
     all().into_iter().flat_map(both).collect()
 }
 
+/// The folder in it for the mode of change request 6: NAME.utl, NAME.listing in the mode, and NAME.plain without it.
+const HIGH: &str = "high";
+
+fn high_files() -> Vec<(String, Vec<u8>)> {
+    let each = |(name, trace): (String, Vec<u8>)| {
+        let (high, plain) = (expected_by::<<High as Mode>::Machine>(&trace), expected(&trace));
+        let listings = [("listing", high), ("plain", plain)].map(|(end, text)| (format!("{name}.{end}"), text.into_bytes()));
+        listings.into_iter().chain([(format!("{name}.utl"), trace)])
+    };
+    cameras::all().into_iter().flat_map(each).collect()
+}
+
+fn in_folder(folder: &str) -> String {
+    Path::new(folder).join(HIGH).display().to_string()
+}
+
 pub fn write(folder: &str) -> Result<(), String> {
-    let files = files();
+    let (files, high) = (files(), high_files());
     write_files(folder, &files)?;
-    println!("{} traces written", files.len() / 2);
+    write_files(&in_folder(folder), &high)?;
+    println!("{} traces written, {} in {HIGH}/", files.len() / 2, high.len() / 3);
     Ok(())
 }
 
 pub fn check(folder: &str) -> Result<(), String> {
-    let files = files();
+    let (files, high) = (files(), high_files());
     check_files(folder, &files)?;
-    println!("{} traces: as the oracle gives them", files.len() / 2);
+    check_files(&in_folder(folder), &high)?;
+    println!("{} traces, {} in {HIGH}/: as the oracle gives them", files.len() / 2, high.len() / 3);
     Ok(())
 }
 

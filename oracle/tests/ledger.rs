@@ -4,6 +4,7 @@ use oracle::calls::{BYTES, Calls, Rows};
 use oracle::ledger::Fate::{self, Counted, Passed};
 use oracle::ledger::Why::*;
 use oracle::ledger::{Call, Ledger, Note, Told, account, text};
+use oracle::mode::Plain;
 use oracle::once::{check, slips};
 use oracle::trace::{Clock, Reader};
 use oracle::traced::machine::Machine;
@@ -114,10 +115,10 @@ fn accounts() {
     let sequence =
         "OUT 0 1; DATA0 *8; ACK; OUT 0 2; DATA0 *4; ACK; OUT 0 1; DATA1 *8; NAK; OUT 0 1; DATA1 *6; ACK; OUT 0 1; DATA0 *1; ACK";
     let expected = "counted 3 1 8 0\ncounted 4 4 4 0\ncounted 3 10 6 8\ncounted 3 13 1 14\n";
-    assert_eq!(text(&written(sequence), Rows::LARGEST), expected);
+    assert_eq!(text::<Machine>(&written(sequence), Rows::LARGEST), expected);
     // Behind the mark and the version 10, 18 and 8 bytes.
-    assert_eq!(text(&written("OUT 0 1; DATA0 *8; ACK; event 8"), Rows::LARGEST), "refused 4 at 41\n");
-    assert_eq!(text(b"UTL", Rows::LARGEST), "refused 11 at 3\n");
+    assert_eq!(text::<Machine>(&written("OUT 0 1; DATA0 *8; ACK; event 8"), Rows::LARGEST), "refused 4 at 41\n");
+    assert_eq!(text::<Machine>(b"UTL", Rows::LARGEST), "refused 11 at 3\n");
 }
 
 /// What the slips count: a payload that was refused; one that waited, twice.
@@ -135,7 +136,7 @@ fn slips_count_wrong() {
 /// On random calls from another seed than `oracle selfcheck` has.
 #[test]
 fn random_calls() {
-    assert_eq!(check::<Machine>(8, 100_000, true).err(), None);
-    assert!(check::<slips::payload_seen::machine::Machine>(8, 100_000, false).is_err());
-    assert!(check::<slips::wait_kept::machine::Machine>(8, 100_000, false).is_err());
+    assert_eq!(check::<Plain, Machine>(8, 100_000, true).err(), None);
+    assert!(check::<Plain, slips::payload_seen::machine::Machine>(8, 100_000, false).is_err());
+    assert!(check::<Plain, slips::wait_kept::machine::Machine>(8, 100_000, false).is_err());
 }

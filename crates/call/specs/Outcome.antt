@@ -65,11 +65,11 @@ isOver w = anyOver (w .count) w
 abbrev pub Appends : World → Counts → Logs → Logs → Type 0
 Appends w n l l′ = (k : ℕ) → k < 12 → logAt k l′ ≡ sets (logAt k l) (place k (countAt k n)) (log k (w .journal))
 
--- the record is the world's; `finished` is for finish to set
-unfoldable pub decoderOf : Counts → Bool → World → Decoder
-decoderOf n finished w =
+-- the record is the world's, and the mode that of the record d before (02, 6); `finished` is for finish to set
+unfoldable pub decoderOf : Decoder → Bool → World → Decoder
+decoderOf d finished w =
     record {
-      counts = countsAfter n w;
+      counts = countsAfter (d .counts) w;
       slot = w .slot;
       transaction = w .transaction;
       last = w .lastItem;
@@ -77,6 +77,7 @@ decoderOf n finished w =
       keepalive = w .keepalive;
       waiting = waitingOf w;
       finished = finished;
+      high = d .high;
       time = w .context .time;
     }
 
@@ -95,7 +96,7 @@ pub record TableOf (w : World) (t t′ : List ℕ) : Type 0 where
   pub firsts : (k : ℕ) → firstAt k t′ ≡ firstAt k t
 
 pub record Left (w : World) (finished : Bool) (s s′ : State) : Type 0 where
-  pub decoder : s′ .decoder ≡ decoderOf (s .decoder .counts) finished w
+  pub decoder : s′ .decoder ≡ decoderOf (s .decoder) finished w
   pub devices : DevicesOf w (s .devices) (s′ .devices)
   pub table : TableOf w (s .table) (s′ .table)
   pub logs : Appends w (heldAt s) (s .logs) (s′ .logs)

@@ -50,9 +50,9 @@ taken-words true m last success complete = close-words m last success complete
 taken-words false m last success complete = refl
 
 -- e is the old endpoint's entry, resumed; the entries of the world are in words
-module _ (j : Judged) (x0 : ℕ) (e : Endpoint) (t : Transaction) (packet : List ℕ) (w : World) (special : 3 ≤ w .count) (entries : (i : ℕ) → i < w .count → inWords (w .endpoints i) ≡ w .endpoints i) (there : x0 < w .count) where
+module _ (high : Bool) (j : Judged) (x0 : ℕ) (e : Endpoint) (t : Transaction) (packet : List ℕ) (w : World) (special : 3 ≤ w .count) (entries : (i : ℕ) → i < w .count → inWords (w .endpoints i) ≡ w .endpoints i) (there : x0 < w .count) where
   abbrev brought : Transaction
-  brought = extractPayload t (j .pid) (length packet) (setupDataOf packet)
+  brought = extractPayload high t (j .pid) (length packet) (setupDataOf packet)
 
   abbrev old : End
   old = endOf x0 e brought (detailOf x0 w) (w .lastItem) false false
@@ -73,7 +73,7 @@ module _ (j : Judged) (x0 : ℕ) (e : Endpoint) (t : Transaction) (packet : List
       {suspended : Bool} {resume : Begin} {over success complete : Bool} {close : End} {slot : Slot}
       → eh ≡ inWords e
       → setup ≡ setupDataOf packet
-      → b ≡ extractPayload t (j .pid) (length packet) setup
+      → b ≡ extractPayload high t (j .pid) (length packet) setup
       → new ≡ isNew (j .status)
       → end ≡ endIf (new && not (eqb x0 0)) (endOf x0 eh b (detailOf x0 w) (w .lastItem) false false) eh
       → token ≡ startPid (b .style)
@@ -90,13 +90,13 @@ module _ (j : Judged) (x0 : ℕ) (e : Endpoint) (t : Transaction) (packet : List
       → slot ≡ slotAfter (j .status) (w .slot)
       → _≡_ {A = Plan}
       (record { resumes = suspended; resume = resume; ends = new && not (eqb x0 0); old = x0; brought = b; end = end; begin = m .begin; closes = over && not (eqb (m .begin .transaction .endpoint) 0); close = close; slot = slot; reason = j .reason })
-      (planWords (planBy j x0 e t packet w))
+      (planWords (planBy high j x0 e t packet w))
   unfolding planBy planWords
   planned {eh} {setup} {b} {end} {new} {token} {e0} {last} {n} {m} {suspended} {resume} {over} {success} {complete} {close} {slot} p0 p1 p2 p3 p4 p5 p6 p7 p8 p9 p10 p11 p12 p13 p14 p15 p16 =
       λ i. record { resumes = p10 i; resume = p11 i; ends = new-is i; old = x0; brought = brought-is i; end = end-is i; begin = middle-is i .begin; closes = closes-is i; close = close-is i; slot = p16 i; reason = j .reason }
     where
       brought-is : b ≡ brought
-      brought-is = p2 ∙ ap (extractPayload t (j .pid) (length packet)) p1
+      brought-is = p2 ∙ ap (extractPayload high t (j .pid) (length packet)) p1
 
       new-is : (new && not (eqb x0 0)) ≡ ends
       new-is = ap (λ (c : Bool). c && not (eqb x0 0)) p3

@@ -94,14 +94,14 @@ fn plan_by(
     requires { ⌜ x0 < d .counts .endpoints ⌝ }
     requires { ⌜ stored .transactions < 2 ^ 64 ⌝ }
     requires { ⌜ stored .groups < 2 ^ 64 ⌝ }
-    ensures { λ r. ⌜ ForSeen near x0 (now (packet .entry)) d (now (table .entry)) (λ w. r ≡ planWords (planBy j x0 (entryThen (d .slot) stored) t (now (packet .entry)) w)) ⌝ }
+    ensures { λ r. ⌜ ForSeen near x0 (now (packet .entry)) d (now (table .entry)) (λ w. r ≡ planWords (planBy (d .high) j x0 (entryThen (d .slot) stored) t (now (packet .entry)) w)) ⌝ }
 {
     let status = j.status;
     let pid = j.pid;
     let slot = d.slot;
     let style = t.style;
     let e = link_entry(is_suspended(slot), stored);
-    let brought = extract_payload(t, pid, packet.len(), setup_of(packet));
+    let brought = extract_payload(d.high, t, pid, packet.len(), setup_of(packet));
     let token = brought.style;
     let old = near.old;
     let ends = is_new(status) & (x0 != 0);
@@ -137,7 +137,7 @@ fn plan_by(
 // The steps of a packet, by what was taken of the devices for it.
 pub fn plan_near(d: Decoder, near: Near, table: &Table, packet: &[u8]) -> Plan
     requires { ⌜ Ready d (now table) ⌝ }
-    ensures { λ r. ⌜ ForSeen near (oldEndpoint (d .slot) (d .transaction)) (now (packet .entry)) d (now (table .entry)) (λ w. r ≡ planWords (planOf (now (packet .entry)) w)) ⌝ }
+    ensures { λ r. ⌜ ForSeen near (oldEndpoint (d .slot) (d .transaction)) (now (packet .entry)) d (now (table .entry)) (λ w. r ≡ planWords (planOf (d .high) (now (packet .entry)) w)) ⌝ }
 {
     let counts = d.counts;
     let slot = d.slot;
@@ -145,7 +145,7 @@ pub fn plan_near(d: Decoder, near: Near, table: &Table, packet: &[u8]) -> Plan
     let x0 = old_endpoint(slot, held);
     let stored = load(table, x0);
     let t = transaction_then(slot, counts.transactions as u64, stored, held);
-    let j = transaction_status(state_at(slot_then(slot), t), packet);
+    let j = transaction_status(d.high, state_at(slot_then(slot), t), packet);
     plan_by(j, x0, stored, t, packet, d, near, table)
 }
 

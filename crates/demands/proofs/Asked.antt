@@ -243,13 +243,13 @@ module _ (w : World) (h g : List ℕ) (same : (x : ℕ) → Agree (w .endpoints 
   if-good true c e k = k
   if-good false c e k = λ q. never q
 
-  module _ (x0 : ℕ) (e : Endpoint) (k : Good e) (t : Transaction) (packet : List ℕ) where
-    by-good : (j : Judged) → AsksGood (planBy j x0 e t packet w .close)
+  module _ (high : Bool) (x0 : ℕ) (e : Endpoint) (k : Good e) (t : Transaction) (packet : List ℕ) where
+    by-good : (j : Judged) → AsksGood (planBy high j x0 e t packet w .close)
     unfolding planBy
     by-good j = at (j .status)
       where
         b : Transaction
-        b = extractPayload t (j .pid) (length packet) (setupDataOf packet)
+        b = extractPayload high t (j .pid) (length packet) (setupDataOf packet)
 
         end : End
         end = endOf x0 e b (detailOf x0 w) (w .lastItem) false false
@@ -287,13 +287,13 @@ module _ (w : World) (h g : List ℕ) (same : (x : ℕ) → Agree (w .endpoints 
   then-good Suspended e k = k
 
   -- the payload of a request that a packet completes
-  pub plan-good : (packet : List ℕ) → AsksGood (planOf packet w .close)
+  pub plan-good : (high : Bool) (packet : List ℕ) → AsksGood (planOf high packet w .close)
   unfolding planOf
-  plan-good packet =
+  plan-good high packet =
       let x0 = oldEndpoint (w .slot) (w .transaction) in
       let e = w .endpoints x0 in
       let t = transactionThen (w .slot) (w .transactions) e (w .transaction) in
-      by-good x0 (entryThen (w .slot) e) (then-good (w .slot) e (same x0)) t packet (transactionStatus (stateAt (slotThen (w .slot)) t) packet)
+      by-good high x0 (entryThen (w .slot) e) (then-good (w .slot) e (same x0)) t packet (transactionStatus high (stateAt (slotThen (w .slot)) t) packet)
 
 -- ---- entries: the step that begins makes a new row, which keeps none, or stores a type
 
@@ -306,16 +306,16 @@ unfolding fresh
 row-few true owner types number kind d = let q = type-count types number kind (fresh owner) in omega (arith, q)
 row-few false owner types number kind d = let q = type-count types number kind d in omega (arith, q)
 
-pub begun-few : (packet : List ℕ) (time : ℕ) (w : World) (j : ℕ) → deviceBegun packet time w j .kept ≤ w .devices j .kept
-begun-few packet time w j = by (changes (planOf packet w .begin)) (eqb j (planOf packet w .begin .place)) refl
+pub begun-few : (high : Bool) (packet : List ℕ) (time : ℕ) (w : World) (j : ℕ) → deviceBegun high packet time w j .kept ≤ w .devices j .kept
+begun-few high packet time w j = by (changes (planOf high packet w .begin)) (eqb j (planOf high packet w .begin .place)) refl
   where
-    by : (b c : Bool) → eqb j (planOf packet w .begin .place) ≡ c
-        → pick (b && c) (rowThen (planOf packet w .begin .device) (planOf packet w .begin .owner) (planOf packet w .begin .types) (planOf packet w .begin .number) (planOf packet w .begin .kind) (w .devices (planOf packet w .begin .place))) (w .devices j) .kept
+    by : (b c : Bool) → eqb j (planOf high packet w .begin .place) ≡ c
+        → pick (b && c) (rowThen (planOf high packet w .begin .device) (planOf high packet w .begin .owner) (planOf high packet w .begin .types) (planOf high packet w .begin .number) (planOf high packet w .begin .kind) (w .devices (planOf high packet w .begin .place))) (w .devices j) .kept
         ≤ w .devices j .kept
     by false c q = le-refl _
     by true false q = le-refl _
     by true true q =
-        let s = planOf packet w .begin in
+        let s = planOf high packet w .begin in
         let e : w .devices (s .place) .kept ≡ w .devices j .kept = ap (λ (i : ℕ). w .devices i .kept) (sym (eqb-true j (s .place) q)) in
         let r = row-few (s .device) (s .owner) (s .types) (s .number) (s .kind) (w .devices (s .place)) in
         omega (arith, e, r)

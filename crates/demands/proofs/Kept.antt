@@ -61,7 +61,7 @@ three : fresh .count ≡ 3
 unfolding details.fresh
 three = refl
 
-module _ {v : List Device} {t : List ℕ} {l : Logs} {s : State} (hv : length v ≡ 64) (ht : length t ≡ word.table) (m : Makes v t l 0 s) where
+module _ {high : Bool} {v : List Device} {t : List ℕ} {l : Logs} {s : State} (hv : length v ≡ 64) (ht : length t ≡ word.table) (m : Makes high v t l 0 s) where
   blank-made : Blank (s .decoder .counts .endpoints) (s .table)
   unfolding madeState
   blank-made = rw (m .accepted refl) (fresh-beyond t)
@@ -83,13 +83,13 @@ module _ {v : List Device} {t : List ℕ} {l : Logs} {s : State} (hv : length v 
       }
 
   pub kept-made : Kept (fresh .journal) s
-  kept-made = record { rules = sound-like like-fresh (always begin); told = told-made m; blank = blank-made; firsts = firsts-made }
+  kept-made = record { rules = sound-like like-fresh (always {high = high} begin); told = told-made m; blank = blank-made; firsts = firsts-made }
 
 -- ---- an accepted call keeps it
 
 module _ {k : Call} {s s′ : State} (m : Moved k s s′) {js : List Row} (h : Kept js s) where
   abbrev pub after : World
-  after = call k (worldAt s)
+  after = call (s .decoder .high) k (worldAt s)
 
   count-left : s′ .decoder .counts .endpoints ≡ after .count
   unfolding countsAfter
@@ -97,7 +97,7 @@ module _ {k : Call} {s s′ : State} (m : Moved k s s′) {js : List Row} (h : K
 
   -- endpoints are added, and none is taken away
   more : s .decoder .counts .endpoints ≤ after .count
-  more = let c : Counted (worldAt s) after = counts (worldAt s) k (worldAt s) (began s) in let e = c .endpoints-are in omega arith
+  more = let c : Counted (worldAt s) after = counts (worldAt s) (s .decoder .high) k (worldAt s) (began s) in let e = c .endpoints-are in omega arith
 
   blank-then : Blank (s′ .decoder .counts .endpoints) (s′ .table)
   blank-then i l =
@@ -117,7 +117,7 @@ module _ {k : Call} {s s′ : State} (m : Moved k s s′) {js : List Row} (h : K
       }
 
   pub kept-then : Kept (after .journal ++ js) s′
-  kept-then = record { rules = sound-like like-after (sound js (worldAt s) k (h .rules)); told = told-then m js (h .firsts) (h .told); blank = blank-then; firsts = λ k. m .left .table .firsts k ∙ h .firsts k }
+  kept-then = record { rules = sound-like like-after (sound (s .decoder .high) js (worldAt s) k (h .rules)); told = told-then m js (h .firsts) (h .told); blank = blank-then; firsts = λ k. m .left .table .firsts k ∙ h .firsts k }
 
 -- ---- so every sequence does
 
@@ -125,6 +125,6 @@ pub kept : {js : List Row} {s : State} → Sequence js s → Kept js s
 kept (made hv ht m) = kept-made hv ht m
 kept (then {js} {s} k a s′ q d) = by (accepts a) refl (kept q)
   where
-    by : (b : Bool) → accepts a ≡ b → Kept js s → Kept (pick b (call k (worldAt s) .journal) [] ++ js) s′
+    by : (b : Bool) → accepts a ≡ b → Kept js s → Kept (pick b (call (s .decoder .high) k (worldAt s) .journal) [] ++ js) s′
     by true e h = kept-then (moved k s a s′ d e) h
     by false e h = rw (stayed k s a s′ d e) h

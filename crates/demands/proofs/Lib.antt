@@ -9,3 +9,4 @@ pub mod Unread
 pub mod Asked
 pub mod Shelves
 pub mod Reasons
+pub mod Mode

@@ -50,7 +50,7 @@ next (detail address number direction kind max) s a s′ d = kept .detail addres
 next finishing s a s′ d = kept .finish s a s′ d
 
 always-sound : {js : List Row} {s : State} → Sequence js s → isSound s ≡ true
-always-sound (made {v} {t} {l} {s} hv ht m) = kept .fresh v t l s m ht (omega arith)
+always-sound (made {high} {v} {t} {l} {s} hv ht m) = kept .fresh high v t l s m ht (omega arith)
 always-sound (then {js} {s} k a s′ q d) = next k s a s′ d (always-sound q)
 
 pub never-ill : {js : List Row} {s : State} → Sequence js s → isIll s ≡ false

@@ -149,42 +149,49 @@ rows-alike p q time w e = λ i. withBytesOf (e i)
 
 -- ---- the steps of a malformed packet are those of any other
 
-abbrev stepsOf : ℕ → World → Plan
-stepsOf reason w =
+abbrev stepsOf : Bool → ℕ → World → Plan
+stepsOf high reason w =
     let x0 = oldEndpoint (w .slot) (w .transaction) in
     let e = w .endpoints x0 in
-    planBy (malformed reason) x0 (entryThen (w .slot) e) (transactionThen (w .slot) (w .transactions) e (w .transaction)) [] w
+    planBy high (malformed reason) x0 (entryThen (w .slot) e) (transactionThen (w .slot) (w .transactions) e (w .transaction)) [] w
 
-malformed-judged : (t : Transaction) (p : List ℕ) → (reasonOf p ≡ 0 → ⊥) → transactionStatus t p ≡ malformed (reasonOf p)
+malformed-judged : (high : Bool) (t : Transaction) (p : List ℕ) → (reasonOf p ≡ 0 → ⊥) → transactionStatus high t p ≡ malformed (reasonOf p)
 unfolding transactionStatus
-malformed-judged t p h = by (checkedOf p) refl
+malformed-judged high t p h = by (checkedOf p) refl
   where
-    by : (c : Checked) → checkedOf p ≡ c → judgedOf t c (length p) ≡ malformed (reasonOf p)
+    by : (c : Checked) → checkedOf p ≡ c → judgedOf high t c (length p) ≡ malformed (reasonOf p)
     by (Valid pid) e = absurd (h (reason-none p pid e))
     by (Malformed reason) e = ap malformed (sym (ap whyOf e) ∙ why-is p)
 
-plan-malformed : (p : List ℕ) (w : World) → (reasonOf p ≡ 0 → ⊥) → planOf p w ≡ stepsOf (reasonOf p) w
-unfolding planOf planBy starting extractPayload
-plan-malformed p w h =
+-- none of its bytes is looked at
+bytes-unread : (high : Bool) (reason x0 : ℕ) (e : Endpoint) (t : Transaction) (p : List ℕ) (w : World) → planBy high (malformed reason) x0 e t p w ≡ planBy high (malformed reason) x0 e t [] w
+unfolding planBy starting extractPayload
+bytes-unread true reason x0 e t p w = refl
+bytes-unread false reason x0 e t p w = refl
+
+plan-malformed : (high : Bool) (p : List ℕ) (w : World) → (reasonOf p ≡ 0 → ⊥) → planOf high p w ≡ stepsOf high (reasonOf p) w
+unfolding planOf
+plan-malformed high p w h =
     let x0 = oldEndpoint (w .slot) (w .transaction) in
     let e = w .endpoints x0 in
     let t = transactionThen (w .slot) (w .transactions) e (w .transaction) in
-    ap (λ (j : Judged). planBy j x0 (entryThen (w .slot) e) t p w) (malformed-judged (stateAt (slotThen (w .slot)) t) p h)
+    ap (λ (j : Judged). planBy high j x0 (entryThen (w .slot) e) t p w) (malformed-judged high (stateAt (slotThen (w .slot)) t) p h)
+    ∙ bytes-unread high (reasonOf p) x0 (entryThen (w .slot) e) t p w
 
 -- it lays nothing by, and `played` does not read its reason
-malformed-is : (p : List ℕ) (time : ℕ) (w : World) → (reasonOf p ≡ 0 → ⊥) → isDropped (w .slot) (w .transaction) ≡ false → handleRawPacket p time w ≡ steps (stepsOf 0 w) (w .packets) (withPacket p time w)
+malformed-is : (high : Bool) (p : List ℕ) (time : ℕ) (w : World) → (reasonOf p ≡ 0 → ⊥) → isDropped (w .slot) (w .transaction) ≡ false → handleRawPacket high p time w ≡ steps (stepsOf high 0 w) (w .packets) (withPacket p time w)
 unfolding played planBy starting
-malformed-is p time w h live =
-    packet-is p time w live
-    ∙ ap (λ (a : Plan). played a p time (kept a p w)) (plan-malformed p w h)
+malformed-is high p time w h live =
+    packet-is high p time w live
+    ∙ ap (λ (a : Plan). played a p time (kept high a p w)) (plan-malformed high p w h)
 
 pub same-grouping : SameGrouping
-same-grouping p q time w h g e = by (isDropped (w .slot) (w .transaction)) refl
+same-grouping high p q time w h g e = by (isDropped (w .slot) (w .transaction)) refl
   where
-    by : (b : Bool) → isDropped (w .slot) (w .transaction) ≡ b → plainly (handleRawPacket p time w) ≡ plainly (handleRawPacket q time w)
-    by true d = ap plainly (dropped-is p time w d) ∙ (ap (withSlot Empty) (rows-alike p q time w e) ∙ ap plainly (sym (dropped-is q time w d)))
+    by : (b : Bool) → isDropped (w .slot) (w .transaction) ≡ b → plainly (handleRawPacket high p time w) ≡ plainly (handleRawPacket high q time w)
+    by true d = ap plainly (dropped-is high p time w d) ∙ (ap (withSlot Empty) (rows-alike p q time w e) ∙ ap plainly (sym (dropped-is high q time w d)))
     by false d =
-        let s = steps (stepsOf 0 w) (w .packets) in
-        let past = steps-plain (stepsOf 0 w) (w .packets) in
-        ap plainly (malformed-is p time w h d)
-        ∙ (sym (past (withPacket p time w)) ∙ (ap s (rows-alike p q time w e) ∙ (past (withPacket q time w) ∙ ap plainly (sym (malformed-is q time w g d)))))
+        let s = steps (stepsOf high 0 w) (w .packets) in
+        let past = steps-plain (stepsOf high 0 w) (w .packets) in
+        ap plainly (malformed-is high p time w h d)
+        ∙ (sym (past (withPacket p time w)) ∙ (ap s (rows-alike p q time w e) ∙ (past (withPacket q time w) ∙ ap plainly (sym (malformed-is high q time w g d)))))

@@ -38,9 +38,9 @@ use Rattle.demands.proofs.Unread.{Twin, begun-shelf, quiet-shelf, ended
 
 -- ---- the steps of a packet
 
-module _ (packet : List ℕ) (time : ℕ) (v : World) (g : List ℕ) where
+module _ (high : Bool) (packet : List ℕ) (time : ℕ) (v : World) (g : List ℕ) where
   abbrev plan : Plan
-  plan = planOf packet v
+  plan = planOf high packet v
 
   -- up to the end of the packet's own transaction
   before-close : world4 plan packet time (withShelf g v) ≡ withShelf g (world4 plan packet time v)
@@ -48,7 +48,7 @@ module _ (packet : List ℕ) (time : ℕ) (v : World) (g : List ℕ) where
       let resume = begun (v .packets) (plan .resume) in
       let end : World → World = λ u. ended (plan .old) (plan .end) (withTransaction (plan .brought) u) in
       let a = when-past (withShelf g) (plan .resumes) resume (begun-shelf g (v .packets) (plan .resume)) (world1 packet time v) in
-      let b = when-past (withShelf g) (plan .ends) end (λ u. quiet-shelf g (plan .old) (plan .end) (plan-quiet v packet) (withTransaction (plan .brought) u)) (world2 plan packet time v) in
+      let b = when-past (withShelf g) (plan .ends) end (λ u. quiet-shelf g (plan .old) (plan .end) (plan-quiet v high packet) (withTransaction (plan .brought) u)) (world2 plan packet time v) in
       ap (λ (u : World). begun (v .packets) (plan .begin) (when (plan .ends) end u)) a
       ∙ ap (begun (v .packets) (plan .begin)) b
       ∙ begun-shelf g (v .packets) (plan .begin) (world3 plan packet time v)
@@ -61,15 +61,15 @@ module _ (packet : List ℕ) (time : ℕ) (v : World) (g : List ℕ) where
     asked n q =
         let d = plan .close .entry .device in
         let l : lengthOf (plan .close .effect) ≡ n = ap lengthOf q in
-        let few = begun-few packet time v d in
-        let a = askedAt (plan .close .entry .setup) n d (deviceBegun packet time v d) in
+        let few = begun-few high packet time v d in
+        let a = askedAt (plan .close .entry .setup) n d (deviceBegun high packet time v d) in
         let known : Asks a (v .shelf) g =
         record {
           payload = λ r. subst (λ (m : ℕ). Agree (d * 8192) (min m 4096) (v .shelf) g) l (payload (ap asks q));
-          entries = fewer (d * 8192 + 4096) (min (deviceBegun packet time v d .kept) 585 * 7) (min (v .devices d .kept) 585 * 7) (v .shelf) g (omega arith) (entries d);
+          entries = fewer (d * 8192 + 4096) (min (deviceBegun high packet time v d .kept) 585 * 7) (min (v .devices d .kept) 585 * 7) (v .shelf) g (omega arith) (entries d);
         } in
-        subst (λ (b : Asked). Asks b (world4 plan packet time v .shelf) g) (sym (closing-asked packet time v n))
-        (subst (λ (h : List ℕ). Asks a h g) (sym (shelf-begun packet time v)) known)
+        subst (λ (b : Asked). Asks b (world4 plan packet time v .shelf) g) (sym (closing-asked high packet time v n))
+        (subst (λ (h : List ℕ). Asks a h g) (sym (shelf-begun high packet time v)) known)
 
     pub played-twin : Twin (played plan packet time v) (played plan packet time (withShelf g v))
     unfolding played
@@ -94,40 +94,40 @@ shelf-agree : (b : Bool) (e : Endpoint) (packet h g : List ℕ) → length h ≡
 shelf-agree true e packet h g l at k q = laid-agree (e .device * 8192) (e .payload) (payloadOf packet) h g l at k q
 shelf-agree false e packet h g l at k q = q
 
-module _ (packet : List ℕ) (time : ℕ) (w : World) (h g : List ℕ) (same : SameKept w h g) where
-  pub packet-twin : Twin (handleRawPacket packet time (withShelf h w)) (handleRawPacket packet time (withShelf g w))
+module _ (high : Bool) (packet : List ℕ) (time : ℕ) (w : World) (h g : List ℕ) (same : SameKept w h g) where
+  pub packet-twin : Twin (handleRawPacket high packet time (withShelf h w)) (handleRawPacket high packet time (withShelf g w))
   packet-twin = by (isDropped (w .slot) (w .transaction)) refl
     where
       -- the worlds with the payload on the shelf
       v : World
-      v = kept (planOf packet (withShelf h w)) packet (withShelf h w)
+      v = kept high (planOf high packet (withShelf h w)) packet (withShelf h w)
 
-      r : planOf packet (withShelf h w) ≡ planOf packet v
-      r = plan-shelf packet h w ∙ sym (plan-shelf packet (v .shelf) w)
+      r : planOf high packet (withShelf h w) ≡ planOf high packet v
+      r = plan-shelf high packet h w ∙ sym (plan-shelf high packet (v .shelf) w)
 
-      q : planOf packet (withShelf g w) ≡ planOf packet v
-      q = plan-shelf packet g w ∙ sym (plan-shelf packet (v .shelf) w)
+      q : planOf high packet (withShelf g w) ≡ planOf high packet v
+      q = plan-shelf high packet g w ∙ sym (plan-shelf high packet (v .shelf) w)
 
       k : List ℕ
-      k = shelfWith (keeps (planOf packet v)) (planOf packet v .end .entry) packet g
+      k = shelfWith (keeps high (planOf high packet v)) (planOf high packet v .end .entry) packet g
 
       laden : (at n : ℕ) → Agree at n h g → Agree at n (v .shelf) k
       laden at n e =
-          subst (λ (p : Plan). Agree at n (v .shelf) (shelfWith (keeps p) (p .end .entry) packet g)) r
-          (shelf-agree (keeps (planOf packet (withShelf h w))) (planOf packet (withShelf h w) .end .entry) packet h g (same .long) at n e)
+          subst (λ (p : Plan). Agree at n (v .shelf) (shelfWith (keeps high p) (p .end .entry) packet g)) r
+          (shelf-agree (keeps high (planOf high packet (withShelf h w))) (planOf high packet (withShelf h w) .end .entry) packet h g (same .long) at n e)
 
-      by : (b : Bool) → isDropped (w .slot) (w .transaction) ≡ b → Twin (handleRawPacket packet time (withShelf h w)) (handleRawPacket packet time (withShelf g w))
+      by : (b : Bool) → isDropped (w .slot) (w .transaction) ≡ b → Twin (handleRawPacket high packet time (withShelf h w)) (handleRawPacket high packet time (withShelf g w))
       by true d =
-          record { shelf = g; same = dropped-is packet time (withShelf g w) d ∙ sym (ap (withShelf g) (dropped-is packet time (withShelf h w) d)) }
+          record { shelf = g; same = dropped-is high packet time (withShelf g w) d ∙ sym (ap (withShelf g) (dropped-is high packet time (withShelf h w) d)) }
       by false d =
-          let t = played-twin packet time v k
-          (plan-good v (v .shelf) k (λ x. laden (w .endpoints x .device * 8192) (min (w .endpoints x .payload) 4096) (same .payload x)) packet)
+          let t = played-twin high packet time v k
+          (plan-good v (v .shelf) k (λ x. laden (w .endpoints x .device * 8192) (min (w .endpoints x .payload) 4096) (same .payload x)) high packet)
           (λ i. laden (i * 8192 + 4096) (min (w .devices i .kept) 585 * 7) (same .entries i)) in
-          let left = packet-laden packet time (withShelf h w) d in
+          let left = packet-laden high packet time (withShelf h w) d in
           record {
             shelf = t .shelf;
-            same = packet-is packet time (withShelf g w) d
-                ∙ ap (λ (p : Plan). played p packet time (kept p packet (withShelf g w))) q
+            same = packet-is high packet time (withShelf g w) d
+                ∙ ap (λ (p : Plan). played p packet time (kept high p packet (withShelf g w))) q
                 ∙ t .same
                 ∙ sym (ap (withShelf (t .shelf)) left);
           }
@@ -177,4 +177,4 @@ module _ (packet : List ℕ) (time : ℕ) (s : State) (h g : List ℕ) (t : Twin
       unique (x .answers) (answers-shelf (t .shelf) w same moved)
 
 pub packet-reads : Reads
-packet-reads packet time s h g a b s′ s″ h′ g′ k x y = twins-answer packet time s h g (packet-twin packet time (worldAt s) h g k) a b s′ s″ h′ g′ x y
+packet-reads packet time s h g a b s′ s″ h′ g′ k x y = twins-answer packet time s h g (packet-twin (s .decoder .high) packet time (worldAt s) h g k) a b s′ s″ h′ g′ x y

@@ -31,7 +31,7 @@ finishes (event kind code time) s = s .decoder .finished
 finishes (detail a n r k m) s = s .decoder .finished
 finishes finishing s = true
 
-pub answers : (k : Call) (s : State) (a : ℕ) (s′ : State) → Does k s a s′ → Answers (testsFor k s) (call k (worldAt s)) (finishes k s) s a s′
+pub answers : (k : Call) (s : State) (a : ℕ) (s′ : State) → Does k s a s′ → Answers (testsFor k s) (call (s .decoder .high) k (worldAt s)) (finishes k s) s a s′
 unfolding Details
 answers (packet p time shelf) s a s′ d = d .does .answers
 answers (event kind code time) s a s′ d = d
@@ -40,7 +40,7 @@ answers finishing s a s′ d = d
 
 -- ---- there is room for what an accepted call leaves
 
-roomy : (k : Call) (s : State) → Passed (testsFor k s) → Roomy (s .table) (countsAfter (s .decoder .counts) (call k (worldAt s))) (roomOf (s .logs))
+roomy : (k : Call) (s : State) → Passed (testsFor k s) → Roomy (s .table) (countsAfter (s .decoder .counts) (call (s .decoder .high) k (worldAt s))) (roomOf (s .logs))
 roomy (packet p time shelf) s q = room-left s _ (q .full)
 roomy (event kind code time) s q = room-left s _ (q .full)
 roomy (detail a n r k m) s q = detail-room a n r k m s (sound s (q .ill) .0)
@@ -50,8 +50,8 @@ roomy finishing s q = room-left s _ (q .full)
 
 -- an accepted call, from s to s′
 pub record Moved (k : Call) (s s′ : State) : Type 0 where
-  pub left : Left (call k (worldAt s)) (finishes k s) s s′
-  pub room : Roomy (s .table) (countsAfter (s .decoder .counts) (call k (worldAt s))) (roomOf (s .logs))
+  pub left : Left (call (s .decoder .high) k (worldAt s)) (finishes k s) s s′
+  pub room : Roomy (s .table) (countsAfter (s .decoder .counts) (call (s .decoder .high) k (worldAt s))) (roomOf (s .logs))
 
 module _ (k : Call) (s : State) (a : ℕ) (s′ : State) (d : Does k s a s′) where
   told : firstOf (testsFor k s) ≡ a

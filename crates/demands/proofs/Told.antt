@@ -1,4 +1,5 @@
 -- The logs hold the history: of a fresh decoder, and after each call.
+use mathlib.Core.Bool.{Bool}
 use Prim.Native.Nat.{ℕ, _+_, _<_, _≤_}
 use native.Mathlib.Omega.{arith}
 use mathlib.Core.Path.{_≡_, refl, sym, ap, subst, _∙_}
@@ -52,11 +53,11 @@ Filled n m js = (k : ℕ) → k < 12 → place k (countAt k m) ≡ place k (coun
 pub began : (s : State) → Counted (worldAt s) (worldAt s)
 began s = record { bytes-are = omega arith; devices-are = omega arith; endpoints-are = omega arith; packets-are = omega arith; transactions-are = omega arith; groups-are = omega arith; marks-are = omega arith; items-are = omega arith }
 
-filled : (k : Call) (s : State) → Filled (s .decoder .counts) (countsAfter (s .decoder .counts) (call k (worldAt s))) (call k (worldAt s) .journal)
+filled : (k : Call) (s : State) → Filled (s .decoder .counts) (countsAfter (s .decoder .counts) (call (s .decoder .high) k (worldAt s))) (call (s .decoder .high) k (worldAt s) .journal)
 unfolding countsAfter
 filled k s =
-    let c : Counted (worldAt s) (call k (worldAt s)) = counts (worldAt s) k (worldAt s) (began s) in
-    let js = call k (worldAt s) .journal in
+    let c : Counted (worldAt s) (call (s .decoder .high) k (worldAt s)) = counts (worldAt s) (s .decoder .high) k (worldAt s) (began s) in
+    let js = call (s .decoder .high) k (worldAt s) .journal in
     each-log _
     (omega (arith, log-words 0 js, c .bytes-are))
     (omega (arith, log-words 1 js, c .devices-are))
@@ -74,17 +75,17 @@ filled k s =
 -- ---- after an accepted call
 
 module _ {k : Call} {s s′ : State} (m : Moved k s s′) where
-  pub counts-left : s′ .decoder .counts ≡ countsAfter (s .decoder .counts) (call k (worldAt s))
+  pub counts-left : s′ .decoder .counts ≡ countsAfter (s .decoder .counts) (call (s .decoder .high) k (worldAt s))
   unfolding decoderOf
   counts-left = ap (λ (d : Decoder). d .counts) (m .left .decoder)
 
   -- where every log begins at 0, a row's number is its place
-  pub told-then : (js : List Row) → ((i : ℕ) → firstAt i (s .table) ≡ 0) → Told js s → Told (call k (worldAt s) .journal ++ js) s′
+  pub told-then : (js : List Row) → ((i : ℕ) → firstAt i (s .table) ≡ 0) → Told js s → Told (call (s .decoder .high) k (worldAt s) .journal ++ js) s′
   told-then js z t i h =
-      let j = call k (worldAt s) .journal in
+      let j = call (s .decoder .high) k (worldAt s) .journal in
       let e = all-held (s .table) (s .decoder .counts) z in
       let l = subst (λ (n : Counts). logAt i (s′ .logs) ≡ sets (logAt i (s .logs)) (place i (countAt i n)) (log i j)) e (m .left .logs i h) in
-      let w = subst (λ (n : Counts). Within n (roomOf (s .logs))) (all-held (s .table) (countsAfter (s .decoder .counts) (call k (worldAt s))) z) (m .room .held) in
+      let w = subst (λ (n : Counts). Within n (roomOf (s .logs))) (all-held (s .table) (countsAfter (s .decoder .counts) (call (s .decoder .high) k (worldAt s))) z) (m .room .held) in
       let f : Filled (s .decoder .counts) (s′ .decoder .counts) j = subst (λ (n : Counts). Filled (s .decoder .counts) n j) (sym counts-left) (filled k s) in
       let r : Within (s′ .decoder .counts) (roomOf (s .logs)) = rw counts-left w in
       behind i j js (logAt i (s .logs)) (logAt i (s′ .logs)) (place i (countAt i (s .decoder .counts))) (place i (countAt i (s′ .decoder .counts))) (t i h) l (f i h)
@@ -92,13 +93,13 @@ module _ {k : Call} {s s′ : State} (m : Moved k s s′) where
 
 -- ---- of a fresh decoder
 
-first-told : (v : List Device) (t : List ℕ) (l : Logs) → Within (countsOf 1 3) (roomOf l) → Told (fresh .journal) (made v t l)
+first-told : (high : Bool) (v : List Device) (t : List ℕ) (l : Logs) → Within (countsOf 1 3) (roomOf l) → Told (fresh .journal) (made high v t l)
 unfolding made details.fresh
-first-told v t l r =
+first-told high v t l r =
     let fits = within-logs (countsOf 1 3) l r in
     each-log _ refl (grown (l .devices) _ 0 1 [] (log 1 (fresh .journal)) refl refl refl (fits 1 (log-number 1 refl)))
     (grown (l .endpoints) _ 0 9 [] (log 2 (fresh .journal)) refl refl refl (fits 2 (log-number 2 refl)))
     refl refl refl refl refl refl refl refl refl
 
-pub told-made : {v : List Device} {t : List ℕ} {l : Logs} {s : State} → Makes v t l 0 s → Told (fresh .journal) s
-told-made {v} {t} {l} m = subst (Told (fresh .journal)) (sym (m .accepted refl)) (first-told v t l (within _ _ (fitted (roomOf l) (sym (m .answer)) .1)))
+pub told-made : {high : Bool} {v : List Device} {t : List ℕ} {l : Logs} {s : State} → Makes high v t l 0 s → Told (fresh .journal) s
+told-made {high} {v} {t} {l} m = subst (Told (fresh .journal)) (sym (m .accepted refl)) (first-told high v t l (within _ _ (fitted (roomOf l) (sym (m .answer)) .1)))

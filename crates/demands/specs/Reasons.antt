@@ -1,5 +1,6 @@
 -- Laws (proved): "Grouping doesn't change" (02, 1): a packet is grouped by its validity, and not by the reason that it is malformed. Two packets that are both malformed and
 -- as long as each other leave the same world, and the same rows but for the reason and the packet's bytes. proofs/Reasons.antt proves it.
+use mathlib.Core.Bool.{Bool}
 use Prim.Native.Nat.{ℕ}
 use mathlib.Core.List.{List, [], map}
 use mathlib.Core.Path.{_≡_}
@@ -34,8 +35,8 @@ plainly w = withContext (stamp (w .context .packet) (w .context .time) noReason)
 
 abbrev pub SameGrouping : Type 0
 SameGrouping =
-    (p q : List ℕ) (time : ℕ) (w : World)
+    (high : Bool) (p q : List ℕ) (time : ℕ) (w : World)
     → (reasonOf p ≡ 0 → ⊥)
     → (reasonOf q ≡ 0 → ⊥)
     → length p ≡ length q
-    → plainly (handleRawPacket p time w) ≡ plainly (handleRawPacket q time w)
+    → plainly (handleRawPacket high p time w) ≡ plainly (handleRawPacket high q time w)

@@ -5,7 +5,7 @@
 -- Hold it to: demand 3, sentence by sentence (docs/PROVED.md); 01, "Answer numbers": "none of those calls answers 1"
 use Prim.Native.Nat.{ℕ, suc, _*_, _<_}
 use mathlib.Core.Path.{_≡_}
-use mathlib.Core.Bool.{false}
+use mathlib.Core.Bool.{Bool, false}
 use mathlib.Core.List.{List, [], _∷_, _++_}
 use lib.ListN.{length, take, getD}
 use Rattle.endpoints.specs.Word as word
@@ -43,12 +43,13 @@ Does finishing s a s′ = FinishCall s a s′
 
 -- what the call adds to the history, the newest first: where it is accepted (0 or 8) the rows that demand 2's rules append, and none where it is refused
 abbrev pub adds : Call → State → ℕ → List Row
-adds k s a = pick (accepts a) (call k (worldAt s) .journal) []
+adds k s a = pick (accepts a) (call (s .decoder .high) k (worldAt s) .journal) []
 
 -- a sequence of calls has the history js, the newest row first, and leaves the state s
 pub data Sequence : List Row → State → Type 0 where
-  -- a fresh decoder answered 0, on any 64 devices, any table of 2,704 words and any logs; its history is its own four rows
-  made : {v : List Device} {t : List ℕ} {l : Logs} {s : State} → length v ≡ 64 → length t ≡ word.table → Makes v t l 0 s → Sequence (fresh .journal) s
+  -- a fresh decoder answered 0, in either mode, on any 64 devices, any table of 2,704 words and any logs; its history is its own four rows
+  made : {high : Bool} {v : List Device} {t : List ℕ} {l : Logs} {s : State} → length v ≡ 64 → length t ≡ word.table → Makes high v t l 0 s →
+      Sequence (fresh .journal) s
   -- and any call, with any arguments and any answer, on what the one before left
   then : {js : List Row} {s : State} (k : Call) (a : ℕ) (s′ : State) → Sequence js s → Does k s a s′ → Sequence (adds k s a ++ js) s′
 

@@ -147,12 +147,12 @@ module _ (c : Stamp) (s : State) (w : World) (m : Memory) (holds : HoldsAt c s w
       → countsAfter (s .decoder .counts) w ≡ c → w .slot ≡ slot → w .eventState ≡ event → w .keepalive ≡ keepalive → waitingOf w ≡ waiting
       → (p e t : List ℕ) → Besides w (heldAt s) (s .logs) p e t
       → Left w f s
-      (state (record { counts = c; slot = slot; transaction = tied (s .decoder .transaction) (m .written); last = m .written .last; event = event; keepalive = keepalive; waiting = waiting; finished = f; time = m .written .stamp .time }) (s .devices) (m .table)
+      (state (record { counts = c; slot = slot; transaction = tied (s .decoder .transaction) (m .written); last = m .written .last; event = event; keepalive = keepalive; waiting = waiting; finished = f; high = s .decoder .high; time = m .written .stamp .time }) (s .devices) (m .table)
       (logs (s .logs .bytes) (s .logs .devices) (s .logs .endpoints) p e t (m .groups) (m .statebytes) (m .states) (m .items) (m .links) (s .logs .requests)))
   unfolding decoderOf
   left-of size devices tie f c slot event keepalive waiting ec es ee ek ew p e t b =
       record {
-        decoder = λ i. record { counts = sym ec i; slot = sym es i; transaction = tied-is tie i; last = holds .lastItem i; event = sym ee i; keepalive = sym ek i; waiting = sym ew i; finished = f; time = ap (λ (x : Stamp). x .time) (holds .stamp ∙ sym (holds .context)) i };
+        decoder = λ i. record { counts = sym ec i; slot = sym es i; transaction = tied-is tie i; last = holds .lastItem i; event = sym ee i; keepalive = sym ek i; waiting = sym ew i; finished = f; high = s .decoder .high; time = ap (λ (x : Stamp). x .time) (holds .stamp ∙ sym (holds .context)) i };
         devices = record { size = refl; there = λ i u. sym (devices i); beyond = λ i u. refl };
         table =
             record {

@@ -31,7 +31,7 @@ sumOf held n t room = record { fits = roomFor held n t room; counts = pick (room
 
 abbrev pub finishedDecoder : Decoder → Sum → Written → Decoder
 finishedDecoder d s h =
-    record { counts = s .counts; slot = slotEnded (d .slot); transaction = tied (d .transaction) h; last = h .last; event = d .event; keepalive = d .keepalive; waiting = s .waiting; finished = true; time = h .stamp .time }
+    record { counts = s .counts; slot = slotEnded (d .slot); transaction = tied (d .transaction) h; last = h .last; event = d .event; keepalive = d .keepalive; waiting = s .waiting; finished = true; high = d .high; time = h .stamp .time }
 
 -- ---- an event
 
@@ -60,4 +60,4 @@ pub record Decides (d : Decoder) (v : List Device) (t : List ℕ) (kind : ℕ) (
 
 abbrev pub eventDecoder : Decoder → Bool → Turn → Sum → Written → Decoder
 eventDecoder d resets t s h =
-    record { counts = s .counts; slot = slotAfter resets (d .slot); transaction = tied (d .transaction) h; last = h .last; event = t .next; keepalive = keepaliveAfter (t .act) (keepaliveThen resets (d .keepalive)); waiting = s .waiting; finished = d .finished; time = h .stamp .time }
+    record { counts = s .counts; slot = slotAfter resets (d .slot); transaction = tied (d .transaction) h; last = h .last; event = t .next; keepalive = keepaliveAfter (t .act) (keepaliveThen resets (d .keepalive)); waiting = s .waiting; finished = d .finished; high = d .high; time = h .stamp .time }

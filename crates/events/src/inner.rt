@@ -70,6 +70,7 @@ fn finished_decoder(d: Decoder, sum: Sum, written: Written) -> Decoder
         keepalive: d.keepalive,
         waiting: sum.waiting,
         finished: true,
+        high: d.high,
         time: written.stamp.time,
     }
 }
@@ -184,6 +185,7 @@ fn event_decoder(d: Decoder, resets: bool, turn: Turn, sum: Sum, written: Writte
         keepalive: keepalive_after(act, d.keepalive & !resets),
         waiting: sum.waiting,
         finished: d.finished,
+        high: d.high,
         time: written.stamp.time,
     }
 }

@@ -9,10 +9,11 @@ use lib.Dec.{eqb}
 use lib.ListN.{length}
 use Rattle.usb.specs.Fields.{tokenOf, setupDataOf}
 use Rattle.usb.specs.Packet.{checkedOf, reasonOf}
-use Rattle.usb.specs.Pid.{DATA0, DATA1, SPLIT, MALFORMED}
+use Rattle.usb.specs.Pid.{DATA0, DATA1, DATA2, MDATA, SPLIT, MALFORMED}
 use Rattle.usb.specs.declared.Checked.{Checked}
 use Rattle.usb.specs.declared.Checked.the-variants.{Valid, Malformed}
-use Rattle.transaction.specs.Payload.{takesSetup, withSetup, withPayload, extractPayload}
+use Rattle.transaction.specs.Payload.{takesSetup, yields, withSetup, withPayload, extractPayload}
+use Rattle.transaction.specs.HighLaws.{yields-any}
 use Rattle.transaction.specs.Simple.{startStatus}
 use Rattle.transaction.specs.Status.{judgedOf, transactionStatus}
 use Rattle.transaction.specs.Table.{pick, only, _or_}
@@ -44,7 +45,7 @@ use Rattle.rules.proofs.Moves.{Spot, found-spot}
 use Rattle.rules.proofs.Seen.{packet-seen}
 use Rattle.rules.proofs.Stands.{resume-stands}
 use Rattle.plan.proofs.Frame.{Rest}
-use Rattle.ledger.specs.Ledger.{Why, Setup, Stray, Replaced, Forgotten, Dropped, Failed, Unused, Waited, Fate, Held, Passed, Ledger, isHeld, isWaiting, isCounted, lengthsOf, sum, running, yields, isData, enter, turn, passHeld, usedAt, endAt, endBy, ends, takes, turnBy, turnFrom, packetTurns, suspends, turns}
+use Rattle.ledger.specs.Ledger.{Why, Setup, Stray, Replaced, Forgotten, Dropped, Failed, Unused, Waited, Fate, Held, Passed, Ledger, isHeld, isWaiting, isCounted, lengthsOf, sum, running, dataIn, isData, enter, turn, passHeld, usedAt, endAt, endBy, ends, takes, turnBy, turnFrom, packetTurns, suspends, turns}
 use Rattle.ledger.specs.Account.{heldBy, View, view, Account, entered, enters, InsideAt, Inside}
 use Rattle.ledger.proofs.Ends.{bare, pass-account, end-account}
 use Rattle.ledger.proofs.Views.{change-seen, link-seen, item-seen, start-seen, append-seen, active-seen, place-seen, start-rest}
@@ -67,8 +68,8 @@ module _ (n : ℕ) (p : List ℕ) where
           ordered = λ e. (λ q. absurd (true≢false (sym q ∙ uncounted e)), a .ordered e);
         }
 
-    passed-account : Account v (enter n p f l)
-    passed-account = by (isData p)
+    passed-account : (high : Bool) → Account v (enter high n p f l)
+    passed-account high = by (isData high p)
       where
         by : (b : Bool) → Account v (pick b (record { packet = n; length = length p - 3; fate = f } ∷ l) l)
         by true = passed-line (length p - 3)
@@ -86,22 +87,22 @@ module _ (n : ℕ) (p : List ℕ) where
 
 -- ---- extract_payload
 
-module _ (js : List Row) (n pid : ℕ) (p : List ℕ) (w : World) (l : Ledger) (same : isData p ≡ (DATA0 or only DATA1) pid) (ready : isData p ≡ true → w .slot ≡ Current) (a : Account (view js w) l) where
+module _ (high : Bool) (js : List Row) (n pid : ℕ) (p : List ℕ) (w : World) (l : Ledger) (same : isData high p ≡ yields high pid) (ready : isData high p ≡ true → w .slot ≡ Current) (a : Account (view js w) l) where
   -- the transaction's payload is the packet's, where it is no setup data; these are settled at once
   brought-as : (f : Fate) → isHeld f ≡ false → ((e : ℕ) → isWaiting e f ≡ false) → ((e : ℕ) → isCounted e f ≡ false)
-      → Account (view js (brought pid p w)) (pick (isPayload (w .transaction .style) pid) (enter n p Held (passHeld Replaced w l)) (enter n p f l))
+      → Account (view js (brought high pid p w)) (pick (isPayload high (w .transaction .style) pid) (enter high n p Held (passHeld Replaced w l)) (enter high n p f l))
   unfolding extractPayload
-  brought-as f unheld unwaited uncounted = by (eqb pid DATA0 && takesSetup (w .transaction .style)) ((DATA0 or only DATA1) pid) same
+  brought-as f unheld unwaited uncounted = by (eqb pid DATA0 && takesSetup (w .transaction .style)) (yields high pid) same
     where
-      by : (s b : Bool) → isData p ≡ b
+      by : (s b : Bool) → isData high p ≡ b
           → Account (view js (withTransaction (pick s (withSetup (w .transaction) (setupDataOf p)) (pick b (withPayload (w .transaction) (length p - 3)) (w .transaction))) w))
-          (pick (b && not s) (enter n p Held (passHeld Replaced w l)) (enter n p f l))
-      by true true q = passed-account n p f unheld unwaited uncounted a
-      by true false q = passed-account n p f unheld unwaited uncounted a
+          (pick (b && not s) (enter high n p Held (passHeld Replaced w l)) (enter high n p f l))
+      by true true q = passed-account n p f unheld unwaited uncounted a high
+      by true false q = passed-account n p f unheld unwaited uncounted a high
       by false true q = rw (q, ready q) (held-line n p (length p - 3) refl (pass-account Replaced (w .transaction .endpoint) a))
-      by false false q = passed-account n p f unheld unwaited uncounted a
+      by false false q = passed-account n p f unheld unwaited uncounted a high
 
-  brought-account : Account (view js (brought pid p w)) (takes n pid p w l)
+  brought-account : Account (view js (brought high pid p w)) (takes high n pid p w l)
   brought-account = brought-as _ refl (λ e. refl) (λ e. refl)
 
 -- ---- transaction_append
@@ -136,18 +137,18 @@ inside Empty h = tt
 inside Current h = h
 inside Suspended h = h
 
-module _ (pid : ℕ) (p : List ℕ) where
+module _ (high : Bool) (pid : ℕ) (p : List ℕ) where
   token-inside : (s : Style) (w : World) → Stands w → Inside w → Inside (appendToken s pid p w)
   token-inside NoStyle w s h = h
   token-inside (Simple first) w s h = h
   token-inside (Split sc kind) w s h = inside (packetEndpoint pid p w .slot) (there pid p w s)
   token-inside (Token sc kind first) w s h = h
 
-  extract-inside : (w : World) → Inside w → Inside (extracted pid p w)
-  extract-inside w h = let k = extract-keeps (w .transaction) pid (length p) (setupDataOf p) in rw (k .endpoint) h
+  extract-inside : (w : World) → Inside w → Inside (extracted high pid p w)
+  extract-inside w h = let k = extract-keeps high (w .transaction) pid (length p) (setupDataOf p) in rw (k .endpoint) h
 
-  append-inside : (w : World) → Stands w → Inside w → Inside (transactionAppend pid p (extracted pid p w))
-  append-inside w s h = token-inside (extracted pid p w .transaction .style) (extracted pid p w) s (extract-inside w h)
+  append-inside : (w : World) → Stands w → Inside w → Inside (transactionAppend pid p (extracted high pid p w))
+  append-inside w s h = token-inside (extracted high pid p w .transaction .style) (extracted high pid p w) s (extract-inside w h)
 
 -- ---- transaction_start: the new transaction holds nothing
 
@@ -212,53 +213,59 @@ isInvalid Fail = false
 isInvalid Ambiguous = false
 isInvalid Invalid = true
 
-module _ (js : List Row) (n pid : ℕ) (p : List ℕ) (complete : Bool) (w : World) (l : Ledger) (same : isData p ≡ (DATA0 or only DATA1) pid) (s : Stands w) (i : Inside w) (a : Account (view js w) l) (resumed : Resumed (w .slot)) where
-  went : (isData p ≡ true → w .slot ≡ Current) → Account (view js (transactionAppend pid p (extracted pid p w))) (takes n pid p w l)
-  went r = seen-account (appended-seen js pid p (extracted pid p w)) (brought-account js n pid p w l same r a)
+module _ (high : Bool) (js : List Row) (n pid : ℕ) (p : List ℕ) (complete : Bool) (w : World) (l : Ledger) (same : isData high p ≡ yields high pid) (s : Stands w) (i : Inside w) (a : Account (view js w) l) (resumed : Resumed (w .slot)) where
+  went : (isData high p ≡ true → w .slot ≡ Current) → Account (view js (transactionAppend pid p (extracted high pid p w))) (takes high n pid p w l)
+  went r = seen-account (appended-seen js pid p (extracted high pid p w)) (brought-account high js n pid p w l same r a)
 
-  closed : (success : Bool) → (isData p ≡ true → w .slot ≡ Current) → Account (view js (transactionEnd success complete (transactionAppend pid p (extracted pid p w)))) (ends success complete (transactionAppend pid p (extracted pid p w)) (takes n pid p w l))
-  closed success r = end-account js success complete (transactionAppend pid p (extracted pid p w)) (takes n pid p w l) (append-inside pid p w s i) (went r)
+  closed : (success : Bool) → (isData high p ≡ true → w .slot ≡ Current) → Account (view js (transactionEnd success complete (transactionAppend pid p (extracted high pid p w)))) (ends success complete (transactionAppend pid p (extracted high pid p w)) (takes high n pid p w l))
+  closed success r = end-account js success complete (transactionAppend pid p (extracted high pid p w)) (takes high n pid p w l) (append-inside high pid p w s i) (went r)
 
   -- a data packet is Invalid, or it comes to a transaction
-  update-account : (z : Status) → (isData p ≡ true → isInvalid z ≡ false → w .slot ≡ Current) → Account (view js (updateAt z n pid p complete w)) (turnBy z n pid p complete w l)
+  update-account : (z : Status) → (isData high p ≡ true → isInvalid z ≡ false → w .slot ≡ Current) → Account (view js (updateAt high z n pid p complete w)) (turnBy high z n pid p complete w l)
   update-account New r =
-      let v = transactionEnd false false (brought pid p w) in
-      let b = end-account js false false (brought pid p w) (takes n pid p w l) (extract-inside pid p w i) (brought-account js n pid p w l same (λ q. r q refl) a) in
-      seen-account (append-seen js (transactionStart n pid p v) ∙ started-seen js n pid p v) (bare-account (ended-none js false false (brought pid p w) resumed) b)
-  update-account Continue r = seen-account (append-seen js (transactionAppend pid p (extracted pid p w))) (went (λ q. r q refl))
+      let v = transactionEnd false false (brought high pid p w) in
+      let b = end-account js false false (brought high pid p w) (takes high n pid p w l) (extract-inside high pid p w i) (brought-account high js n pid p w l same (λ q. r q refl) a) in
+      seen-account (append-seen js (transactionStart n pid p v) ∙ started-seen js n pid p v) (bare-account (ended-none js false false (brought high pid p w) resumed) b)
+  update-account Continue r = seen-account (append-seen js (transactionAppend pid p (extracted high pid p w))) (went (λ q. r q refl))
   update-account Retry r = closed true (λ q. r q refl)
   update-account Done r = closed true (λ q. r q refl)
   update-account Fail r = closed false (λ q. r q refl)
   update-account Ambiguous r = went (λ q. r q refl)
   update-account Invalid r =
       let v = transactionStart n pid p w in
-      end-account js false false v (enter n p (Passed Stray 0) (passHeld Replaced w l)) (started-inside js n pid p w s)
-      (seen-account (started-seen js n pid p w) (passed-account n p _ refl (λ e. refl) (λ e. refl) (pass-account Replaced (w .transaction .endpoint) a)))
+      end-account js false false v (enter high n p (Passed Stray 0) (passHeld Replaced w l)) (started-inside js n pid p w s)
+      (seen-account (started-seen js n pid p w) (passed-account n p _ refl (λ e. refl) (λ e. refl) (pass-account Replaced (w .transaction .endpoint) a) high))
 
 -- ---- what a packet is, where no transaction is current
 
-data-pid : (t : Transaction) (p : List ℕ) → isData p ≡ (DATA0 or only DATA1) (transactionStatus t p .pid)
+data-pid : (high : Bool) (t : Transaction) (p : List ℕ) → isData high p ≡ yields high (transactionStatus high t p .pid)
 unfolding transactionStatus
-data-pid t p = by (checkedOf p)
+data-pid high t p = by (checkedOf p)
   where
-    by : (c : Checked) → yields c ≡ (DATA0 or only DATA1) (judgedOf t c (length p) .pid)
+    none : (m : Bool) → false ≡ yields m MALFORMED
+    none true = refl
+    none false = refl
+
+    by : (c : Checked) → dataIn high c ≡ yields high (judgedOf high t c (length p) .pid)
     by (Valid pid) = refl
-    by (Malformed reason) = refl
+    by (Malformed reason) = none high
 
-either-pid : (pid : ℕ) → (DATA0 or only DATA1) pid ≡ true → startStatus pid ≡ Invalid
-either-pid pid = by (eqb pid DATA0) (eqb pid DATA1) refl refl
+either-pid : (pid : ℕ) → (DATA0 or DATA1 or DATA2 or only MDATA) pid ≡ true → startStatus pid ≡ Invalid
+either-pid pid = by (eqb pid DATA0) (eqb pid DATA1) (eqb pid DATA2) (eqb pid MDATA) refl refl refl refl
   where
-    by : (a b : Bool) → eqb pid DATA0 ≡ a → eqb pid DATA1 ≡ b → (a || b) ≡ true → startStatus pid ≡ Invalid
-    by true b p q h = rw (eqb-true pid DATA0 p)
-    by false true p q h = rw (eqb-true pid DATA1 q)
-    by false false p q h = absurd (true≢false (sym h))
+    by : (a b c d : Bool) → eqb pid DATA0 ≡ a → eqb pid DATA1 ≡ b → eqb pid DATA2 ≡ c → eqb pid MDATA ≡ d → (a || (b || (c || d))) ≡ true → startStatus pid ≡ Invalid
+    by true b c d p q r s h = rw (eqb-true pid DATA0 p)
+    by false true c d p q r s h = rw (eqb-true pid DATA1 q)
+    by false false true d p q r s h = rw (eqb-true pid DATA2 r)
+    by false false false true p q r s h = rw (eqb-true pid MDATA s)
+    by false false false false p q r s h = absurd (true≢false (sym h))
 
-stray : (t : Transaction) (p : List ℕ) → isData p ≡ true → transactionStatus (stateAt Empty t) p .status ≡ Invalid
+stray : (high : Bool) (t : Transaction) (p : List ℕ) → isData high p ≡ true → transactionStatus high (stateAt Empty t) p .status ≡ Invalid
 unfolding transactionStatus
-stray t p = by (checkedOf p)
+stray high t p = by (checkedOf p)
   where
-    by : (c : Checked) → yields c ≡ true → judgedOf (stateAt Empty t) c (length p) .status ≡ Invalid
-    by (Valid pid) h = either-pid pid h
+    by : (c : Checked) → dataIn high c ≡ true → judgedOf high (stateAt Empty t) c (length p) .status ≡ Invalid
+    by (Valid pid) h = either-pid pid (yields-any high pid h)
     by (Malformed reason) h = refl
 
 -- ---- a suspended transaction is resumed
@@ -282,14 +289,14 @@ module _ (js : List Row) (n : ℕ) (v : World) where
   resumed-slot Suspended q = tt
 
 -- a data packet is Invalid where there is no transaction
-ready : (p : List ℕ) (s : Slot) (t : Transaction) → Resumed s → isData p ≡ true → isInvalid (transactionStatus (stateAt s t) p .status) ≡ false → s ≡ Current
-ready p Empty t r q n = absurd (true≢false (sym (ap isInvalid (stray t p q)) ∙ n))
-ready p Current t r q n = refl
-ready p Suspended t r q n = absurd r
+ready : (high : Bool) (p : List ℕ) (s : Slot) (t : Transaction) → Resumed s → isData high p ≡ true → isInvalid (transactionStatus high (stateAt s t) p .status) ≡ false → s ≡ Current
+ready high p Empty t r q n = absurd (true≢false (sym (ap isInvalid (stray high t p q)) ∙ n))
+ready high p Current t r q n = refl
+ready high p Suspended t r q n = absurd r
 
-packet-account : (js : List Row) (p : List ℕ) (time : ℕ) (w : World) (l : Ledger) → Stands w → Inside w → Account (view js w) l → Account (view js (handleRawPacket p time w)) (packetTurns p time w l)
+packet-account : (high : Bool) (js : List Row) (p : List ℕ) (time : ℕ) (w : World) (l : Ledger) → Stands w → Inside w → Account (view js w) l → Account (view js (handleRawPacket high p time w)) (packetTurns high p time w l)
 unfolding handleRawPacket transactionUpdate packetTurns
-packet-account js p time w l s i a = by (isDropped (w .slot) (w .transaction))
+packet-account high js p time w l s i a = by (isDropped (w .slot) (w .transaction))
   where
     v : World
     v = pushPacket (w .bytes) time (appendBytes p (withEventState Idle (stamped time (reasonOf p) w)))
@@ -301,13 +308,13 @@ packet-account js p time w l s i a = by (isDropped (w .slot) (w .transaction))
     t = stateAt (u .slot) (u .transaction)
 
     j : Judged
-    j = transactionStatus t p
+    j = transactionStatus high t p
 
-    by : (b : Bool) → Account (view js (pick b (withSlot Empty v) (updateFrom (w .packets) p u))) (pick b (enter (w .packets) p (Passed Dropped 0) (passHeld Forgotten w l)) (turnFrom (w .packets) p u l))
-    by true = passed-account (w .packets) p _ refl (λ e. refl) (λ e. refl) (pass-account Forgotten (w .transaction .endpoint) a)
+    by : (b : Bool) → Account (view js (pick b (withSlot Empty v) (updateFrom high (w .packets) p u))) (pick b (enter high (w .packets) p (Passed Dropped 0) (passHeld Forgotten w l)) (turnFrom high (w .packets) p u l))
+    by true = passed-account (w .packets) p _ refl (λ e. refl) (λ e. refl) (pass-account Forgotten (w .transaction .endpoint) a) high
     by false =
-        update-account js (w .packets) (j .pid) p (completes (t .style) (j .status)) u l (data-pid t p) (resume-stands (w .slot) (w .packets) v s) (resumed-inside js (w .packets) v (w .slot) refl i)
-        (seen-account (resumed-seen js (w .packets) v (w .slot) refl) a) (resumed-slot js (w .packets) v (w .slot) refl) (j .status) (ready p (u .slot) (u .transaction) (resumed-slot js (w .packets) v (w .slot) refl))
+        update-account high js (w .packets) (j .pid) p (completes (t .style) (j .status)) u l (data-pid high t p) (resume-stands (w .slot) (w .packets) v s) (resumed-inside js (w .packets) v (w .slot) refl i)
+        (seen-account (resumed-seen js (w .packets) v (w .slot) refl) a) (resumed-slot js (w .packets) v (w .slot) refl) (j .status) (ready high p (u .slot) (u .transaction) (resumed-slot js (w .packets) v (w .slot) refl))
 
 -- ---- events: what is current is suspended or has ended before event_update
 
@@ -402,12 +409,12 @@ detail-seen : (js : List Row) (g : Found) (number direction kind max : ℕ) (w :
 detail-seen js (At d) number direction kind max w = refl
 detail-seen js Nothing number direction kind max w = refl
 
-pub call-account : (k : Call) (js : List Row) (w : World) (l : Ledger) → Stands w → Inside w → Account (view js w) l → Account (view js (call k w)) (turns k w l)
+pub call-account : (high : Bool) (k : Call) (js : List Row) (w : World) (l : Ledger) → Stands w → Inside w → Account (view js w) l → Account (view js (call high k w)) (turns high k w l)
 unfolding handleDetail finish
-call-account (packet p time shelf) js w l s i a = packet-account js p time (withShelf shelf w) l s i a
-call-account (event kind code time) js w l s i a = event-account js w l a kind code time i
-call-account (detail address number direction kind max) js w l s i a = seen-account (detail-seen js (deviceFor address w) number direction kind max w) a
-call-account finishing js w l s i a = same-ledger (context-ends false false _ w l) (end-account js false false (lastStamped w) l i a)
+call-account high (packet p time shelf) js w l s i a = packet-account high js p time (withShelf shelf w) l s i a
+call-account high (event kind code time) js w l s i a = event-account js w l a kind code time i
+call-account high (detail address number direction kind max) js w l s i a = seen-account (detail-seen js (deviceFor address w) number direction kind max w) a
+call-account high finishing js w l s i a = same-ledger (context-ends false false _ w l) (end-account js false false (lastStamped w) l i a)
 
 -- ---- one line for each data packet
 
@@ -438,61 +445,61 @@ ends-entered success complete w l = at (w .slot)
     at Current = by (eqb (w .transaction .endpoint) 0)
     at Suspended = refl
 
-module _ (n : ℕ) (p : List ℕ) where
+module _ (high : Bool) (n : ℕ) (p : List ℕ) where
   -- what the packet's own line adds
   abbrev own : List (ℕ × ℕ) → List (ℕ × ℕ)
-  own ps = pick (isData p) ((n, length p - 3) ∷ ps) ps
+  own ps = pick (isData high p) ((n, length p - 3) ∷ ps) ps
 
-  enter-entered : (f : Fate) (l m : Ledger) → entered m ≡ entered l → entered (enter n p f m) ≡ own (entered l)
-  enter-entered f l m q = by (isData p)
+  enter-entered : (f : Fate) (l m : Ledger) → entered m ≡ entered l → entered (enter high n p f m) ≡ own (entered l)
+  enter-entered f l m q = by (isData high p)
     where
       by : (b : Bool) → entered (pick b (record { packet = n; length = length p - 3; fate = f } ∷ m) m) ≡ pick b ((n, length p - 3) ∷ entered l) (entered l)
       by true = ap (λ (ps : List (ℕ × ℕ)). (n, length p - 3) ∷ ps) q
       by false = q
 
-  takes-entered : (pid : ℕ) (w : World) (l : Ledger) → entered (takes n pid p w l) ≡ own (entered l)
-  takes-entered pid w l = by (isPayload (w .transaction .style) pid)
+  takes-entered : (pid : ℕ) (w : World) (l : Ledger) → entered (takes high n pid p w l) ≡ own (entered l)
+  takes-entered pid w l = by (isPayload high (w .transaction .style) pid)
     where
-      by : (b : Bool) → entered (pick b (enter n p Held (passHeld Replaced w l)) (enter n p (Passed Setup (w .transaction .endpoint)) l)) ≡ own (entered l)
+      by : (b : Bool) → entered (pick b (enter high n p Held (passHeld Replaced w l)) (enter high n p (Passed Setup (w .transaction .endpoint)) l)) ≡ own (entered l)
       by true = enter-entered Held l (passHeld Replaced w l) (pass-entered Replaced w l)
       by false = enter-entered (Passed Setup (w .transaction .endpoint)) l l refl
 
-  turn-by-entered : (z : Status) (pid : ℕ) (complete : Bool) (w : World) (l : Ledger) → entered (turnBy z n pid p complete w l) ≡ own (entered l)
+  turn-by-entered : (z : Status) (pid : ℕ) (complete : Bool) (w : World) (l : Ledger) → entered (turnBy high z n pid p complete w l) ≡ own (entered l)
   turn-by-entered z pid complete w l = by z
     where
-      t : entered (takes n pid p w l) ≡ own (entered l)
+      t : entered (takes high n pid p w l) ≡ own (entered l)
       t = takes-entered pid w l
 
       v : World
-      v = transactionAppend pid p (extracted pid p w)
+      v = transactionAppend pid p (extracted high pid p w)
 
-      by : (z : Status) → entered (turnBy z n pid p complete w l) ≡ own (entered l)
-      by New = ends-entered false false (brought pid p w) (takes n pid p w l) ∙ t
+      by : (z : Status) → entered (turnBy high z n pid p complete w l) ≡ own (entered l)
+      by New = ends-entered false false (brought high pid p w) (takes high n pid p w l) ∙ t
       by Continue = t
-      by Retry = ends-entered true complete v (takes n pid p w l) ∙ t
-      by Done = ends-entered true complete v (takes n pid p w l) ∙ t
-      by Fail = ends-entered false complete v (takes n pid p w l) ∙ t
+      by Retry = ends-entered true complete v (takes high n pid p w l) ∙ t
+      by Done = ends-entered true complete v (takes high n pid p w l) ∙ t
+      by Fail = ends-entered false complete v (takes high n pid p w l) ∙ t
       by Ambiguous = t
       by Invalid =
-          ends-entered false false (transactionStart n pid p w) (enter n p (Passed Stray 0) (passHeld Replaced w l)) ∙ enter-entered (Passed Stray 0) l (passHeld Replaced w l) (pass-entered Replaced w l)
+          ends-entered false false (transactionStart n pid p w) (enter high n p (Passed Stray 0) (passHeld Replaced w l)) ∙ enter-entered (Passed Stray 0) l (passHeld Replaced w l) (pass-entered Replaced w l)
 
-packet-entered : (p : List ℕ) (time : ℕ) (w : World) (l : Ledger) → entered (packetTurns p time w l) ≡ own (w .packets) p (entered l)
+packet-entered : (high : Bool) (p : List ℕ) (time : ℕ) (w : World) (l : Ledger) → entered (packetTurns high p time w l) ≡ own high (w .packets) p (entered l)
 unfolding packetTurns
-packet-entered p time w l = by (isDropped (w .slot) (w .transaction))
+packet-entered high p time w l = by (isDropped (w .slot) (w .transaction))
   where
     u : World
     u = resumeAt (w .slot) (w .packets) (pushPacket (w .bytes) time (appendBytes p (withEventState Idle (stamped time (reasonOf p) w))))
 
     j : Judged
-    j = transactionStatus (stateAt (u .slot) (u .transaction)) p
+    j = transactionStatus high (stateAt (u .slot) (u .transaction)) p
 
-    by : (b : Bool) → entered (pick b (enter (w .packets) p (Passed Dropped 0) (passHeld Forgotten w l)) (turnFrom (w .packets) p u l)) ≡ own (w .packets) p (entered l)
-    by true = enter-entered (w .packets) p (Passed Dropped 0) l (passHeld Forgotten w l) (pass-entered Forgotten w l)
-    by false = turn-by-entered (w .packets) p (j .status) (j .pid) (completes (stateAt (u .slot) (u .transaction) .style) (j .status)) u l
+    by : (b : Bool) → entered (pick b (enter high (w .packets) p (Passed Dropped 0) (passHeld Forgotten w l)) (turnFrom high (w .packets) p u l)) ≡ own high (w .packets) p (entered l)
+    by true = enter-entered high (w .packets) p (Passed Dropped 0) l (passHeld Forgotten w l) (pass-entered Forgotten w l)
+    by false = turn-by-entered high (w .packets) p (j .status) (j .pid) (completes (stateAt (u .slot) (u .transaction) .style) (j .status)) u l
 
-pub call-entered : (k : Call) (w : World) (l : Ledger) → entered (turns k w l) ≡ enters k (w .packets) (entered l)
-call-entered (packet p time shelf) w l = packet-entered p time (withShelf shelf w) l
-call-entered (event kind code time) w l = by (eqb kind 0)
+pub call-entered : (high : Bool) (k : Call) (w : World) (l : Ledger) → entered (turns high k w l) ≡ enters high k (w .packets) (entered l)
+call-entered high (packet p time shelf) w l = packet-entered high p time (withShelf shelf w) l
+call-entered high (event kind code time) w l = by (eqb kind 0)
   where
     at : (s : Slot) → entered (suspends s w l) ≡ entered l
     at Empty = refl
@@ -502,5 +509,5 @@ call-entered (event kind code time) w l = by (eqb kind 0)
     by : (b : Bool) → entered (pick b (suspends (w .slot) w l) (ends false false w l)) ≡ entered l
     by true = at (w .slot)
     by false = ends-entered false false w l
-call-entered (detail address number direction kind max) w l = refl
-call-entered finishing w l = ends-entered false false w l
+call-entered high (detail address number direction kind max) w l = refl
+call-entered high finishing w l = ends-entered false false w l

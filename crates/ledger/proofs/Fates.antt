@@ -1,5 +1,6 @@
 -- Short runs from a fresh decoder, computed: every fate is met, with its reason, which no law tells apart. Packet rows are numbered from 0, and events have one too; the endpoint that the
 -- packets go to is row 3.
+use mathlib.Core.Bool.{false}
 use mathlib.Core.List.{List, [], _∷_}
 use mathlib.Core.Path.{_≡_, refl}
 use Prim.Native.Nat.{ℕ}
@@ -30,7 +31,7 @@ use Rattle.ledger.specs.Ledger.{Setup, Stray, Replaced, Failed, Unused, 
 
 abbrev tells : List Lent → World → Ledger → Ledger
 tells [] w l = l
-tells (k ∷ ks) w l = tells ks (runs (k ∷ []) w) (turns (k (w .shelf)) w l)
+tells (k ∷ ks) w l = tells ks (runs (k ∷ []) w) (turns false (k (w .shelf)) w l)
 
 -- packet row, length and fate
 abbrev line : ℕ → ℕ → Fate → Line

@@ -63,8 +63,8 @@ module _ {Fine : Fate → Type 0} {R : Ledger → Ledger → Type 0} (r : Steps 
   pass-steps : (why : Why) (w : World) (l : Ledger) → R l (passHeld why w l)
   pass-steps why w l = r .turned isHeld held-open (Passed why (w .transaction .endpoint)) (r .passes why (w .transaction .endpoint)) l
 
-  enter-steps : (n : ℕ) (p : List ℕ) (f : Fate) → Fine f → (l m : Ledger) → R l m → R l (enter n p f m)
-  enter-steps n p f ok l m h = by (isData p)
+  enter-steps : (high : Bool) (n : ℕ) (p : List ℕ) (f : Fate) → Fine f → (l m : Ledger) → R l m → R l (enter high n p f m)
+  enter-steps high n p f ok l m h = by (isData high p)
     where
       by : (b : Bool) → R l (pick b (record { packet = n; length = length p - 3; fate = f } ∷ m) m)
       by true = r .then l m _ h (r .line n (length p - 3) f ok m)
@@ -94,38 +94,38 @@ module _ {Fine : Fate → Type 0} {R : Ledger → Ledger → Type 0} (r : Steps 
       at Current = by (eqb x 0)
       at Suspended = h
 
-  takes-steps : (n pid : ℕ) (p : List ℕ) (w : World) (l : Ledger) → R l (takes n pid p w l)
-  takes-steps n pid p w l = by (isPayload (w .transaction .style) pid)
+  takes-steps : (high : Bool) (n pid : ℕ) (p : List ℕ) (w : World) (l : Ledger) → R l (takes high n pid p w l)
+  takes-steps high n pid p w l = by (isPayload high (w .transaction .style) pid)
     where
-      by : (b : Bool) → R l (pick b (enter n p Held (passHeld Replaced w l)) (enter n p (Passed Setup (w .transaction .endpoint)) l))
-      by true = enter-steps n p Held (r .holds) l (passHeld Replaced w l) (pass-steps Replaced w l)
-      by false = enter-steps n p (Passed Setup (w .transaction .endpoint)) (r .passes Setup (w .transaction .endpoint)) l l (r .still l)
+      by : (b : Bool) → R l (pick b (enter high n p Held (passHeld Replaced w l)) (enter high n p (Passed Setup (w .transaction .endpoint)) l))
+      by true = enter-steps high n p Held (r .holds) l (passHeld Replaced w l) (pass-steps Replaced w l)
+      by false = enter-steps high n p (Passed Setup (w .transaction .endpoint)) (r .passes Setup (w .transaction .endpoint)) l l (r .still l)
 
-  by-steps : Used false → (z : Status) → (isEarning z ≡ true → Used true) → (n pid : ℕ) (p : List ℕ) (complete : Bool) (w : World) (l : Ledger) → R l (turnBy z n pid p complete w l)
-  by-steps fails z earning n pid p complete w l = by z earning
+  by-steps : (high : Bool) → Used false → (z : Status) → (isEarning z ≡ true → Used true) → (n pid : ℕ) (p : List ℕ) (complete : Bool) (w : World) (l : Ledger) → R l (turnBy high z n pid p complete w l)
+  by-steps high fails z earning n pid p complete w l = by z earning
     where
       m : Ledger
-      m = takes n pid p w l
+      m = takes high n pid p w l
 
       t : R l m
-      t = takes-steps n pid p w l
+      t = takes-steps high n pid p w l
 
       v : World
-      v = transactionAppend pid p (extracted pid p w)
+      v = transactionAppend pid p (extracted high pid p w)
 
-      by : (z : Status) → (isEarning z ≡ true → Used true) → R l (turnBy z n pid p complete w l)
-      by New y = ends-steps false fails false (brought pid p w) l m t
+      by : (z : Status) → (isEarning z ≡ true → Used true) → R l (turnBy high z n pid p complete w l)
+      by New y = ends-steps false fails false (brought high pid p w) l m t
       by Continue y = t
       by Retry y = ends-steps true (y refl) complete v l m t
       by Done y = ends-steps true (y refl) complete v l m t
       by Fail y = ends-steps false fails complete v l m t
       by Ambiguous y = t
       by Invalid y =
-          ends-steps false fails false (transactionStart n pid p w) l (enter n p (Passed Stray 0) (passHeld Replaced w l)) (enter-steps n p (Passed Stray 0) (r .passes Stray 0) l (passHeld Replaced w l) (pass-steps Replaced w l))
+          ends-steps false fails false (transactionStart n pid p w) l (enter high n p (Passed Stray 0) (passHeld Replaced w l)) (enter-steps high n p (Passed Stray 0) (r .passes Stray 0) l (passHeld Replaced w l) (pass-steps Replaced w l))
 
-  packet-steps : Used false → (p : List ℕ) (time : ℕ) (w : World) → ((not (isDropped (w .slot) (w .transaction)) && isEarning (statusIn p w)) ≡ true → Used true) → (l : Ledger) → R l (packetTurns p time w l)
+  packet-steps : (high : Bool) → Used false → (p : List ℕ) (time : ℕ) (w : World) → ((not (isDropped (w .slot) (w .transaction)) && isEarning (statusIn high p w)) ≡ true → Used true) → (l : Ledger) → R l (packetTurns high p time w l)
   unfolding packetTurns
-  packet-steps fails p time w earning l = by (isDropped (w .slot) (w .transaction)) earning
+  packet-steps high fails p time w earning l = by (isDropped (w .slot) (w .transaction)) earning
     where
       v : World
       v = pushPacket (w .bytes) time (appendBytes p (withEventState Idle (stamped time (reasonOf p) w)))
@@ -134,7 +134,7 @@ module _ {Fine : Fate → Type 0} {R : Ledger → Ledger → Type 0} (r : Steps 
       t = let u = resumeAt (w .slot) (w .packets) v in stateAt (u .slot) (u .transaction)
 
       j : Judged
-      j = transactionStatus t p
+      j = transactionStatus high t p
 
       -- the packet's own rows are not looked at
       same : (s : Slot) → (let u = resumeAt s (w .packets) v in stateAt (u .slot) (u .transaction)) ≡ (let u = resumeAt s (w .packets) w in stateAt (u .slot) (u .transaction))
@@ -142,15 +142,15 @@ module _ {Fine : Fate → Type 0} {R : Ledger → Ledger → Type 0} (r : Steps 
       same Current = refl
       same Suspended = refl
 
-      status-same : j .status ≡ statusIn p w
-      status-same = ap (λ (t : Transaction). transactionStatus t p .status) (same (w .slot))
+      status-same : j .status ≡ statusIn high p w
+      status-same = ap (λ (t : Transaction). transactionStatus high t p .status) (same (w .slot))
 
-      by : (b : Bool) → ((not b && isEarning (statusIn p w)) ≡ true → Used true) → R l (pick b (enter (w .packets) p (Passed Dropped 0) (passHeld Forgotten w l)) (turnFrom (w .packets) p (resumeAt (w .slot) (w .packets) v) l))
-      by true y = enter-steps (w .packets) p (Passed Dropped 0) (r .passes Dropped 0) l (passHeld Forgotten w l) (pass-steps Forgotten w l)
-      by false y = by-steps fails (j .status) (λ h. y (sym (ap isEarning status-same) ∙ h)) (w .packets) (j .pid) p (completes (t .style) (j .status)) (resumeAt (w .slot) (w .packets) v) l
+      by : (b : Bool) → ((not b && isEarning (statusIn high p w)) ≡ true → Used true) → R l (pick b (enter high (w .packets) p (Passed Dropped 0) (passHeld Forgotten w l)) (turnFrom high (w .packets) p (resumeAt (w .slot) (w .packets) v) l))
+      by true y = enter-steps high (w .packets) p (Passed Dropped 0) (r .passes Dropped 0) l (passHeld Forgotten w l) (pass-steps Forgotten w l)
+      by false y = by-steps high fails (j .status) (λ h. y (sym (ap isEarning status-same) ∙ h)) (w .packets) (j .pid) p (completes (t .style) (j .status)) (resumeAt (w .slot) (w .packets) v) l
 
-  call-steps : Used false → (k : Call) (w : World) → (earns k w ≡ true → Used true) → (l : Ledger) → R l (turns k w l)
-  call-steps fails (packet p time shelf) w earning l = packet-steps fails p time (withShelf shelf w) (λ h. earning (shelved h)) l
+  call-steps : (high : Bool) → Used false → (k : Call) (w : World) → (earns high k w ≡ true → Used true) → (l : Ledger) → R l (turns high k w l)
+  call-steps high fails (packet p time shelf) w earning l = packet-steps high fails p time (withShelf shelf w) (λ h. earning (shelved h)) l
     where
       -- nor is the shelf
       same : (s : Slot) → (let u = resumeAt s (w .packets) (withShelf shelf w) in stateAt (u .slot) (u .transaction)) ≡ (let u = resumeAt s (w .packets) w in stateAt (u .slot) (u .transaction))
@@ -158,9 +158,9 @@ module _ {Fine : Fate → Type 0} {R : Ledger → Ledger → Type 0} (r : Steps 
       same Current = refl
       same Suspended = refl
 
-      shelved : (not (isDropped (w .slot) (w .transaction)) && isEarning (statusIn p (withShelf shelf w))) ≡ true → (not (isDropped (w .slot) (w .transaction)) && isEarning (statusIn p w)) ≡ true
-      shelved h = ap (λ (t : Transaction). not (isDropped (w .slot) (w .transaction)) && isEarning (transactionStatus t p .status)) (sym (same (w .slot))) ∙ h
-  call-steps fails (event kind code time) w earning l = by (eqb kind 0)
+      shelved : (not (isDropped (w .slot) (w .transaction)) && isEarning (statusIn high p (withShelf shelf w))) ≡ true → (not (isDropped (w .slot) (w .transaction)) && isEarning (statusIn high p w)) ≡ true
+      shelved h = ap (λ (t : Transaction). not (isDropped (w .slot) (w .transaction)) && isEarning (transactionStatus high t p .status)) (sym (same (w .slot))) ∙ h
+  call-steps high fails (event kind code time) w earning l = by (eqb kind 0)
     where
       at : (s : Slot) → R l (suspends s w l)
       at Empty = r .still l
@@ -170,8 +170,8 @@ module _ {Fine : Fate → Type 0} {R : Ledger → Ledger → Type 0} (r : Steps 
       by : (b : Bool) → R l (pick b (suspends (w .slot) w l) (ends false false w l))
       by true = at (w .slot)
       by false = ends-steps false fails false w l l (r .still l)
-  call-steps fails (detail address number direction kind max) w earning l = r .still l
-  call-steps fails finishing w earning l = ends-steps false fails false w l l (r .still l)
+  call-steps high fails (detail address number direction kind max) w earning l = r .still l
+  call-steps high fails finishing w earning l = ends-steps false fails false w l l (r .still l)
 
 -- ---- when a payload is counted
 
@@ -208,9 +208,9 @@ failed x why (Request m) known n h e = refl
 failed x why (PendingData m) known n h e = refl
 failed x why (IndexData m waited i) known n h e = absurd (true≢false (sym (h .0)))
 
-earned : (k : Call) (w : World) (l : Ledger) → earns k w ≡ false → SameCounted l (turns k w l)
-earned k w l h =
-    call-steps counted-steps
+earned : (high : Bool) (k : Call) (w : World) (l : Ledger) → earns high k w ≡ false → SameCounted l (turns high k w l)
+earned high k w l h =
+    call-steps counted-steps high
     (λ x why complete v. failed x why (grouped x false complete v .effect) (payloadOf (v .endpoints x) (v .transaction) .known) (payloadOf (v .endpoints x) (v .transaction) .len) (group-feeds (v .endpoints x) (v .transaction) (detailOf x v) false complete))
     k w (λ q. absurd (true≢false (sym q ∙ h))) l
 
@@ -239,10 +239,10 @@ settled-steps =
       passes = λ why x. tt;
     }
 
-settled : (k : Call) (w : World) (l : Ledger) → Keeps l (turns k w l)
-settled k w l = call-steps settled-steps (λ x why complete v. tt) k w (λ h x why complete v. tt) l
+settled : (high : Bool) (k : Call) (w : World) (l : Ledger) → Keeps l (turns high k w l)
+settled high k w l = call-steps settled-steps high (λ x why complete v. tt) k w (λ h x why complete v. tt) l
 
 -- ---- the laws
 
-pub laws : Laws
-laws = record { account = call-account; entered-by = call-entered; earned = earned; settled = settled }
+pub laws : (high : Bool) → Laws high
+laws high = record { account = call-account high; entered-by = call-entered high; earned = earned high; settled = settled high }

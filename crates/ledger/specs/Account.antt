@@ -112,11 +112,11 @@ abbrev pub entered : Ledger → List (ℕ × ℕ)
 entered [] = []
 entered (a ∷ l) = (a .packet, a .length) ∷ entered l
 
-abbrev pub enters : Call → ℕ → List (ℕ × ℕ) → List (ℕ × ℕ)
-enters (packet p time shelf) n ps = pick (isData p) ((n, length p - 3) ∷ ps) ps
-enters (event kind code time) n ps = ps
-enters (detail address number direction kind max) n ps = ps
-enters finishing n ps = ps
+abbrev pub enters : Bool → Call → ℕ → List (ℕ × ℕ) → List (ℕ × ℕ)
+enters high (packet p time shelf) n ps = pick (isData high p) ((n, length p - 3) ∷ ps) ps
+enters high (event kind code time) n ps = ps
+enters high (detail address number direction kind max) n ps = ps
+enters high finishing n ps = ps
 
 -- ---- of a call, on every world where the special endpoints stand and the transaction is on one that is there
 
@@ -140,15 +140,15 @@ isEarning Ambiguous = false
 isEarning Invalid = false
 
 -- what a packet is to the transaction; a suspended one is resumed first
-abbrev pub statusIn : List ℕ → World → Status
-statusIn p w = let v = resumeAt (w .slot) (w .packets) w in transactionStatus (stateAt (v .slot) (v .transaction)) p .status
+abbrev pub statusIn : Bool → List ℕ → World → Status
+statusIn high p w = let v = resumeAt (w .slot) (w .packets) w in transactionStatus high (stateAt (v .slot) (v .transaction)) p .status
 
 -- a packet that is Done or Retry, where it is not answered 8
-abbrev pub earns : Call → World → Bool
-earns (packet p time shelf) w = not (isDropped (w .slot) (w .transaction)) && isEarning (statusIn p w)
-earns (event kind code time) w = false
-earns (detail address number direction kind max) w = false
-earns finishing w = false
+abbrev pub earns : Bool → Call → World → Bool
+earns high (packet p time shelf) w = not (isDropped (w .slot) (w .transaction)) && isEarning (statusIn high p w)
+earns high (event kind code time) w = false
+earns high (detail address number direction kind max) w = false
+earns high finishing w = false
 
 abbrev pub isSettled : Fate → Bool
 isSettled Held = false
@@ -162,11 +162,11 @@ Among a (b ∷ l) = (a ≡ b) ⊎ Among a l
 
 -- ---- the laws
 
-pub record Laws : Type 0 where
-  pub account : (k : Call) (js : List Row) (w : World) (l : Ledger) → Stands w → Inside w → Account (view js w) l → Account (view js (call k w)) (turns k w l)
+pub record Laws (high : Bool) : Type 0 where
+  pub account : (k : Call) (js : List Row) (w : World) (l : Ledger) → Stands w → Inside w → Account (view js w) l → Account (view js (call high k w)) (turns high k w l)
   -- each data packet has one line, and no other packet has one
-  pub entered-by : (k : Call) (w : World) (l : Ledger) → entered (turns k w l) ≡ enters k (w .packets) (entered l)
+  pub entered-by : (k : Call) (w : World) (l : Ledger) → entered (turns high k w l) ≡ enters high k (w .packets) (entered l)
   -- "it counts when the handshake says so": by no other call is a payload counted
-  pub earned : (k : Call) (w : World) (l : Ledger) → earns k w ≡ false → (e : ℕ) → lengthsOf (isCounted e) (turns k w l) ≡ lengthsOf (isCounted e) l
+  pub earned : (k : Call) (w : World) (l : Ledger) → earns high k w ≡ false → (e : ℕ) → lengthsOf (isCounted e) (turns high k w l) ≡ lengthsOf (isCounted e) l
   -- what is settled stays
-  pub settled : (k : Call) (w : World) (l : Ledger) (a : Line) → isSettled (a .fate) ≡ true → Among a l → Among a (turns k w l)
+  pub settled : (k : Call) (w : World) (l : Ledger) (a : Line) → isSettled (a .fate) ≡ true → Among a l → Among a (turns high k w l)

@@ -7,10 +7,10 @@ use Prim.Native.Nat.{ℕ, _+_, _-_}
 use lib.Dec.{eqb}
 use lib.ListN.{length}
 use Rattle.usb.specs.Packet.{reasonOf, checkedOf}
-use Rattle.usb.specs.Pid.{DATA0, DATA1}
 use Rattle.usb.specs.declared.Checked.{Checked}
 use Rattle.usb.specs.declared.Checked.the-variants.{Valid, Malformed}
-use Rattle.transaction.specs.Table.{pick, only, _or_}
+use Rattle.transaction.specs.Table.{pick}
+use Rattle.transaction.specs.Payload.{yields}
 use Rattle.transaction.specs.Status.{transactionStatus}
 use Rattle.transaction.specs.declared.Status.{Status}
 use Rattle.transaction.specs.declared.Status.the-variants.{New, Continue, Retry, Done, Fail, Ambiguous, Invalid}
@@ -90,17 +90,17 @@ abbrev pub running : ℕ → List ℕ → List ℕ
 running before [] = []
 running before (n ∷ ns) = before ∷ running (before + n) ns
 
--- "valid DATA0 and DATA1 packets"
-abbrev pub yields : Checked → Bool
-yields (Valid pid) = (DATA0 or only DATA1) pid
-yields (Malformed reason) = false
+-- "valid DATA0 and DATA1 packets"; "In the mode of 6) the packets are those that yield payloads there": valid DATA2 and MDATA packets besides
+abbrev pub dataIn : Bool → Checked → Bool
+dataIn high (Valid pid) = yields high pid
+dataIn high (Malformed reason) = false
 
-abbrev pub isData : List ℕ → Bool
-isData p = yields (checkedOf p)
+abbrev pub isData : Bool → List ℕ → Bool
+isData high p = dataIn high (checkedOf p)
 
 -- a data packet in row n has a line; its payload is all but the PID and the CRC
-abbrev pub enter : ℕ → List ℕ → Fate → Ledger → Ledger
-enter n p f l = pick (isData p) (record { packet = n; length = length p - 3; fate = f } ∷ l) l
+abbrev pub enter : Bool → ℕ → List ℕ → Fate → Ledger → Ledger
+enter high n p f l = pick (isData high p) (record { packet = n; length = length p - 3; fate = f } ∷ l) l
 
 -- what was one of these becomes f
 abbrev pub turn : (Fate → Bool) → Fate → Ledger → Ledger
@@ -140,34 +140,35 @@ ends success complete w = endBy (w .slot) success complete w
 -- ---- transaction_update, packet row n
 
 -- extract_payload: a payload is held, in the place of one that was; "the 8 bytes of a SETUP's DATA0" are passed over
-abbrev pub takes : ℕ → ℕ → List ℕ → World → Ledger → Ledger
-takes n pid p w l =
-    pick (isPayload (w .transaction .style) pid) (l ▷ passHeld Replaced w ▷ enter n p Held) (l ▷ enter n p (Passed Setup (w .transaction .endpoint)))
+abbrev pub takes : Bool → ℕ → ℕ → List ℕ → World → Ledger → Ledger
+takes high n pid p w l =
+    pick (isPayload high (w .transaction .style) pid) (l ▷ passHeld Replaced w ▷ enter high n p Held)
+    (l ▷ enter high n p (Passed Setup (w .transaction .endpoint)))
 
 -- 01: "New ends the old transaction, Invalid overwrites it without ending it. Success and complete are set as there"
-abbrev pub turnBy : Status → ℕ → ℕ → List ℕ → Bool → World → Ledger → Ledger
-turnBy New n pid p complete w l = l ▷ takes n pid p w ▷ ends false false (w ▷ brought pid p)
-turnBy Continue n pid p complete w l = l ▷ takes n pid p w
-turnBy Retry n pid p complete w l = l ▷ takes n pid p w ▷ ends true complete (w ▷ extracted pid p ▷ transactionAppend pid p)
-turnBy Done n pid p complete w l = l ▷ takes n pid p w ▷ ends true complete (w ▷ extracted pid p ▷ transactionAppend pid p)
-turnBy Fail n pid p complete w l = l ▷ takes n pid p w ▷ ends false complete (w ▷ extracted pid p ▷ transactionAppend pid p)
-turnBy Ambiguous n pid p complete w l = l ▷ takes n pid p w
-turnBy Invalid n pid p complete w l = l ▷ passHeld Replaced w ▷ enter n p (Passed Stray 0) ▷ ends false false (w ▷ transactionStart n pid p)
+abbrev pub turnBy : Bool → Status → ℕ → ℕ → List ℕ → Bool → World → Ledger → Ledger
+turnBy high New n pid p complete w l = l ▷ takes high n pid p w ▷ ends false false (w ▷ brought high pid p)
+turnBy high Continue n pid p complete w l = l ▷ takes high n pid p w
+turnBy high Retry n pid p complete w l = l ▷ takes high n pid p w ▷ ends true complete (w ▷ extracted high pid p ▷ transactionAppend pid p)
+turnBy high Done n pid p complete w l = l ▷ takes high n pid p w ▷ ends true complete (w ▷ extracted high pid p ▷ transactionAppend pid p)
+turnBy high Fail n pid p complete w l = l ▷ takes high n pid p w ▷ ends false complete (w ▷ extracted high pid p ▷ transactionAppend pid p)
+turnBy high Ambiguous n pid p complete w l = l ▷ takes high n pid p w
+turnBy high Invalid n pid p complete w l = l ▷ passHeld Replaced w ▷ enter high n p (Passed Stray 0) ▷ ends false false (w ▷ transactionStart n pid p)
 
-abbrev pub turnFrom : ℕ → List ℕ → World → Ledger → Ledger
-turnFrom n p w l =
+abbrev pub turnFrom : Bool → ℕ → List ℕ → World → Ledger → Ledger
+turnFrom high n p w l =
     let t = stateAt (w .slot) (w .transaction) in
-    let j = transactionStatus t p in
-    turnBy (j .status) n (j .pid) p (completes (t .style) (j .status)) w l
+    let j = transactionStatus high t p in
+    turnBy high (j .status) n (j .pid) p (completes (t .style) (j .status)) w l
 
 -- ---- each call that is accepted, on the world before it
 
 -- 01, answer 8: "the suspended transaction is dropped"; else a suspended one is resumed
-unfoldable pub packetTurns : List ℕ → ℕ → World → Ledger → Ledger
-packetTurns p time w l =
+unfoldable pub packetTurns : Bool → List ℕ → ℕ → World → Ledger → Ledger
+packetTurns high p time w l =
     let v = w ▷ stamped time (reasonOf p) ▷ withEventState Idle ▷ appendBytes p ▷ pushPacket (w .bytes) time in
-    pick (isDropped (w .slot) (w .transaction)) (l ▷ passHeld Forgotten w ▷ enter (w .packets) p (Passed Dropped 0))
-    (turnFrom (w .packets) p (resumeAt (w .slot) (w .packets) v) l)
+    pick (isDropped (w .slot) (w .transaction)) (l ▷ passHeld Forgotten w ▷ enter high (w .packets) p (Passed Dropped 0))
+    (turnFrom high (w .packets) p (resumeAt (w .slot) (w .packets) v) l)
 
 -- a keepalive suspends what is current, and forgets what was suspended
 abbrev pub suspends : Slot → World → Ledger → Ledger
@@ -176,8 +177,8 @@ suspends Current w l = l
 suspends Suspended w l = l ▷ passHeld Forgotten w
 
 -- 01: "All kinds but 0 end the current transaction with success and complete false", and so does finish; a detail has no payload
-abbrev pub turns : Call → World → Ledger → Ledger
-turns (packet p time shelf) w l = packetTurns p time (withShelf shelf w) l
-turns (event kind code time) w l = pick (eqb kind LsKeepalive) (suspends (w .slot) w l) (ends false false w l)
-turns (detail address number direction kind max) w l = l
-turns finishing w l = ends false false w l
+abbrev pub turns : Bool → Call → World → Ledger → Ledger
+turns high (packet p time shelf) w l = packetTurns high p time (withShelf shelf w) l
+turns high (event kind code time) w l = pick (eqb kind LsKeepalive) (suspends (w .slot) w l) (ends false false w l)
+turns high (detail address number direction kind max) w l = l
+turns high finishing w l = ends false false w l

@@ -2,6 +2,7 @@
 -- Assumes nothing.
 use Prim.Native.Nat.{ℕ, zero, suc, _+_, _*_, _≤_, _<_}
 use native.Mathlib.Omega.{arith}
+use mathlib.Core.Bool.{Bool}
 use mathlib.Core.List.{List, _++_}
 use mathlib.Core.Path.{_≡_, refl, sym, ap, subst}
 use lib.ListN.{length, replicate, length-append, length-replicate}
@@ -42,7 +43,7 @@ shown-fits : (a p k : ℕ) (n : Counts) (l l₀ : Logs) → (a ≡ 0 → Within 
 shown-fits zero p k n l l₀ h = omega (arith, length-append (listing n l) (detailsLine k), listing-fits n l, details-fits k, rows-within n (roomOf l₀) (h refl))
 shown-fits (suc a) p k n l l₀ h = omega (arith, refused-fits (suc a) p)
 
-module _ {trace t : List ℕ} {l : Logs} {h : List ℕ} {a p : ℕ} {q : Stand} (ran : Ran trace t l h a p q) {k : ℕ} (e : k ≡ detailsOf trace) where
+module _ {high : Bool} {trace t : List ℕ} {l : Logs} {h : List ℕ} {a p : ℕ} {q : Stand} (ran : Ran high trace t l h a p q) {k : ℕ} (e : k ≡ detailsOf trace) where
   abbrev s : State
   s = q .state
 
@@ -58,7 +59,7 @@ module _ {trace t : List ℕ} {l : Logs} {h : List ℕ} {a p : ℕ} {q : Stand} 
       {before after : List ℕ} {end : ℕ}
       → Room before 0 (shown a p k (s .decoder .counts) (listed (s .logs)))
       → Appended before 0 (shown a p k (s .decoder .counts) (listed (s .logs))) after end
-      → Shows trace t l h before after end
+      → Shows high trace t l h before after end
   shows {before} {after} {end} r x =
       record {
         answer = a;
@@ -82,14 +83,14 @@ unfolding roomBy
 own-room = refl
 
 pub too-long :
-    {trace before after : List ℕ} {end : ℕ}
+    {high : Bool} {trace before after : List ℕ} {end : ℕ}
     → mostInput < length trace
     → textRoom noRows ≤ length before
     → Appended before 0 tooLong after end
-    → Printed trace before after end
+    → Printed high trace before after end
 too-long h r x = record { text = tooLong; prints = Prints.long h; appended = x; within = omega (arith, own-room, x .place) }
 
-pub printed : {trace before after : List ℕ} {end : ℕ} → length trace ≤ mostInput → Shows trace noTable noRows noShelf before after end → Printed trace before after end
+pub printed : {high : Bool} {trace before after : List ℕ} {end : ℕ} → length trace ≤ mostInput → Shows high trace noTable noRows noShelf before after end → Printed high trace before after end
 printed {trace} h x =
     record {
       text = shown (x .answer) (x .place) (detailsOf trace) (x .final .state .decoder .counts) (x .final .state .logs);

@@ -2,6 +2,7 @@
 -- Assumes nothing.
 -- Hold it to: 01, "Trace and listing": `refused N at B`, `too long`; 02, 13: "one last line, `details N`"; docs/SIZES.md
 use Prim.Native.Nat.{ℕ, zero, suc, _+_, _*_, _≤_, _<_}
+use mathlib.Core.Bool.{Bool}
 use mathlib.Core.List.{List, _++_}
 use lib.ListN.{length, replicate}
 use Rattle.endpoints.specs.Word as word
@@ -38,16 +39,16 @@ abbrev pub shown : ℕ → ℕ → ℕ → Counts → Logs → List ℕ
 shown zero place details n l = listing n l ++ detailsLine details
 shown (suc a) place details n l = refusedLine (suc a) place
 
--- "Input longer than the program's buffer prints only `too long`"
-pub data Prints (trace : List ℕ) : List ℕ → Type 0 where
-  long : mostInput < length trace → Prints trace tooLong
-  runs : {answer place : ℕ} {s : Stand} → length trace ≤ mostInput → Ran trace noTable noRows noShelf answer place s
-      → Prints trace (shown answer place (detailsOf trace) (s .state .decoder .counts) (s .state .logs))
+-- in the mode of 02, 6, or without it: a trace has no mark for it. "Input longer than the program's buffer prints only `too long`"
+pub data Prints (high : Bool) (trace : List ℕ) : List ℕ → Type 0 where
+  long : mostInput < length trace → Prints high trace tooLong
+  runs : {answer place : ℕ} {s : Stand} → length trace ≤ mostInput → Ran high trace noTable noRows noShelf answer place s
+      → Prints high trace (shown answer place (detailsOf trace) (s .state .decoder .counts) (s .state .logs))
 
 -- the text is in the buffer, and the result is its length
-pub record Printed (trace before after : List ℕ) (end : ℕ) : Type 0 where
+pub record Printed (high : Bool) (trace before after : List ℕ) (end : ℕ) : Type 0 where
   pub text : List ℕ
-  pub prints : Prints trace text
+  pub prints : Prints high trace text
   pub appended : Appended before 0 text after end
   pub within : end ≤ length before
 

@@ -35,11 +35,11 @@ use Rattle.run.specs.RunLaws.{Same, run-unique}
 use Rattle.listing.specs.Prints.{mostInput, shown, Prints, textRoom}
 
 -- 01: "any two permitted outcomes coincide"
-pub prints-unique : {trace x y : List ℕ} → Prints trace x → Prints trace y → x ≡ y
+pub prints-unique : {high : Bool} {trace x y : List ℕ} → Prints high trace x → Prints high trace y → x ≡ y
 prints-unique (Prints.long h) (Prints.long k) = refl
 prints-unique (Prints.long h) (Prints.runs k r) = absurd (omega arith)
 prints-unique (Prints.runs h q) (Prints.long k) = absurd (omega arith)
-prints-unique {trace} (Prints.runs h q) (Prints.runs k r) = let e = run-unique q r in λ i. shown (e .answer i) (e .place i) (detailsOf trace) (e .final i .state .decoder .counts) (e .final i .state .logs)
+prints-unique {trace = trace} (Prints.runs h q) (Prints.runs k r) = let e = run-unique q r in λ i. shown (e .answer i) (e .place i) (detailsOf trace) (e .final i .state .decoder .counts) (e .final i .state .logs)
 
 -- ---- a run that finished
 
@@ -80,11 +80,11 @@ runs-within z (Runs.ends x f) e = finish-within (takes-whole x z) f e
 runs-within z (Runs.stops x h) e = absurd (h e)
 
 -- a fresh decoder has given back none
-made-whole : (v : List Device) (t : List ℕ) (l : Logs) → Whole (made v t l)
+made-whole : (high : Bool) (v : List Device) (t : List ℕ) (l : Logs) → Whole (made high v t l)
 unfolding made
-made-whole v t l = fresh-first t
+made-whole high v t l = fresh-first t
 
-pub ran-within : {trace t : List ℕ} {l : Logs} {h : List ℕ} {a p : ℕ} {s : Stand} → Ran trace t l h a p s → a ≡ 0 → Within (s .state .decoder .counts) (roomOf (s .state .logs))
+pub ran-within : {high : Bool} {trace t : List ℕ} {l : Logs} {h : List ℕ} {a p : ℕ} {s : Stand} → Ran high trace t l h a p s → a ≡ 0 → Within (s .state .decoder .counts) (roomOf (s .state .logs))
 ran-within (Ran.wrong h) e = absurd (h e)
 ran-within (Ran.refused h m n) e = absurd (n e)
-ran-within {t = t} {l} (Ran.runs h m r) e = runs-within (subst Whole (sym (m .accepted refl)) (made-whole noDevices t l)) r e
+ran-within {high} {t = t} {l} (Ran.runs h m r) e = runs-within (subst Whole (sym (m .accepted refl)) (made-whole high noDevices t l)) r e

@@ -1,4 +1,5 @@
 // The program `listing` (01, "Trace and listing"): reads a trace from standard input, and writes its rows, or the line that refuses it, to standard output.
+// Started with `--high` it decodes in the mode for high-bandwidth isochronous data (02, change request 6).
 use endpoints::Table;
 use endpoints::word;
 use libc::STDERR_FILENO;
@@ -68,6 +69,7 @@ fn report(
 
 // The text of a trace that is run on the lent table, logs and shelf; gives its length.
 fn show(
+    high: bool,
     trace: &[u8],
     table: &mut Table,
     bytes: &mut [u8],
@@ -86,9 +88,10 @@ fn show(
     out: &mut [u8],
 ) -> usize
     requires { ⌜ textRoom (logs (now bytes) (now «device_rows») (now «endpoint_rows») (now packets) (now events) (now transactions) (now groups) (now statebytes) (now states) (now items) (now links) (now requests)) ≤ length (now out) ⌝ }
-    ensures { λ r. ⌜ Shows (now (trace .entry)) (now (table .entry)) (logs (now (bytes .entry)) (now («device_rows» .entry)) (now («endpoint_rows» .entry)) (now (packets .entry)) (now (events .entry)) (now (transactions .entry)) (now (groups .entry)) (now (statebytes .entry)) (now (states .entry)) (now (items .entry)) (now (links .entry)) (now (requests .entry))) (now (shelf .entry)) (now (out .entry)) (now (out .exit)) r ⌝ }
+    ensures { λ r. ⌜ Shows high (now (trace .entry)) (now (table .entry)) (logs (now (bytes .entry)) (now («device_rows» .entry)) (now («endpoint_rows» .entry)) (now (packets .entry)) (now (events .entry)) (now (transactions .entry)) (now (groups .entry)) (now (statebytes .entry)) (now (states .entry)) (now (items .entry)) (now (links .entry)) (now (requests .entry))) (now (shelf .entry)) (now (out .entry)) (now (out .exit)) r ⌝ }
 {
     let r = run(
+        high,
         trace,
         table,
         bytes,
@@ -128,9 +131,9 @@ fn show(
 }
 
 // What is printed for this trace; gives its length.
-fn print(trace: &[u8], out: &mut [u8]) -> usize
+fn print(high: bool, trace: &[u8], out: &mut [u8]) -> usize
     requires { ⌜ textRoom noRows ≤ length (now out) ⌝ }
-    ensures { λ r. ⌜ Printed (now (trace .entry)) (now (out .entry)) (now (out .exit)) r ⌝ }
+    ensures { λ r. ⌜ Printed high (now (trace .entry)) (now (out .entry)) (now (out .exit)) r ⌝ }
 {
     if INPUT < trace.len() {
         return text::too_long_line(out, 0);
@@ -150,6 +153,7 @@ fn print(trace: &[u8], out: &mut [u8]) -> usize
     let mut requests = [0u64; 256];
     let mut shelf = [0u8; 524288];
     show(
+        high,
         trace,
         &mut table,
         &mut bytes,
@@ -199,7 +203,19 @@ fn fail(line: &[u8]) {
     io::write_all(STDERR_FILENO, line);
 }
 
+// Whether `--high` is the one argument that the program was started with. A longer one gives the length 0.
+fn is_high() -> bool {
+    let mut first = [0u8; 6];
+    let n = os::arg(1, &mut first);
+    (os::arg_count() == 2) & check::same(&first[..n], b"--high")
+}
+
 fn main() {
+    let high = is_high();
+    if !high & (1 < os::arg_count()) {
+        fail(b"usage: listing [--high] < TRACE.utl\n");
+        return;
+    }
     // One byte more tells that the trace is too long.
     let mut input = [0u8; INPUT + 1];
     let read = read_input(&mut input);
@@ -208,7 +224,7 @@ fn main() {
         return;
     }
     let mut out = [0u8; TEXT];
-    let end = print(&input[..read.len], &mut out);
+    let end = print(high, &input[..read.len], &mut out);
     if !io::write_all(STDOUT_FILENO, &out[..end]) {
         fail(b"listing: standard output could not be written\n");
     }

@@ -55,7 +55,7 @@ module _ {js : List Row} {s : State} (q : Sequence js s) (k : Call) (a : ℕ) (s
   read e i =
       let m = moved k s a s′ d e in
       let r = kept q .rules in
-      bytes-are (call k (worldAt s) .journal ++ js) s′ (kept-then m (kept q) .told) i ∙ λ j. packetBytes i (s′ .decoder .counts .packets) (rows-left m r (keeps q) j) (data-left m r (keeps q) j)
+      bytes-are (call (s .decoder .high) k (worldAt s) .journal ++ js) s′ (kept-then m (kept q) .told) i ∙ λ j. packetBytes i (s′ .decoder .counts .packets) (rows-left m r (keeps q) j) (data-left m r (keeps q) j)
 
   number : accepts a ≡ true → s′ .decoder .counts .packets * 2 ≡ s .decoder .counts .packets * 2 + length (rowBy k (length (log 0 js)))
   number e = number-left (moved k s a s′ d e) (kept q .rules) (keeps q)
@@ -114,17 +114,17 @@ none-over zero w h = refl
 none-over (suc n) w h = rw (le-ltb 18446744073709551615 (w .endpoints n .total) (h n (omega arith))) (none-over n w (λ e l. h e (omega arith)))
 
 module _ (k : Call) {s : State} {js : List Row} {l : Ledger} (r : Sound js (worldAt s)) (h : Keeps js s l) where
-  total-small : (e : ℕ) → e < call k (worldAt s) .count → call k (worldAt s) .endpoints e .total ≤ call k (worldAt s) .bytes
+  total-small : (e : ℕ) → e < call (s .decoder .high) k (worldAt s) .count → call (s .decoder .high) k (worldAt s) .endpoints e .total ≤ call (s .decoder .high) k (worldAt s) .bytes
   total-small e q =
-      let t = rw (lt-ltb e (call k (worldAt s) .count) q) at (account-after k r h .total e) in
-      omega (arith, t, part (isCounted e) (turns k (worldAt s) l), small-after k r h)
+      let t = rw (lt-ltb e (call (s .decoder .high) k (worldAt s) .count) q) at (account-after k r h .total e) in
+      omega (arith, t, part (isCounted e) (turns (s .decoder .high) k (worldAt s) l), small-after k r h)
 
   -- where there is room, no total is too great
-  not-over : isFull s (call k (worldAt s)) ≡ false → isOver (call k (worldAt s)) ≡ false
+  not-over : isFull s (call (s .decoder .high) k (worldAt s)) ≡ false → isOver (call (s .decoder .high) k (worldAt s)) ≡ false
   unfolding isOver countsAfter
   not-over f =
-      let n = room-left s (call k (worldAt s)) f .numbered .bytes in
-      none-over (call k (worldAt s) .count) (call k (worldAt s)) (λ e q. omega (arith, total-small e q))
+      let n = room-left s (call (s .decoder .high) k (worldAt s)) f .numbered .bytes in
+      none-over (call (s .decoder .high) k (worldAt s) .count) (call (s .decoder .high) k (worldAt s)) (λ e q. omega (arith, total-small e q))
 
 over-of : (k : Call) {s : State} {js : List Row} {l : Ledger} → Sound js (worldAt s) → Keeps js s l → testsFor k s .full ≡ false → testsFor k s .over ≡ false
 over-of (packet p time shelf) r h f = not-over (packet p time shelf) r h f
@@ -144,25 +144,25 @@ dropped-earns true z h = refl
 dropped-earns false z h = absurd (true≢false (sym h))
 
 -- an answer 8 earns nothing
-eight : (k : Call) (s : State) → testsFor k s .dropped ≡ true → earns k (worldAt s) ≡ false
-eight (packet p time shelf) s h = dropped-earns (isDropped (s .decoder .slot) (s .decoder .transaction)) (isEarning (statusIn p (worldAt s))) h
+eight : (k : Call) (s : State) → testsFor k s .dropped ≡ true → earns (s .decoder .high) k (worldAt s) ≡ false
+eight (packet p time shelf) s h = dropped-earns (isDropped (s .decoder .slot) (s .decoder .transaction)) (isEarning (statusIn (s .decoder .high) p (worldAt s))) h
 eight (event kind code time) s h = refl
 eight (detail address number direction kind max) s h = refl
 eight finishing s h = refl
 
-earned : {js : List Row} {s : State} (q : Sequence js s) (k : Call) (a : ℕ) (s′ : State) (d : Does k s a s′) → (eqb a 0 && earns k (worldAt s)) ≡ false
+earned : {js : List Row} {s : State} (q : Sequence js s) (k : Call) (a : ℕ) (s′ : State) (d : Does k s a s′) → (eqb a 0 && earns (s .decoder .high) k (worldAt s)) ≡ false
     → (e : ℕ) → lengthsOf (isCounted e) (ledgerOf (then k a s′ q d)) ≡ lengthsOf (isCounted e) (ledgerOf q)
 earned {s = s} q k a s′ d h e = by (accepts a) (λ b. which (eqb a 0) (eqb a 8) refl b h)
   where
-    which : (x y : Bool) → eqb a 8 ≡ y → (x || y) ≡ true → (x && earns k (worldAt s)) ≡ false → earns k (worldAt s) ≡ false
+    which : (x y : Bool) → eqb a 8 ≡ y → (x || y) ≡ true → (x && earns (s .decoder .high) k (worldAt s)) ≡ false → earns (s .decoder .high) k (worldAt s) ≡ false
     which true y p b z = z
     which false true p b z =
         let t = late (testsFor k s) 8 (omega arith) (sym (answers k s a s′ d .answer) ∙ eqb-true a 8 p) in
         eight k s (is-8 (testsFor k s .over) (testsFor k s .dropped) (t .1))
     which false false p b z = absurd (true≢false (sym b))
 
-    by : (b : Bool) → (b ≡ true → earns k (worldAt s) ≡ false) → lengthsOf (isCounted e) (pick b (turns k (worldAt s) (ledgerOf q)) (ledgerOf q)) ≡ lengthsOf (isCounted e) (ledgerOf q)
-    by true z = laws .earned k (worldAt s) (ledgerOf q) (z refl) e
+    by : (b : Bool) → (b ≡ true → earns (s .decoder .high) k (worldAt s) ≡ false) → lengthsOf (isCounted e) (pick b (turns (s .decoder .high) k (worldAt s) (ledgerOf q)) (ledgerOf q)) ≡ lengthsOf (isCounted e) (ledgerOf q)
+    by true z = laws (s .decoder .high) .earned k (worldAt s) (ledgerOf q) (z refl) e
     by false z = refl
 
 -- ---- what is settled stays
@@ -171,8 +171,8 @@ counted-after : {js : List Row} {s : State} (q : Sequence js s) (k : Call) (a : 
     → Among b (ledgerOf q) → Among b (ledgerOf (then k a s′ q d))
 counted-after {s = s} q k a s′ d b z h = by (accepts a)
   where
-    by : (c : Bool) → Among b (pick c (turns k (worldAt s) (ledgerOf q)) (ledgerOf q))
-    by true = laws .settled k (worldAt s) (ledgerOf q) b z h
+    by : (c : Bool) → Among b (pick c (turns (s .decoder .high) k (worldAt s) (ledgerOf q)) (ledgerOf q))
+    by true = laws (s .decoder .high) .settled k (worldAt s) (ledgerOf q) b z h
     by false = h
 
 pub follows : Follows

@@ -22,6 +22,7 @@ use Rattle.rules.specs.declared.Slot.the-variants.{Empty, Current, Suspended}
 use Rattle.rules.proofs.Counted.{Counted, counts, log-words, log-behind}
 use Rattle.rules.proofs.Demand.{Sound}
 use Rattle.record.specs.declared.Counts.{Counts}
+use Rattle.record.specs.declared.Decoder.{Decoder}
 use Rattle.call.specs.Outcome.{countsAfter, decoderOf, accepts, worldAt}
 use Rattle.call.specs.State.{Logs, State}
 use Rattle.start.specs.Fresh.{Makes}
@@ -42,26 +43,26 @@ use Rattle.once.proofs.Packets.{Laid, old-packet, new-packet, laid-more
 -- ---- the packet log
 
 -- of n packets the ledger has the data packets
-pub record Packed (n : ℕ) (rows bytes : List ℕ) (ps : List (ℕ × ℕ)) : Type 0 where
+pub record Packed (high : Bool) (n : ℕ) (rows bytes : List ℕ) (ps : List (ℕ × ℕ)) : Type 0 where
   pub laid : Laid n rows bytes
-  pub lines : ps ≡ dataPackets n (λ k. packetBytes k n rows bytes)
+  pub lines : ps ≡ dataPackets high n (λ k. packetBytes k n rows bytes)
 
-module _ (n : ℕ) (rows bytes : List ℕ) (ps : List (ℕ × ℕ)) (h : Packed n rows bytes ps) where
+module _ (high : Bool) (n : ℕ) (rows bytes : List ℕ) (ps : List (ℕ × ℕ)) (h : Packed high n rows bytes ps) where
   -- a row more
-  packed-more : (p : List ℕ) (time : ℕ) → Packed (suc n) (rows ++ (length bytes ∷ time ∷ [])) (bytes ++ p) (pick (isData p) ((n, length p - 3) ∷ ps) ps)
+  packed-more : (p : List ℕ) (time : ℕ) → Packed high (suc n) (rows ++ (length bytes ∷ time ∷ [])) (bytes ++ p) (pick (isData high p) ((n, length p - 3) ∷ ps) ps)
   packed-more p time =
       record {
         laid = laid-more n rows bytes p time (h .laid);
-        lines = ap (λ (qs : List (ℕ × ℕ)). pick (isData p) ((n, length p - 3) ∷ qs) qs) (h .lines)
-            ∙ sym (rw (new-packet n rows bytes p time (h .laid), data-same n (λ k. packetBytes k (suc n) (rows ++ (length bytes ∷ time ∷ [])) (bytes ++ p)) (λ k. packetBytes k n rows bytes) (old-packet n rows bytes p time (h .laid))));
+        lines = ap (λ (qs : List (ℕ × ℕ)). pick (isData high p) ((n, length p - 3) ∷ qs) qs) (h .lines)
+            ∙ sym (rw (new-packet n rows bytes p time (h .laid), data-same high n (λ k. packetBytes k (suc n) (rows ++ (length bytes ∷ time ∷ [])) (bytes ++ p)) (λ k. packetBytes k n rows bytes) (old-packet n rows bytes p time (h .laid))));
       }
 
-  packed-still : Packed n (rows ++ []) (bytes ++ []) ps
+  packed-still : Packed high n (rows ++ []) (bytes ++ []) ps
   packed-still = rw (append-nil rows, append-nil bytes) h
 
-  packed-by : (k : Call) (m : ℕ) → m * 2 ≡ n * 2 + length (rowBy k (length bytes)) → Packed m (rows ++ rowBy k (length bytes)) (bytes ++ bytesBy k) (enters k n ps)
+  packed-by : (k : Call) (m : ℕ) → m * 2 ≡ n * 2 + length (rowBy k (length bytes)) → Packed high m (rows ++ rowBy k (length bytes)) (bytes ++ bytesBy k) (enters high k n ps)
   packed-by (packet p time shelf) m q = let e : m ≡ suc n = omega arith in rw e (packed-more p time)
-  packed-by (event kind code time) m q = let e : m ≡ suc n = omega arith in rw e (rw no-data at (packed-more [] time))
+  packed-by (event kind code time) m q = let e : m ≡ suc n = omega arith in rw e (rw (no-data high) at (packed-more [] time))
   packed-by (detail address number direction kind max) m q = let e : m ≡ n = omega arith in rw e packed-still
   packed-by finishing m q = let e : m ≡ n = omega arith in rw e packed-still
 
@@ -70,7 +71,7 @@ module _ (n : ℕ) (rows bytes : List ℕ) (ps : List (ℕ × ℕ)) (h : Packed 
 pub record Keeps (js : List Row) (s : State) (l : Ledger) : Type 0 where
   pub account : Account (view js (worldAt s)) l
   pub bytes : s .decoder .counts .bytes ≡ length (log 0 js)
-  pub packed : Packed (s .decoder .counts .packets) (log 3 js) (log 0 js) (entered l)
+  pub packed : Packed (s .decoder .high) (s .decoder .counts .packets) (log 3 js) (log 0 js) (entered l)
   -- no more payload than bytes
   pub small : sumAll (entered l) ≤ s .decoder .counts .bytes
 
@@ -86,7 +87,7 @@ fresh-blank e = by (eqb e 2) (eqb e 1) (eqb e 0)
     by false false true = refl
     by false false false = refl
 
-module _ {v : List Device} {t : List ℕ} {l : Logs} {s : State} (hv : length v ≡ 64) (ht : length t ≡ word.table) (m : Makes v t l 0 s) where
+module _ {high : Bool} {v : List Device} {t : List ℕ} {l : Logs} {s : State} (hv : length v ≡ 64) (ht : length t ≡ word.table) (m : Makes high v t l 0 s) where
   entry-made : (e : ℕ) → view (fresh .journal) (worldAt s) .entry e ≡ blank
   entry-made e = by (ltb e (s .decoder .counts .endpoints)) refl
     where
@@ -115,19 +116,19 @@ module _ {v : List Device} {t : List ℕ} {l : Logs} {s : State} (hv : length v 
 
 -- ---- a call, accepted or not: what the rules leave
 
-enters-small : (k : Call) (n : ℕ) (ps : List (ℕ × ℕ)) → sumAll (enters k n ps) ≤ sumAll ps + length (bytesBy k)
-enters-small (packet p time shelf) n ps = by (isData p)
+enters-small : (high : Bool) (k : Call) (n : ℕ) (ps : List (ℕ × ℕ)) → sumAll (enters high k n ps) ≤ sumAll ps + length (bytesBy k)
+enters-small high (packet p time shelf) n ps = by (isData high p)
   where
     by : (b : Bool) → sumAll (pick b ((n, length p - 3) ∷ ps) ps) ≤ sumAll ps + length p
     by true = omega arith
     by false = omega arith
-enters-small (event kind code time) n ps = omega arith
-enters-small (detail address number direction kind max) n ps = omega arith
-enters-small finishing n ps = omega arith
+enters-small high (event kind code time) n ps = omega arith
+enters-small high (detail address number direction kind max) n ps = omega arith
+enters-small high finishing n ps = omega arith
 
 module _ (k : Call) {s : State} {js : List Row} {l : Ledger} (r : Sound js (worldAt s)) (h : Keeps js s l) where
   abbrev pub after : World
-  after = call k (worldAt s)
+  after = call (s .decoder .high) k (worldAt s)
 
   stands : Stands (worldAt s)
   stands = let q = r .keeps 0 .size in (omega (arith, r .three), r .keeps 0 .special refl)
@@ -140,16 +141,16 @@ module _ (k : Call) {s : State} {js : List Row} {l : Ledger} (r : Sound js (worl
   inside Current = within
   inside Suspended = within
 
-  pub account-after : Account (view js after) (turns k (worldAt s) l)
-  account-after = laws .account k js (worldAt s) l stands (inside (s .decoder .slot)) (h .account)
+  pub account-after : Account (view js after) (turns (s .decoder .high) k (worldAt s) l)
+  account-after = laws (s .decoder .high) .account k js (worldAt s) l stands (inside (s .decoder .slot)) (h .account)
 
   grown : Counted (worldAt s) after
-  grown = counts (worldAt s) k (worldAt s) (began s)
+  grown = counts (worldAt s) (s .decoder .high) k (worldAt s) (began s)
 
-  pub small-after : sumAll (entered (turns k (worldAt s) l)) ≤ after .bytes
+  pub small-after : sumAll (entered (turns (s .decoder .high) k (worldAt s) l)) ≤ after .bytes
   small-after =
-      let e = ap sumAll (laws .entered-by k (worldAt s) l) in
-      omega (arith, e, enters-small k (s .decoder .counts .packets) (entered l), h .small, grown .bytes-are, log-words 0 (after .journal), ap length (bytes-are k (worldAt s) refl))
+      let e = ap sumAll (laws (s .decoder .high) .entered-by k (worldAt s) l) in
+      omega (arith, e, enters-small (s .decoder .high) k (s .decoder .counts .packets) (entered l), h .small, grown .bytes-are, log-words 0 (after .journal), ap length (bytes-are (s .decoder .high) k (worldAt s) refl))
 
 -- ---- an accepted call keeps it
 
@@ -183,23 +184,30 @@ module _ {k : Call} {s s′ : State} (m : Moved k s s′) {js : List Row} {l : L
 
   -- what its packet log has more
   row-same : log 3 (left .journal) ≡ rowBy k (length (log 0 js))
-  row-same = rows-are k (worldAt s) refl ∙ ap (rowBy k) (h .bytes)
+  row-same = rows-are (s .decoder .high) k (worldAt s) refl ∙ ap (rowBy k) (h .bytes)
 
   pub rows-left : log 3 (left .journal ++ js) ≡ log 3 js ++ rowBy k (length (log 0 js))
   rows-left = log-behind 3 (left .journal) js ∙ ap (λ (z : List ℕ). log 3 js ++ z) row-same
 
   pub data-left : log 0 (left .journal ++ js) ≡ log 0 js ++ bytesBy k
-  data-left = log-behind 0 (left .journal) js ∙ ap (λ (z : List ℕ). log 0 js ++ z) (bytes-are k (worldAt s) refl)
+  data-left = log-behind 0 (left .journal) js ∙ ap (λ (z : List ℕ). log 0 js ++ z) (bytes-are (s .decoder .high) k (worldAt s) refl)
 
   pub number-left : s′ .decoder .counts .packets * 2 ≡ s .decoder .counts .packets * 2 + length (rowBy k (length (log 0 js)))
   unfolding countsAfter
   number-left = omega (arith, ap (λ (c : Counts). c .packets) (counts-left m), grown k r h .packets-are, log-words 3 (left .journal), ap length row-same)
 
-  packed-left : Packed (s′ .decoder .counts .packets) (log 3 (left .journal ++ js)) (log 0 (left .journal ++ js)) (entered (turns k (worldAt s) l))
-  packed-left = rw (rows-left, data-left, laws .entered-by k (worldAt s) l) (packed-by (s .decoder .counts .packets) (log 3 js) (log 0 js) (entered l) (h .packed) k (s′ .decoder .counts .packets) number-left)
+  -- the mode stays
+  high-left : s′ .decoder .high ≡ s .decoder .high
+  unfolding decoderOf
+  high-left = ap (λ (d : Decoder). d .high) (m .left .decoder)
 
-  keeps-then : Keeps (left .journal ++ js) s′ (turns k (worldAt s) l)
-  keeps-then = record { account = subst (λ (z : View). Account z (turns k (worldAt s) l)) (sym view-left) (account-after k r h); bytes = bytes-left; packed = packed-left; small = omega (arith, small-after k r h, bytes-same) }
+  packed-left : Packed (s′ .decoder .high) (s′ .decoder .counts .packets) (log 3 (left .journal ++ js)) (log 0 (left .journal ++ js)) (entered (turns (s .decoder .high) k (worldAt s) l))
+  packed-left =
+      subst (λ (b : Bool). Packed b (s′ .decoder .counts .packets) (log 3 (left .journal ++ js)) (log 0 (left .journal ++ js)) (entered (turns (s .decoder .high) k (worldAt s) l))) (sym high-left)
+      (rw (rows-left, data-left, laws (s .decoder .high) .entered-by k (worldAt s) l) (packed-by (s .decoder .high) (s .decoder .counts .packets) (log 3 js) (log 0 js) (entered l) (h .packed) k (s′ .decoder .counts .packets) number-left))
+
+  keeps-then : Keeps (left .journal ++ js) s′ (turns (s .decoder .high) k (worldAt s) l)
+  keeps-then = record { account = subst (λ (z : View). Account z (turns (s .decoder .high) k (worldAt s) l)) (sym view-left) (account-after k r h); bytes = bytes-left; packed = packed-left; small = omega (arith, small-after k r h, bytes-same) }
 
 -- ---- so every sequence does
 
@@ -207,6 +215,6 @@ pub keeps : {js : List Row} {s : State} (q : Sequence js s) → Keeps js s (ledg
 keeps (made hv ht m) = keeps-made hv ht m
 keeps (then {js} {s} k a s′ q d) = by (accepts a) refl (keeps q)
   where
-    by : (b : Bool) → accepts a ≡ b → Keeps js s (ledgerOf q) → Keeps (pick b (call k (worldAt s) .journal) [] ++ js) s′ (pick b (turns k (worldAt s) (ledgerOf q)) (ledgerOf q))
+    by : (b : Bool) → accepts a ≡ b → Keeps js s (ledgerOf q) → Keeps (pick b (call (s .decoder .high) k (worldAt s) .journal) [] ++ js) s′ (pick b (turns (s .decoder .high) k (worldAt s) (ledgerOf q)) (ledgerOf q))
     by true e h = keeps-then (moved k s a s′ d e) (kept q .rules) h
     by false e h = subst (λ (z : State). Keeps js z (ledgerOf q)) (sym (stayed k s a s′ d e)) h

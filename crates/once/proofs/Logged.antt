@@ -97,12 +97,12 @@ module _ (k : ℕ) (one : eqb 1 k ≡ false) (two : eqb 2 k ≡ false) (four : e
           let v = transactionEnd false false (stamped time 0 w) in
           go (endAll (stamped time 0 w)) (overs-log (v .count) (v .endpoints) (v .journal) ∙ end-log (stamped time 0 w))
 
-  packet-log : (p : List ℕ) (time : ℕ) (w : World) → logged (handleRawPacket p time w) ≡ (logged w ++ pick (eqb 0 k) p []) ++ pick (eqb 3 k) (w .bytes ∷ time ∷ []) []
-  packet-log p time w = by (isDropped (w .slot) (w .transaction)) refl
+  packet-log : (high : Bool) (p : List ℕ) (time : ℕ) (w : World) → logged (handleRawPacket high p time w) ≡ (logged w ++ pick (eqb 0 k) p []) ++ pick (eqb 3 k) (w .bytes ∷ time ∷ []) []
+  packet-log high p time w = by (isDropped (w .slot) (w .transaction)) refl
     where
-      by : (b : Bool) → isDropped (w .slot) (w .transaction) ≡ b → logged (handleRawPacket p time w) ≡ (logged w ++ pick (eqb 0 k) p []) ++ pick (eqb 3 k) (w .bytes ∷ time ∷ []) []
-      by true q = ap logged (dropped-is p time w q)
-      by false q = ap logged (packet-is p time w q) ∙ played-log k one two five six seven eight nine ten eleven (planOf p w) p time (kept (planOf p w) p w)
+      by : (b : Bool) → isDropped (w .slot) (w .transaction) ≡ b → logged (handleRawPacket high p time w) ≡ (logged w ++ pick (eqb 0 k) p []) ++ pick (eqb 3 k) (w .bytes ∷ time ∷ []) []
+      by true q = ap logged (dropped-is high p time w q)
+      by false q = ap logged (packet-is high p time w q) ∙ played-log k one two five six seven eight nine ten eleven (planOf high p w) p time (kept high (planOf high p w) p w)
 
   detail-log : (g : Found) (number direction kind max : ℕ) (w : World) → logged (setDetailOn g number direction kind max w) ≡ logged w
   detail-log (At d) number direction kind max w = refl
@@ -115,16 +115,16 @@ rowBy (event kind code time) n = n ∷ time ∷ []
 rowBy (detail address number direction kind max) n = []
 rowBy finishing n = []
 
-pub bytes-are : (k : Call) (w : World) → w .journal ≡ [] → log 0 (call k w .journal) ≡ bytesBy k
+pub bytes-are : (high : Bool) (k : Call) (w : World) → w .journal ≡ [] → log 0 (call high k w .journal) ≡ bytesBy k
 unfolding handleDetail finish
-bytes-are (packet p time shelf) w h = packet-log 0 refl refl refl refl refl refl refl refl refl refl refl p time (withShelf shelf w) ∙ rw h (append-nil p)
-bytes-are (event kind code time) w h = event-log 0 refl refl refl refl refl refl refl refl refl refl refl kind code time w ∙ rw h
-bytes-are (detail address number direction kind max) w h = detail-log 0 refl refl refl refl refl refl refl refl refl refl refl (deviceFor address w) number direction kind max w ∙ rw h
-bytes-are finishing w h = end-log 0 refl refl refl refl refl refl refl refl refl refl refl (lastStamped w) ∙ rw h
+bytes-are high (packet p time shelf) w h = packet-log 0 refl refl refl refl refl refl refl refl refl refl refl high p time (withShelf shelf w) ∙ rw h (append-nil p)
+bytes-are high (event kind code time) w h = event-log 0 refl refl refl refl refl refl refl refl refl refl refl kind code time w ∙ rw h
+bytes-are high (detail address number direction kind max) w h = detail-log 0 refl refl refl refl refl refl refl refl refl refl refl (deviceFor address w) number direction kind max w ∙ rw h
+bytes-are high finishing w h = end-log 0 refl refl refl refl refl refl refl refl refl refl refl (lastStamped w) ∙ rw h
 
-pub rows-are : (k : Call) (w : World) → w .journal ≡ [] → log 3 (call k w .journal) ≡ rowBy k (w .bytes)
+pub rows-are : (high : Bool) (k : Call) (w : World) → w .journal ≡ [] → log 3 (call high k w .journal) ≡ rowBy k (w .bytes)
 unfolding handleDetail finish
-rows-are (packet p time shelf) w h = packet-log 3 refl refl refl refl refl refl refl refl refl refl refl p time (withShelf shelf w) ∙ rw h
-rows-are (event kind code time) w h = event-log 3 refl refl refl refl refl refl refl refl refl refl refl kind code time w ∙ rw h
-rows-are (detail address number direction kind max) w h = detail-log 3 refl refl refl refl refl refl refl refl refl refl refl (deviceFor address w) number direction kind max w ∙ rw h
-rows-are finishing w h = end-log 3 refl refl refl refl refl refl refl refl refl refl refl (lastStamped w) ∙ rw h
+rows-are high (packet p time shelf) w h = packet-log 3 refl refl refl refl refl refl refl refl refl refl refl high p time (withShelf shelf w) ∙ rw h
+rows-are high (event kind code time) w h = event-log 3 refl refl refl refl refl refl refl refl refl refl refl kind code time w ∙ rw h
+rows-are high (detail address number direction kind max) w h = detail-log 3 refl refl refl refl refl refl refl refl refl refl refl (deviceFor address w) number direction kind max w ∙ rw h
+rows-are high finishing w h = end-log 3 refl refl refl refl refl refl refl refl refl refl refl (lastStamped w) ∙ rw h

@@ -50,8 +50,8 @@ module _ {js : List Row} {s : State} {l : Ledger} (t : Told js s) (h : Keeps js 
   abbrev packets : ℕ
   packets = s .decoder .counts .packets
 
-  lines-are : entered l ≡ dataPackets packets (λ k. bytesOf k s)
-  lines-are = h .packed .lines ∙ data-same packets (λ k. packetBytes k packets (log 3 js) (log 0 js)) (λ k. bytesOf k s) (λ k q. sym (bytes-are js s t k))
+  lines-are : entered l ≡ dataPackets (s .decoder .high) packets (λ k. bytesOf k s)
+  lines-are = h .packed .lines ∙ data-same (s .decoder .high) packets (λ k. packetBytes k packets (log 3 js) (log 0 js)) (λ k. bytesOf k s) (λ k q. sym (bytes-are js s t k))
 
   rows-are : (e : ℕ) → totalsBefore e (linkRows s) ≡ running 0 (lengthsOf (isCounted e) l)
   rows-are e = ap (totalsBefore e) (t 10 (log-number 10 refl)) ∙ (data-rows e js ∙ h .account .rows e)
@@ -66,16 +66,16 @@ module _ {js : List Row} {s : State} {l : Ledger} (t : Told js s) (h : Keeps js 
   nowhere : (e : ℕ) → count ≤ e → sum (lengthsOf (isCounted e) l) ≡ 0
   nowhere e q = sym (rw (le-ltb e count q) at (h .account .total e))
 
-  places-are : (k : ℕ) → linesOf k l ≡ one (isData (bytesOf k s))
-  places-are k = lines-in k l ∙ (ap (timesIn k) lines-are ∙ (times-data k packets (λ i. bytesOf i s) ∙ by (ltb k packets) refl))
+  places-are : (k : ℕ) → linesOf k l ≡ one (isData (s .decoder .high) (bytesOf k s))
+  places-are k = lines-in k l ∙ (ap (timesIn k) lines-are ∙ (times-data (s .decoder .high) k packets (λ i. bytesOf i s) ∙ by (ltb k packets) refl))
     where
-      by : (b : Bool) → ltb k packets ≡ b → pick b (one (isData (bytesOf k s))) 0 ≡ one (isData (bytesOf k s))
+      by : (b : Bool) → ltb k packets ≡ b → pick b (one (isData (s .decoder .high) (bytesOf k s))) 0 ≡ one (isData (s .decoder .high) (bytesOf k s))
       by true q = refl
-      by false q = sym (ap (λ (p : List ℕ). one (isData p)) (bytes-are js s t k ∙ beyond k packets (log 3 js) (log 0 js) (ltb-false k packets q)) ∙ ap one no-data)
+      by false q = sym (ap (λ (p : List ℕ). one (isData (s .decoder .high) p)) (bytes-are js s t k ∙ beyond k packets (log 3 js) (log 0 js) (ltb-false k packets q)) ∙ ap one (no-data (s .decoder .high)))
 
-  sums-are : totals count (s .table) + sum (lengthsOf isUncounted l) ≡ dataBytes packets (λ k. bytesOf k s)
+  sums-are : totals count (s .table) + sum (lengthsOf isUncounted l) ≡ dataBytes (s .decoder .high) packets (λ k. bytesOf k s)
   sums-are =
-      omega (arith, up-totals count (s .table), up-same count (λ e. entryAt (s .table) e .total) (λ e. sum (lengthsOf (isCounted e) l)) total-is, spread count l nowhere, ap sumAll lines-are, sum-data packets (λ k. bytesOf k s))
+      omega (arith, up-totals count (s .table), up-same count (λ e. entryAt (s .table) e .total) (λ e. sum (lengthsOf (isCounted e) l)) total-is, spread count l nowhere, ap sumAll lines-are, sum-data (s .decoder .high) packets (λ k. bytesOf k s))
 
   once-of : Once l s
   once-of =
@@ -83,7 +83,7 @@ module _ {js : List Row} {s : State} {l : Ledger} (t : Told js s) (h : Keeps js 
         rows = rows-are;
         total = total-is;
         places = places-are;
-        length = each-data (λ k m. m ≡ length (bytesOf k s) - 3) l (rw lines-are (long-data packets (λ k. bytesOf k s)));
+        length = each-data (λ k m. m ≡ length (bytesOf k s) - 3) l (rw lines-are (long-data (s .decoder .high) packets (λ k. bytesOf k s)));
         sums = sums-are;
         held = h .account .held ∙ held-is (s .decoder .slot) (s .decoder .transaction .filled) (s .decoder .transaction .payload);
         waiting = waiting-is;

@@ -79,14 +79,14 @@ module _ (n : ℕ) (rows bytes p : List ℕ) (time : ℕ) (h : Laid n rows bytes
 
 -- ---- the data packets, the newest first: their rows and the lengths of their payloads
 
-abbrev pub dataPackets : ℕ → (ℕ → List ℕ) → List (ℕ × ℕ)
-dataPackets zero f = []
-dataPackets (suc n) f = pick (isData (f n)) ((n, length (f n) - 3) ∷ dataPackets n f) (dataPackets n f)
+abbrev pub dataPackets : Bool → ℕ → (ℕ → List ℕ) → List (ℕ × ℕ)
+dataPackets high zero f = []
+dataPackets high (suc n) f = pick (isData high (f n)) ((n, length (f n) - 3) ∷ dataPackets high n f) (dataPackets high n f)
 
-pub data-same : (n : ℕ) (f g : ℕ → List ℕ) → ((k : ℕ) → k < n → f k ≡ g k) → dataPackets n f ≡ dataPackets n g
-data-same zero f g h = refl
-data-same (suc n) f g h = rw (h n (omega arith), data-same n f g (λ k l. h k (omega arith)))
+pub data-same : (high : Bool) (n : ℕ) (f g : ℕ → List ℕ) → ((k : ℕ) → k < n → f k ≡ g k) → dataPackets high n f ≡ dataPackets high n g
+data-same high zero f g h = refl
+data-same high (suc n) f g h = rw (h n (omega arith), data-same high n f g (λ k l. h k (omega arith)))
 
-pub no-data : isData [] ≡ false
+pub no-data : (high : Bool) → isData high [] ≡ false
 unfolding checkedOf
-no-data = refl
+no-data high = refl

@@ -96,11 +96,11 @@ spread n (a ∷ l) h = by (a .fate) refl (spread n l (λ e q. omega (arith, h e 
 
 -- ---- by the data packets
 
-pub sum-data : (n : ℕ) (f : ℕ → List ℕ) → sumAll (dataPackets n f) ≡ dataBytes n f
-sum-data zero f = refl
-sum-data (suc n) f = by (isData (f n)) (sum-data n f)
+pub sum-data : (high : Bool) (n : ℕ) (f : ℕ → List ℕ) → sumAll (dataPackets high n f) ≡ dataBytes high n f
+sum-data high zero f = refl
+sum-data high (suc n) f = by (isData high (f n)) (sum-data high n f)
   where
-    by : (b : Bool) → sumAll (dataPackets n f) ≡ dataBytes n f → sumAll (pick b ((n, length (f n) - 3) ∷ dataPackets n f) (dataPackets n f)) ≡ dataBytes n f + pick b (length (f n) - 3) 0
+    by : (b : Bool) → sumAll (dataPackets high n f) ≡ dataBytes high n f → sumAll (pick b ((n, length (f n) - 3) ∷ dataPackets high n f) (dataPackets high n f)) ≡ dataBytes high n f + pick b (length (f n) - 3) 0
     by true h = omega arith
     by false h = omega arith
 
@@ -113,15 +113,15 @@ pub lines-in : (k : ℕ) (l : Ledger) → linesOf k l ≡ timesIn k (entered l)
 lines-in k [] = refl
 lines-in k (a ∷ l) = omega (arith, lines-in k l)
 
-pub times-data : (k n : ℕ) (f : ℕ → List ℕ) → timesIn k (dataPackets n f) ≡ pick (ltb k n) (one (isData (f k))) 0
-times-data k zero f = by (ltb k 0) refl
+pub times-data : (high : Bool) (k n : ℕ) (f : ℕ → List ℕ) → timesIn k (dataPackets high n f) ≡ pick (ltb k n) (one (isData high (f k))) 0
+times-data high k zero f = by (ltb k 0) refl
   where
-    by : (b : Bool) → ltb k 0 ≡ b → 0 ≡ pick b (one (isData (f k))) 0
+    by : (b : Bool) → ltb k 0 ≡ b → 0 ≡ pick b (one (isData high (f k))) 0
     by true q = absurd (let h = ltb-true k 0 q in omega arith)
     by false q = refl
-times-data k (suc n) f = own (isData (f n)) ∙ by (eqb k n) (ltb k n) (ltb k (suc n)) refl refl refl (times-data k n f)
+times-data high k (suc n) f = own (isData high (f n)) ∙ by (eqb k n) (ltb k n) (ltb k (suc n)) refl refl refl (times-data high k n f)
   where
-    own : (b : Bool) → timesIn k (pick b ((n, length (f n) - 3) ∷ dataPackets n f) (dataPackets n f)) ≡ timesIn k (dataPackets n f) + pick b (one (eqb k n)) 0
+    own : (b : Bool) → timesIn k (pick b ((n, length (f n) - 3) ∷ dataPackets high n f) (dataPackets high n f)) ≡ timesIn k (dataPackets high n f) + pick b (one (eqb k n)) 0
     own true = refl
     own false = omega arith
 
@@ -133,25 +133,25 @@ times-data k (suc n) f = own (isData (f n)) ∙ by (eqb k n) (ltb k n) (ltb k (s
     none true = refl
     none false = refl
 
-    by : (z a b : Bool) → eqb k n ≡ z → ltb k n ≡ a → ltb k (suc n) ≡ b → {m : ℕ} → m ≡ pick a (one (isData (f k))) 0 → m + pick (isData (f n)) (one z) 0 ≡ pick b (one (isData (f k))) 0
+    by : (z a b : Bool) → eqb k n ≡ z → ltb k n ≡ a → ltb k (suc n) ≡ b → {m : ℕ} → m ≡ pick a (one (isData high (f k))) 0 → m + pick (isData high (f n)) (one z) 0 ≡ pick b (one (isData high (f k))) 0
     by true true b p q r h = absurd (let s = eqb-true k n p in let t = ltb-true k n q in omega arith)
-    by true false true p q r h = omega (arith, h, flag (isData (f n)), ap (λ (i : ℕ). one (isData (f i))) (eqb-true k n p))
+    by true false true p q r h = omega (arith, h, flag (isData high (f n)), ap (λ (i : ℕ). one (isData high (f i))) (eqb-true k n p))
     by true false false p q r h = absurd (let s = eqb-true k n p in let t = ltb-false k (suc n) r in omega arith)
-    by false true true p q r h = omega (arith, h, none (isData (f n)))
+    by false true true p q r h = omega (arith, h, none (isData high (f n)))
     by false true false p q r h = absurd (let s = ltb-true k n q in let t = ltb-false k (suc n) r in omega arith)
     by false false true p q r h = absurd (eqb-false k n p (let s = ltb-false k n q in let t = ltb-true k (suc n) r in omega arith))
-    by false false false p q r h = omega (arith, h, none (isData (f n)))
+    by false false false p q r h = omega (arith, h, none (isData high (f n)))
 
 -- each with its length
 abbrev pub EachOf : (ℕ → ℕ → Type 0) → List (ℕ × ℕ) → Type 0
 EachOf Q [] = Unit {0}
 EachOf Q (a ∷ ps) = Q (a .0) (a .1) × EachOf Q ps
 
-pub long-data : (n : ℕ) (f : ℕ → List ℕ) → EachOf (λ k m. m ≡ length (f k) - 3) (dataPackets n f)
-long-data zero f = tt
-long-data (suc n) f = by (isData (f n)) (long-data n f)
+pub long-data : (high : Bool) (n : ℕ) (f : ℕ → List ℕ) → EachOf (λ k m. m ≡ length (f k) - 3) (dataPackets high n f)
+long-data high zero f = tt
+long-data high (suc n) f = by (isData high (f n)) (long-data high n f)
   where
-    by : (b : Bool) → EachOf (λ k m. m ≡ length (f k) - 3) (dataPackets n f) → EachOf (λ k m. m ≡ length (f k) - 3) (pick b ((n, length (f n) - 3) ∷ dataPackets n f) (dataPackets n f))
+    by : (b : Bool) → EachOf (λ k m. m ≡ length (f k) - 3) (dataPackets high n f) → EachOf (λ k m. m ≡ length (f k) - 3) (pick b ((n, length (f n) - 3) ∷ dataPackets high n f) (dataPackets high n f))
     by true h = (refl, h)
     by false h = h
 

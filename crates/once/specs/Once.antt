@@ -21,7 +21,7 @@ use Rattle.ledger.specs.Ledger.{Fate, Held, Waiting, Counted, Passed, Line, Led
 -- "Over any calls from a fresh decoder, refused ones among them": the ledger that they keep. A refused call leaves it
 abbrev pub ledgerOf : {js : List Row} {s : State} → Sequence js s → Ledger
 ledgerOf (made hv ht m) = []
-ledgerOf (then {js} {s} k a s′ q d) = pick (accepts a) (turns k (worldAt s) (ledgerOf q)) (ledgerOf q)
+ledgerOf (then {js} {s} k a s′ q d) = pick (accepts a) (turns (s .decoder .high) k (worldAt s) (ledgerOf q)) (ledgerOf q)
 
 -- ---- the packet log
 
@@ -41,10 +41,10 @@ bytesOf k s =
     let n = s .decoder .counts in
     packetBytes k (n .packets) (take (n .packets * packetWidth) (s .logs .packets)) (take (n .bytes) (s .logs .bytes))
 
--- "the payload bytes of all valid DATA0 and DATA1 packets", of the first n
-abbrev pub dataBytes : ℕ → (ℕ → List ℕ) → ℕ
-dataBytes zero f = 0
-dataBytes (suc n) f = dataBytes n f + pick (isData (f n)) (length (f n) - 3) 0
+-- "the payload bytes of all valid DATA0 and DATA1 packets", of the first n; "In the mode of 6) the packets are those that yield payloads there"
+abbrev pub dataBytes : Bool → ℕ → (ℕ → List ℕ) → ℕ
+dataBytes high zero f = 0
+dataBytes high (suc n) f = dataBytes high n f + pick (isData high (f n)) (length (f n) - 3) 0
 
 -- ---- totals and data rows
 
@@ -85,10 +85,11 @@ pub record Once (l : Ledger) (s : State) : Type 0 where
   -- "and its total is the full sum"
   pub total : (e : ℕ) → e < s .decoder .counts .endpoints → entryAt (s .table) e .total ≡ sum (lengthsOf (isCounted e) l)
   -- "Each counted payload is that of one accepted data packet, no packet is counted twice": a data packet of the packet log has one line, no other has any
-  pub places : (k : ℕ) → linesOf k l ≡ one (isData (bytesOf k s))
+  pub places : (k : ℕ) → linesOf k l ≡ one (isData (s .decoder .high) (bytesOf k s))
   pub length : Each (λ a. a .length ≡ length (bytesOf (a .packet) s) - 3) l
   -- "the totals of all endpoints plus the payload bytes of the packets not counted so far equal the payload bytes of all valid DATA0 and DATA1 packets in the packet log"
-  pub sums : totals (s .decoder .counts .endpoints) (s .table) + sum (lengthsOf isUncounted l) ≡ dataBytes (s .decoder .counts .packets) (λ k. bytesOf k s)
+  pub sums : totals (s .decoder .counts .endpoints) (s .table) + sum (lengthsOf isUncounted l)
+      ≡ dataBytes (s .decoder .high) (s .decoder .counts .packets) (λ k. bytesOf k s)
   -- what the ledger has as held and as waiting, the transaction and the endpoints have
   pub held : lengthsOf isHeld l ≡ (let t = s .decoder .transaction in pick (holds (s .decoder .slot) && t .filled) (t .payload ∷ []) [])
   pub waiting : (e : ℕ) → e < s .decoder .counts .endpoints

@@ -30,7 +30,7 @@ pub record Follows : Type 0 where
   -- 01, answer 9, "an endpoint's byte total would pass 2^64 - 1", is never given: no total passes the packet bytes logged
   pub never-9 : {js : List Row} {s : State} → Sequence js s → (k : Call) (a : ℕ) (s′ : State) → Does k s a s′ → ¬ (a ≡ 9)
   -- a payload is counted only by a packet that is answered 0 and is Done or Retry: never by a new token, a Fail, an Invalid, an event, finish or a detail
-  pub earned : {js : List Row} {s : State} (q : Sequence js s) (k : Call) (a : ℕ) (s′ : State) (d : Does k s a s′) → (eqb a 0 && earns k (worldAt s)) ≡ false
+  pub earned : {js : List Row} {s : State} (q : Sequence js s) (k : Call) (a : ℕ) (s′ : State) (d : Does k s a s′) → (eqb a 0 && earns (s .decoder .high) k (worldAt s)) ≡ false
       → (e : ℕ) → lengthsOf (isCounted e) (ledgerOf (then k a s′ q d)) ≡ lengthsOf (isCounted e) (ledgerOf q)
   -- what was counted, or passed over, stays so
   pub counted-after : {js : List Row} {s : State} (q : Sequence js s) (k : Call) (a : ℕ) (s′ : State) (d : Does k s a s′) (b : Line) → isSettled (b .fate) ≡ true

@@ -69,7 +69,7 @@ answer-by full over dropped len h = let e = le-ltb 4096 len h in rw e
 
 -- the world with the packet's payload on the shelf
 abbrev pub laden : List ℕ → State → List ℕ → World
-laden packet s shelf = let w = withShelf shelf (worldAt s) in kept (planOf packet w) packet w
+laden packet s shelf = let w = withShelf shelf (worldAt s) in kept (s .decoder .high) (planOf (s .decoder .high) packet w) packet w
 
 -- logs with another log of requests
 abbrev pub withRequests : List ℕ → Logs → Logs
@@ -102,13 +102,13 @@ totalled s shelf k i h = let e = k .words (i * word.width + word.total) in omega
 module _ (packet : List ℕ) (time : ℕ) (s : State) (shelf : List ℕ) (h : Passes packet s) (known : Known (s .table)) (live : isDropped (s .decoder .slot) (s .decoder .transaction) ≡ false) where
   -- the plan, on the world that has the packet's payload on the shelf
   abbrev p : Plan
-  p = planOf packet (laden packet s shelf)
+  p = planOf (s .decoder .high) packet (laden packet s shelf)
 
   full-is : isFull s (afterCall packet time s shelf) ≡ not (roomFor (heldAt s) (s .decoder .counts) (tallyOf (s .decoder) p (length packet)) (roomOf (s .logs)))
-  full-is = ap (isFull s) (packet-laden packet time (withShelf shelf (worldAt s)) live) ∙ packet-full-is packet time (laden packet s shelf .shelf) s (roomOf (s .logs)) (well packet time s shelf h)
+  full-is = ap (isFull s) (packet-laden (s .decoder .high) packet time (withShelf shelf (worldAt s)) live) ∙ packet-full-is (s .decoder .high) packet time (laden packet s shelf .shelf) s (roomOf (s .logs)) (well packet time s shelf h)
 
   over-is : isOver (afterCall packet time s shelf) ≡ planPasses p
-  over-is = ap isOver (packet-laden packet time (withShelf shelf (worldAt s)) live) ∙ packet-over-is packet time (laden packet s shelf .shelf) s (roomOf (s .logs)) (well packet time s shelf h) (totalled s (laden packet s shelf .shelf) known)
+  over-is = ap isOver (packet-laden (s .decoder .high) packet time (withShelf shelf (worldAt s)) live) ∙ packet-over-is (s .decoder .high) packet time (laden packet s shelf .shelf) s (roomOf (s .logs)) (well packet time s shelf h) (totalled s (laden packet s shelf .shelf) known)
 
   -- the sum's answer is the call's
   sum-answer : sumPlan (s .decoder) (heldAt s) p (length packet) (roomOf (s .logs)) .answer ≡ firstOf (testsOf packet time s shelf)
@@ -125,7 +125,7 @@ module _ (packet : List ℕ) (time : ℕ) (s : State) (shelf : List ℕ) (h : Pa
   refused-call a e r = record { answers = refused a (e ∙ sum-answer) r; shelf = ap (λ (c : Bool). cond c (afterCall packet time s shelf .shelf) shelf) (sym r) }
 
   pub accepted-call : (b : Begins packet s) (k : Desk) (e : k ≡ performed p (entryDesk time (reasonOf packet) s)) (y z : List ℕ) (f : y ≡ sets (s .logs .bytes) (heldAt s .bytes) packet) (g : z ≡ sets (s .logs .packets) (heldAt s .packets * packetWidth) (s .decoder .counts .bytes ∷ time ∷ []))
-      → PacketCall packet time s shelf 0 (left-state packet time s shelf b k e y z f g) (shelved (changeBy p (s .decoder .counts .devices) (heldAt s .requests)) packet shelf (s .devices))
+      → PacketCall packet time s shelf 0 (left-state packet time s shelf b k e y z f g) (shelved (changeBy (s .decoder .high) p (s .decoder .counts .devices) (heldAt s .requests)) packet shelf (s .devices))
   accepted-call b k e y z f g =
       record {
         answers = accepted 0 (sym (ap (λ (q : Plan). sumPlan (s .decoder) (heldAt s) q (length packet) (roomOf (s .logs)) .answer) (same packet time s shelf b) ∙ b .sum) ∙ sum-answer) refl (left packet time s shelf b k e y z f g);
@@ -166,7 +166,7 @@ pub record Decided (packet : List ℕ) (s : State) (p : Plan) (h n : Counts) (z 
   pub first : getD packet 0 0 < 256
   -- the plan, which the code may have made in words
   pub words : Bool
-  pub plan : p ≡ when words planWords (planOf packet (worldAt s))
+  pub plan : p ≡ when words planWords (planOf (s .decoder .high) packet (worldAt s))
   pub rows : h ≡ heldAt s
   pub room : n ≡ roomOf (s .logs)
   pub sum : z ≡ sumPlan (s .decoder) h p (length packet) n
@@ -178,22 +178,22 @@ sum-words true d held p len room = λ i. sumOf (passes-words p i) d held (tally-
 sum-words false d held p len room = refl
 
 module _ (packet : List ℕ) (time : ℕ) (s : State) {plan : Plan} {rows room : Counts} {sum : Sum} (q : Decided packet s plan rows room sum) where
-  sum-at : sum ≡ sumPlan (s .decoder) (heldAt s) (planOf packet (worldAt s)) (length packet) (roomOf (s .logs))
-  sum-at = q .sum ∙ ((λ i. sumPlan (s .decoder) (q .rows i) (q .plan i) (length packet) (q .room i)) ∙ sum-words (q .words) (s .decoder) (heldAt s) (planOf packet (worldAt s)) (length packet) (roomOf (s .logs)))
+  sum-at : sum ≡ sumPlan (s .decoder) (heldAt s) (planOf (s .decoder .high) packet (worldAt s)) (length packet) (roomOf (s .logs))
+  sum-at = q .sum ∙ ((λ i. sumPlan (s .decoder) (q .rows i) (q .plan i) (length packet) (q .room i)) ∙ sum-words (q .words) (s .decoder) (heldAt s) (planOf (s .decoder .high) packet (worldAt s)) (length packet) (roomOf (s .logs)))
 
   -- an answer that is not 0 is 7 or 9
   not-accepted : (sum .answer ≡ 0 → ⊥) → accepts (sum .answer) ≡ false
   unfolding sumPlan
-  not-accepted ne = ap (λ (z : Sum). accepts (z .answer)) sum-at ∙ by (roomFor (heldAt s) (s .decoder .counts) (tallyOf (s .decoder) (planOf packet (worldAt s)) (length packet)) (roomOf (s .logs))) (planPasses _) (λ e. ne (ap (λ (z : Sum). z .answer) sum-at ∙ e))
+  not-accepted ne = ap (λ (z : Sum). accepts (z .answer)) sum-at ∙ by (roomFor (heldAt s) (s .decoder .counts) (tallyOf (s .decoder) (planOf (s .decoder .high) packet (worldAt s)) (length packet)) (roomOf (s .logs))) (planPasses _) (λ e. ne (ap (λ (z : Sum). z .answer) sum-at ∙ e))
     where
-      by : (a o : Bool) → (sumBy a o (s .decoder) (tallyOf (s .decoder) (planOf packet (worldAt s)) (length packet)) .answer ≡ 0 → ⊥) → accepts (sumBy a o (s .decoder) (tallyOf (s .decoder) (planOf packet (worldAt s)) (length packet)) .answer) ≡ false
+      by : (a o : Bool) → (sumBy a o (s .decoder) (tallyOf (s .decoder) (planOf (s .decoder .high) packet (worldAt s)) (length packet)) .answer ≡ 0 → ⊥) → accepts (sumBy a o (s .decoder) (tallyOf (s .decoder) (planOf (s .decoder .high) packet (worldAt s)) (length packet)) .answer) ≡ false
       by true true h = refl
       by true false h = absurd (h refl)
       by false o h = refl
 
   -- the plan does not go by the shelf
-  sum-laden : (shelf : List ℕ) → sum ≡ sumPlan (s .decoder) (heldAt s) (planOf packet (laden packet s shelf)) (length packet) (roomOf (s .logs))
-  sum-laden shelf = sum-at ∙ ap (λ (x : Plan). sumPlan (s .decoder) (heldAt s) x (length packet) (roomOf (s .logs))) (sym (plan-shelf packet (laden packet s shelf .shelf) (worldAt s)))
+  sum-laden : (shelf : List ℕ) → sum ≡ sumPlan (s .decoder) (heldAt s) (planOf (s .decoder .high) packet (laden packet s shelf)) (length packet) (roomOf (s .logs))
+  sum-laden shelf = sum-at ∙ ap (λ (x : Plan). sumPlan (s .decoder) (heldAt s) x (length packet) (roomOf (s .logs))) (sym (plan-shelf (s .decoder .high) packet (laden packet s shelf .shelf) (worldAt s)))
 
   pub refused-by : (sum .answer ≡ 0 → ⊥) → {c : Change} → c ≡ keeping → (shelf : List ℕ)
       → PacketCall packet time s shelf (sum .answer) (state (s .decoder) (changed c packet shelf (s .devices)) (s .table) (withRequests (requested c packet shelf (s .devices) (s .logs .requests)) (s .logs))) (shelved c packet shelf (s .devices))
@@ -207,15 +207,15 @@ module _ (packet : List ℕ) (time : ℕ) (s : State) {plan : Plan} {rows room :
         record { ill = q .passes .ill; live = q .live; known = q .known; many = q .many; token = q .token; first = q .first; sum = sym (ap (λ (z : Sum). z .answer) sum-at) ∙ ok }
 
     -- there is room, so the plan's numbers are words
-    plan-is : (shelf : List ℕ) → plan ≡ planOf packet (laden packet s shelf)
+    plan-is : (shelf : List ℕ) → plan ≡ planOf (s .decoder .high) packet (laden packet s shelf)
     plan-is shelf = q .plan ∙ ap (when (q .words) planWords) (sym (same packet time s shelf begins)) ∙ by (q .words)
       where
-        by : (b : Bool) → when b planWords (planOf packet (laden packet s shelf)) ≡ planOf packet (laden packet s shelf)
+        by : (b : Bool) → when b planWords (planOf (s .decoder .high) packet (laden packet s shelf)) ≡ planOf (s .decoder .high) packet (laden packet s shelf)
         by true = in-words packet time s shelf begins
         by false = refl
 
     reason-is : plan .reason ≡ reasonOf packet
-    reason-is = ap (λ (x : Plan). x .reason) (plan-is []) ∙ plan-reason packet (laden packet s [])
+    reason-is = ap (λ (x : Plan). x .reason) (plan-is []) ∙ plan-reason (s .decoder .high) packet (laden packet s [])
 
     pub rows-fit : (rows .bytes + length packet ≤ length (s .logs .bytes)) × ((rows .packets + 1) * packetWidth ≤ length (s .logs .packets))
     rows-fit =
@@ -228,21 +228,21 @@ module _ (packet : List ℕ) (time : ℕ) (s : State) {plan : Plan} {rows room :
     pub asks-by : {h : Hand} → h ≡ handOf time (plan .reason) (s .decoder) rows (s .table) → PlanAsks plan (deskBy h s)
     asks-by {h} e =
         subst (λ (x : Plan). PlanAsks x (deskBy h s)) (sym (plan-is []))
-        (subst (λ (x : Hand). PlanAsks (planOf packet (laden packet s [])) (deskBy x s)) (sym (e ∙ λ i. handOf time (reason-is i) (s .decoder) (q .rows i) (s .table))) (asks packet time s [] begins))
+        (subst (λ (x : Hand). PlanAsks (planOf (s .decoder .high) packet (laden packet s [])) (deskBy x s)) (sym (e ∙ λ i. handOf time (reason-is i) (s .decoder) (q .rows i) (s .table))) (asks packet time s [] begins))
 
     -- the change, as the rules have it
-    change-is : (shelf : List ℕ) {c : Change} → c ≡ changeBy plan (s .decoder .counts .devices) (rows .requests) → c ≡ changeBy (planOf packet (laden packet s shelf)) (s .decoder .counts .devices) (heldAt s .requests)
-    change-is shelf e = e ∙ λ i. changeBy (plan-is shelf i) (s .decoder .counts .devices) (q .rows i .requests)
+    change-is : (shelf : List ℕ) {c : Change} → c ≡ changeBy (s .decoder .high) plan (s .decoder .counts .devices) (rows .requests) → c ≡ changeBy (s .decoder .high) (planOf (s .decoder .high) packet (laden packet s shelf)) (s .decoder .counts .devices) (heldAt s .requests)
+    change-is shelf e = e ∙ λ i. changeBy (s .decoder .high) (plan-is shelf i) (s .decoder .counts .devices) (q .rows i .requests)
 
-    pub placed-by : {c : Change} → c ≡ changeBy plan (s .decoder .counts .devices) (rows .requests) → Placed c packet (s .logs .requests)
+    pub placed-by : {c : Change} → c ≡ changeBy (s .decoder .high) plan (s .decoder .counts .devices) (rows .requests) → Placed c packet (s .logs .requests)
     placed-by e = subst (λ (c : Change). Placed c packet (s .logs .requests)) (sym (change-is [] e)) (change-placed packet time s [] begins)
 
     pub accepted-by : {h : Hand} {k : Desk} {x : Decoder} {c : Change} {y z : List ℕ} → h ≡ handOf time (plan .reason) (s .decoder) rows (s .table) → k ≡ performed plan (deskBy h s)
         → y ≡ sets (s .logs .bytes) (rows .bytes) packet → z ≡ sets (s .logs .packets) (rows .packets * packetWidth) (s .decoder .counts .bytes ∷ time ∷ [])
-        → x ≡ decoderBy (s .decoder) plan sum (k .hand) → c ≡ changeBy plan (s .decoder .counts .devices) (rows .requests) → (shelf : List ℕ)
+        → x ≡ decoderBy (s .decoder) plan sum (k .hand) → c ≡ changeBy (s .decoder .high) plan (s .decoder .counts .devices) (rows .requests) → (shelf : List ℕ)
         → PacketCall packet time s shelf 0 (state x (changed c packet shelf (s .devices)) (k .table) (logs y (k .devices) (k .endpoints) z (s .logs .events) (k .transactions) (k .groups) (k .statebytes) (k .states) (k .items) (k .links) (requested c packet shelf (s .devices) (s .logs .requests)))) (shelved c packet shelf (s .devices))
     accepted-by {h} {k} {x} {c} {y} {z} e1 e2 f g e3 e4 shelf =
-        let p = planOf packet (laden packet s shelf) in
+        let p = planOf (s .decoder .high) packet (laden packet s shelf) in
         let k1 : k ≡ performed p (entryDesk time (reasonOf packet) s) = e2 ∙ λ i. performed (plan-is shelf i) (deskBy ((e1 ∙ λ j. handOf time (reason-is j) (s .decoder) (q .rows j) (s .table)) i) s) in
         let y1 = f ∙ ap (λ (m : Counts). sets (s .logs .bytes) (m .bytes) packet) (q .rows) in
         let z1 = g ∙ ap (λ (m : Counts). sets (s .logs .packets) (m .packets * packetWidth) (s .decoder .counts .bytes ∷ time ∷ [])) (q .rows) in
@@ -261,7 +261,7 @@ module _ (packet : List ℕ) (time : ℕ) (s : State) (shelf : List ℕ) (h : Pa
   world = withSlot Empty (withPacket packet time (withShelf shelf (worldAt s)))
 
   world-is : afterCall packet time s shelf ≡ world
-  world-is = dropped-is packet time (withShelf shelf (worldAt s)) dropped
+  world-is = dropped-is (s .decoder .high) packet time (withShelf shelf (worldAt s)) dropped
 
   abbrev t : Tally
   t = tallyDropped d (length packet)
@@ -294,7 +294,7 @@ module _ (packet : List ℕ) (time : ℕ) (s : State) (shelf : List ℕ) (h : Pa
       let n : addCounts (d .counts) t ≡ countsAfter (d .counts) world = sym (counts-after (world-has d (s .devices) (s .table)) adds) in
       let m : t .waiting ≡ waitingOf world = sym (adds .waiting) in
       record {
-        decoder = λ i. record { counts = n i; slot = Empty; transaction = d .transaction; last = d .last; event = Idle; keepalive = d .keepalive; waiting = m i; finished = d .finished; time = time };
+        decoder = λ i. record { counts = n i; slot = Empty; transaction = d .transaction; last = d .last; event = Idle; keepalive = d .keepalive; waiting = m i; finished = d .finished; high = d .high; time = time };
         devices = record { size = refl; there = λ i u. refl; beyond = λ i u. refl };
         table = record { size = refl; entries = λ i u. refl; words = λ i u. well packet time s shelf h .endpoints i u .words; beyond = λ i u. refl; firsts = λ k. refl };
         logs =

@@ -155,11 +155,11 @@ as-was i f = by (eqb i 0) refl
 unasked-row : (t : Reading) (d : Device) (packet shelf : List ℕ) → t .asks ≡ false → rowShelved t d packet shelf ≡ d
 unasked-row t d packet shelf q = λ i. pick (q i) (descriptors.rowBy (askedWith t (d .kept) (d .chosen)) (laidShelf t packet shelf) d) d
 
-module _ (p : Plan) (v : List Device) (n m : ℕ) where
+module _ (high : Bool) (p : Plan) (v : List Device) (n m : ℕ) where
   abbrev begun : ℕ → Device
   begun i = placed (changes (p .begin)) (p .begin .place) (rowAfter (p .begin) (λ j. getD v j blank)) i (getD v i blank)
 
-  pub begun-told : (i : ℕ) → told (changeBy p n m) v i ≡ begun i
+  pub begun-told : (i : ℕ) → told (changeBy high p n m) v i ≡ begun i
   begun-told i = by (p .begin .device) (p .begin .types)
     where
       row : Bool → Bool → Device → Device
@@ -172,35 +172,35 @@ module _ (p : Plan) (v : List Device) (n m : ℕ) where
       by false false = as-was i (λ j. getD v j blank)
 
   -- where a request completes, the row of its device then is d
-  module _ (packet shelf : List ℕ) (d : Device) (same : isAsked p ≡ true → rowShelved (readingOf p) (ownRow (changeBy p n m) v) packet shelf ≡ d) where
+  module _ (packet shelf : List ℕ) (d : Device) (same : isAsked p ≡ true → rowShelved (readingOf high p) (ownRow (changeBy high p n m) v) packet shelf ≡ d) where
     abbrev asked : ℕ → Device
     asked i = placed (isAsked p) (p .close .entry .device) d i (begun i)
 
-    asked-told : (i : ℕ) → changeBy p n m .place < length v → read (changeBy p n m) packet shelf v i ≡ asked i
+    asked-told : (i : ℕ) → changeBy high p n m .place < length v → read (changeBy high p n m) packet shelf v i ≡ asked i
     asked-told i h = by (isAsked p) refl ∙ ap (placed (isAsked p) (p .close .entry .device) d i) (begun-told i)
       where
         -- nothing is read
-        unread : isAsked p ≡ false → rowShelved (readingOf p) (ownRow (changeBy p n m) v) packet shelf ≡ told (changeBy p n m) v 0
+        unread : isAsked p ≡ false → rowShelved (readingOf high p) (ownRow (changeBy high p n m) v) packet shelf ≡ told (changeBy high p n m) v 0
         unread q =
-            unasked-row (readingOf p) (ownRow (changeBy p n m) v) packet shelf q
-            ∙ put-at (changeBy p n m) v (pick (isAsked p) (p .close .entry .device) 0) h
-            ∙ ap (λ (b : Bool). told (changeBy p n m) v (pick b (p .close .entry .device) 0)) q
+            unasked-row (readingOf high p) (ownRow (changeBy high p n m) v) packet shelf q
+            ∙ put-at (changeBy high p n m) v (pick (isAsked p) (p .close .entry .device) 0) h
+            ∙ ap (λ (b : Bool). told (changeBy high p n m) v (pick b (p .close .entry .device) 0)) q
 
         by : (b : Bool) → isAsked p ≡ b
-            → pick (eqb i (pick (isAsked p) (p .close .entry .device) 0)) (rowShelved (readingOf p) (ownRow (changeBy p n m) v) packet shelf) (told (changeBy p n m) v i)
-            ≡ placed b (p .close .entry .device) d i (told (changeBy p n m) v i)
+            → pick (eqb i (pick (isAsked p) (p .close .entry .device) 0)) (rowShelved (readingOf high p) (ownRow (changeBy high p n m) v) packet shelf) (told (changeBy high p n m) v i)
+            ≡ placed b (p .close .entry .device) d i (told (changeBy high p n m) v i)
         by true q =
-            ap (λ (b : Bool). pick (eqb i (pick b (p .close .entry .device) 0)) (rowShelved (readingOf p) (ownRow (changeBy p n m) v) packet shelf) (told (changeBy p n m) v i)) q
-            ∙ ap (λ (x : Device). pick (eqb i (p .close .entry .device)) x (told (changeBy p n m) v i)) (same q)
+            ap (λ (b : Bool). pick (eqb i (pick b (p .close .entry .device) 0)) (rowShelved (readingOf high p) (ownRow (changeBy high p n m) v) packet shelf) (told (changeBy high p n m) v i)) q
+            ∙ ap (λ (x : Device). pick (eqb i (p .close .entry .device)) x (told (changeBy high p n m) v i)) (same q)
         by false q =
-            (λ k. pick (eqb i (pick (q k) (p .close .entry .device) 0)) (unread q k) (told (changeBy p n m) v i))
-            ∙ as-was i (told (changeBy p n m) v)
+            (λ k. pick (eqb i (pick (q k) (p .close .entry .device) 0)) (unread q k) (told (changeBy high p n m) v i))
+            ∙ as-was i (told (changeBy high p n m) v)
 
-    pub change-told : (i : ℕ) → changeBy p n m .place < length v → changeBy p n m .reading .place < length v → changeBy p n m .at < length v
-        → getD (changed (changeBy p n m) packet shelf v) i blank ≡ placed (p .closes && addsDevice (p .close .effect)) (n + one (p .begin .device)) (fresh (addressOf (p .close .effect))) i (asked i)
+    pub change-told : (i : ℕ) → changeBy high p n m .place < length v → changeBy high p n m .reading .place < length v → changeBy high p n m .at < length v
+        → getD (changed (changeBy high p n m) packet shelf v) i blank ≡ placed (p .closes && addsDevice (p .close .effect)) (n + one (p .begin .device)) (fresh (addressOf (p .close .effect))) i (asked i)
     change-told i h g l =
-        changed-at (changeBy p n m) packet shelf v i h g l
-        ∙ (λ k. pick (eqb i (changeBy p n m .at)) (addedBy (changeBy p n m) (asked-told (changeBy p n m .at) h k)) (asked-told i h k))
+        changed-at (changeBy high p n m) packet shelf v i h g l
+        ∙ (λ k. pick (eqb i (changeBy high p n m .at)) (addedBy (changeBy high p n m) (asked-told (changeBy high p n m .at) h k)) (asked-told i h k))
         ∙ by (p .closes && addsDevice (p .close .effect))
       where
         by : (a : Bool) → (let k = pick a (n + one (p .begin .device)) 0 in pick (eqb i k) (pick a (fresh (addressOf (p .close .effect))) (asked k)) (asked i))
@@ -209,10 +209,10 @@ module _ (p : Plan) (v : List Device) (n m : ℕ) where
         by false = as-was i asked
 
 -- where the rows are: below m, given that the begun one is, that row 0 is, and that the added one and the one that is read for are
-pub change-in : (p : Plan) (n r m : ℕ) → 0 < m → (changes (p .begin) ≡ true → p .begin .place < m) → ((p .closes && addsDevice (p .close .effect)) ≡ true → n + one (p .begin .device) < m)
+pub change-in : (high : Bool) (p : Plan) (n r m : ℕ) → 0 < m → (changes (p .begin) ≡ true → p .begin .place < m) → ((p .closes && addsDevice (p .close .effect)) ≡ true → n + one (p .begin .device) < m)
     → p .end .entry .device < m → p .close .entry .device < m
-    → (changeBy p n r .place < m) × ((changeBy p n r .at < m) × ((readingOf p .device < m) × (readingOf p .place < m)))
-change-in p n r m some begun end kept asked = (by (changes (p .begin)) (p .begin .place) begun, (by (p .closes && addsDevice (p .close .effect)) (n + one (p .begin .device)) end, (by (keeps p) (p .end .entry .device) (λ h. kept), by (isAsked p) (p .close .entry .device) (λ h. asked))))
+    → (changeBy high p n r .place < m) × ((changeBy high p n r .at < m) × ((readingOf high p .device < m) × (readingOf high p .place < m)))
+change-in high p n r m some begun end kept asked = (by (changes (p .begin)) (p .begin .place) begun, (by (p .closes && addsDevice (p .close .effect)) (n + one (p .begin .device)) end, (by (keeps high p) (p .end .entry .device) (λ h. kept), by (isAsked p) (p .close .entry .device) (λ h. asked))))
   where
     by : (b : Bool) (i : ℕ) → (b ≡ true → i < m) → pick b i 0 < m
     by true i h = h refl

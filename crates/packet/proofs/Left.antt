@@ -92,7 +92,7 @@ pub record Begins (packet : List ℕ) (s : State) : Type 0 where
   pub many : length (s .devices) ≡ 64
   pub token : startPid (s .decoder .transaction .style) < 256
   pub first : getD packet 0 0 < 256
-  pub sum : sumPlan (s .decoder) (heldAt s) (planOf packet (worldAt s)) (length packet) (roomOf (s .logs)) .answer ≡ 0
+  pub sum : sumPlan (s .decoder) (heldAt s) (planOf (s .decoder .high) packet (worldAt s)) (length packet) (roomOf (s .logs)) .answer ≡ 0
 
 -- a sum with the answer 0: there is room, and no total passes
 sum-room : (over : Bool) (d : Decoder) (held : Counts) (t : Tally) (room : Counts) → sumOf over d held t room .answer ≡ 0
@@ -118,20 +118,20 @@ module _ (packet : List ℕ) (time : ℕ) (s : State) (h : List ℕ) (b : Begins
   lent = withShelf h (worldAt s)
 
   abbrev l : List ℕ
-  l = shelfWith (keeps (planOf packet lent)) (planOf packet lent .end .entry) packet h
+  l = shelfWith (keeps (d .high) (planOf (d .high) packet lent)) (planOf (d .high) packet lent .end .entry) packet h
 
   abbrev pub w : World
   w = withShelf l (worldAt s)
 
   -- the plan, which does not go by the shelf
   abbrev pub p : Plan
-  p = planOf packet w
+  p = planOf (d .high) packet w
 
-  pub same : p ≡ planOf packet (worldAt s)
-  same = plan-shelf packet l (worldAt s)
+  pub same : p ≡ planOf (d .high) packet (worldAt s)
+  same = plan-shelf (d .high) packet l (worldAt s)
 
-  same-lent : planOf packet lent ≡ p
-  same-lent = plan-shelf packet h (worldAt s) ∙ sym same
+  same-lent : planOf (d .high) packet lent ≡ p
+  same-lent = plan-shelf (d .high) packet h (worldAt s) ∙ sym same
 
   abbrev room : Counts
   room = roomOf (s .logs)
@@ -172,7 +172,7 @@ module _ (packet : List ℕ) (time : ℕ) (s : State) (h : List ℕ) (b : Begins
   adds : Adds t w after
   adds =
       subst (λ (m : ℕ). Adds (tallyPlan p (length packet) (w .count) m) w after) (waiting-is well)
-      (played-adds p packet time w (plan-suits packet time w (three well) (old-stands well)))
+      (played-adds p packet time w (plan-suits (d .high) packet time w (three well) (old-stands well)))
 
   words : (k : ℕ) → length (log k (after .journal)) ≡ wordsFor k t
   words k = adds .words k ∙ omega arith
@@ -214,18 +214,18 @@ module _ (packet : List ℕ) (time : ℕ) (s : State) (h : List ℕ) (b : Begins
 
   -- ---- what carrying it out asks
 
-  sane : Sane packet w
+  sane : Sane (d .high) packet w
   unfolding addCounts
   sane =
       record {
         special = let h = three well in omega (arith, h);
-        room = let c = played-count packet time w in let e = adds .endpoints in let f = roomy .fewEndpoints in omega (arith, c, e, f);
+        room = let c = played-count (d .high) packet time w in let e = adds .endpoints in let f = roomy .fewEndpoints in omega (arith, c, e, f);
         devices = well .counts .fewDevices;
         links = d .counts .links;
         few = λ j h. let e = well .endpoints j h .entry in record { transactions = e .transactions; groups = e .groups };
         linked = let l = plan-links p (length packet) (d .counts .endpoints) (d .waiting) in omega (arith, l, numbers .links);
         started = let l = plan-links p (length packet) (d .counts .endpoints) (d .waiting) in omega (arith, l, numbers .links);
-        rows = let r = plan-rows packet w (length packet) (d .counts .endpoints) (d .waiting) in omega (arith, r, numbers .transactions);
+        rows = let r = plan-rows (d .high) packet w (length packet) (d .counts .endpoints) (d .waiting) in omega (arith, r, numbers .transactions);
         fits = λ j h. fits-entry (s .table) j;
         old = old-stands well;
         token = b .token;
@@ -234,11 +234,11 @@ module _ (packet : List ℕ) (time : ℕ) (s : State) (h : List ℕ) (b : Begins
 
   fits : PlanFits p packet time w
   unfolding planPasses
-  fits = fits-packet packet w sane time (λ q. other-false (p .closes) _ (summed .1 .0) q)
+  fits = fits-packet (d .high) packet w sane time (λ q. other-false (p .closes) _ (summed .1 .0) q)
 
   -- the plan that the code has made in words is the plan
   pub in-words : planWords p ≡ p
-  in-words = words-packet packet w sane
+  in-words = words-packet (d .high) packet w sane
 
   -- the old transaction, once it is resumed
   then-is : world2 p packet time w .transaction ≡ transactionThen (w .slot) (w .transactions) (w .endpoints (oldEndpoint (w .slot) (w .transaction))) (w .transaction)
@@ -256,7 +256,7 @@ module _ (packet : List ℕ) (time : ℕ) (s : State) (h : List ℕ) (b : Begins
   brought q =
       let x0 = oldEndpoint (w .slot) (w .transaction) in
       let u = transactionThen (w .slot) (w .transactions) (w .endpoints x0) (w .transaction) in
-      let k = extract-keeps u (transactionStatus (stateAt (slotThen (w .slot)) u) packet .pid) (length packet) (setupDataOf packet) in
+      let k = extract-keeps (d .high) u (transactionStatus (d .high) (stateAt (slotThen (w .slot)) u) packet .pid) (length packet) (setupDataOf packet) in
       record {
         id = k .id ∙ ap (λ (a : Transaction). a .id) (sym then-is);
         style = k .style ∙ ap (λ (a : Transaction). a .style) (sym then-is);
@@ -315,7 +315,7 @@ module _ (packet : List ℕ) (time : ℕ) (s : State) (h : List ℕ) (b : Begins
         let m = now-held .memory in
         (λ i. tiedTo (p .begin .transaction) (m .linked i) (m .link i)) ∙ sym a
 
-    decoder-is : decoderBy d p sum (k .hand) ≡ decoderOf (d .counts) (d .finished) after
+    decoder-is : decoderBy d p sum (k .hand) ≡ decoderOf d (d .finished) after
     unfolding decoderOf
     decoder-is =
         let n : sum .counts ≡ countsAfter (d .counts) after = ap (λ (z : Sum). z .counts) sum-is ∙ sym (counts-after (world-has d (s .devices) (s .table)) (adds-shelf l adds)) in
@@ -325,7 +325,7 @@ module _ (packet : List ℕ) (time : ℕ) (s : State) (h : List ℕ) (b : Begins
         let a = played-keepalive p packet time w in
         let l = now-held .memory .lastItem in
         let c : k .hand .written .stamp .time ≡ after .context .time = ap (λ (x : Stamp). x .time) (now-held .memory .stamp ∙ sym (now-held .memory .context)) in
-        λ i. record { counts = n i; slot = sym g i; transaction = transaction-is i; last = l i; event = sym v i; keepalive = sym a i; waiting = m i; finished = d .finished; time = c i }
+        λ i. record { counts = n i; slot = sym g i; transaction = transaction-is i; last = l i; event = sym v i; keepalive = sym a i; waiting = m i; finished = d .finished; high = d .high; time = c i }
 
     few : after .count ≤ 128
     unfolding addCounts
@@ -354,20 +354,20 @@ module _ (packet : List ℕ) (time : ℕ) (s : State) (h : List ℕ) (b : Begins
 
   -- the change that the code makes of it
   abbrev change : Change
-  change = changeBy p (d .counts .devices) (n .requests)
+  change = changeBy (d .high) p (d .counts .devices) (n .requests)
 
   count-is : after .deviceCount ≡ w .deviceCount + one (p .begin .device) + one (p .closes && addsDevice (p .close .effect))
-  count-is = played-device-count packet time w
+  count-is = played-device-count (d .high) packet time w
 
-  placed-in : (change .place < after .deviceCount) × ((change .at < after .deviceCount) × ((readingOf p .device < after .deviceCount) × (readingOf p .place < after .deviceCount)))
-  placed-in = change-in p (d .counts .devices) (n .requests) (after .deviceCount) some begun added kept asked
+  placed-in : (change .place < after .deviceCount) × ((change .at < after .deviceCount) × ((readingOf (d .high) p .device < after .deviceCount) × (readingOf (d .high) p .place < after .deviceCount)))
+  placed-in = change-in (d .high) p (d .counts .devices) (n .requests) (after .deviceCount) some begun added kept asked
     where
       some : 0 < after .deviceCount
       some = let f = well .specials .some in let c = count-is in omega (arith, f, c)
 
       begun-by : (v : Bool) → p .begin .device ≡ v → changes (p .begin) ≡ true → p .begin .place < after .deviceCount
-      begun-by true e h = let q = plan-behind w packet e in let c = count-is ∙ ap (λ (z : Bool). w .deviceCount + one z + one (p .closes && addsDevice (p .close .effect))) e in omega (arith, q, c)
-      begun-by false e h = let q = plan-place w (let f = three well in omega (arith, f)) owned packet h e in let c = count-is in omega (arith, q, c)
+      begun-by true e h = let q = plan-behind w (d .high) packet e in let c = count-is ∙ ap (λ (z : Bool). w .deviceCount + one z + one (p .closes && addsDevice (p .close .effect))) e in omega (arith, q, c)
+      begun-by false e h = let q = plan-place w (let f = three well in omega (arith, f)) owned (d .high) packet h e in let c = count-is in omega (arith, q, c)
 
       begun : changes (p .begin) ≡ true → p .begin .place < after .deviceCount
       begun h = begun-by (p .begin .device) refl h
@@ -376,20 +376,20 @@ module _ (packet : List ℕ) (time : ℕ) (s : State) (h : List ℕ) (b : Begins
       added h = let c = count-is ∙ ap (λ (z : Bool). w .deviceCount + one (p .begin .device) + one z) h in omega (arith, c)
 
       kept : p .end .entry .device < after .deviceCount
-      kept = let q = plan-kept w (let f = three well in omega (arith, f)) owned packet (old-stands well) in let c = count-is in omega (arith, q, c)
+      kept = let q = plan-kept w (let f = three well in omega (arith, f)) owned packet (old-stands well) (d .high) in let c = count-is in omega (arith, q, c)
 
       asked : p .close .entry .device < after .deviceCount
-      asked = let q = plan-asked w (let f = three well in omega (arith, f)) owned packet (old-stands well) in let c = count-is in omega (arith, q, c)
+      asked = let q = plan-asked w (let f = three well in omega (arith, f)) owned packet (old-stands well) (d .high) in let c = count-is in omega (arith, q, c)
 
   -- the row of a request that completes has room
-  row-room : RoomIf (readingOf p) (n .requests) (s .logs .requests)
+  row-room : RoomIf (readingOf (d .high) p) (n .requests) (s .logs .requests)
   unfolding inLog addCounts roomBy
   row-room q =
-      let e = ap length (played-requests packet time w ∙ ap (λ (c : Bool). pick c (requestWords asked) []) q) in
+      let e = ap length (played-requests (d .high) packet time w ∙ ap (λ (c : Bool). pick c (requestWords asked) []) q) in
       omega (arith, words 11, roomy .requests, e)
     where
       asked : Asked
-      asked = asking (p .begin .transaction .endpoint) (p .close .entry .setup) (lengthOf (p .close .effect)) (noteBy (askedClose packet time w) (w .shelf))
+      asked = asking (p .begin .transaction .endpoint) (p .close .entry .setup) (lengthOf (p .close .effect)) (noteBy (askedClose (d .high) packet time w) (w .shelf))
 
   pub change-placed : Placed change packet (s .logs .requests)
   change-placed =
@@ -400,7 +400,7 @@ module _ (packet : List ℕ) (time : ℕ) (s : State) (h : List ℕ) (b : Begins
         at = let a = i .1 .0 in omega (arith, a, m);
         device = let a = i .1 .1 .0 in omega (arith, a, m);
         owner = let a = i .1 .1 .1 in omega (arith, a, m);
-        long = λ q. plan-long packet w q;
+        long = λ q. plan-long (d .high) packet w q;
         room = row-room;
       }
 
@@ -410,13 +410,13 @@ module _ (packet : List ℕ) (time : ℕ) (s : State) (h : List ℕ) (b : Begins
   -- ---- what is read: as the rules have it, of the row that the device has when the packet's own transaction ends
 
   abbrev own : Device
-  own = rowOf packet time lent
+  own = rowOf (d .high) packet time lent
 
   own-is : isAsked p ≡ true → ownRow change (s .devices) ≡ own
   own-is q =
-      put-at change (s .devices) (readingOf p .place) (inside (change .place) (change-placed .place))
-      ∙ begun-told p (s .devices) (d .counts .devices) (n .requests) (readingOf p .place)
-      ∙ ap (λ (c : Bool). deviceBegun packet time w (pick c (p .close .entry .device) 0)) q
+      put-at change (s .devices) (readingOf (d .high) p .place) (inside (change .place) (change-placed .place))
+      ∙ begun-told (d .high) p (s .devices) (d .counts .devices) (n .requests) (readingOf (d .high) p .place)
+      ∙ ap (λ (c : Bool). deviceBegun (d .high) packet time w (pick c (p .close .entry .device) 0)) q
 
   -- a part of it, which goes by the row only where a request completes
   read-as : {A : Type 0} (f : Device → A) (x : A) → pick (isAsked p) (f (ownRow change (s .devices))) x ≡ pick (isAsked p) (f own) x
@@ -428,32 +428,32 @@ module _ (packet : List ℕ) (time : ℕ) (s : State) (h : List ℕ) (b : Begins
 
   -- with that row, by the plan on the lent shelf
   abbrev read : Shelved
-  read = record { note = noteAfter (readingOf (planOf packet lent)) own packet h; row = rowShelved (readingOf (planOf packet lent)) own packet h }
+  read = record { note = noteAfter (readingOf (d .high) (planOf (d .high) packet lent)) own packet h; row = rowShelved (readingOf (d .high) (planOf (d .high) packet lent)) own packet h }
 
-  shelves : Shelves (readingOf (planOf packet lent)) own packet h (shelfAfter (readingOf (planOf packet lent)) own packet h) read
+  shelves : Shelves (readingOf (d .high) (planOf (d .high) packet lent)) own packet h (shelfAfter (readingOf (d .high) (planOf (d .high) packet lent)) own packet h) read
   shelves = record { stored = refl; note = refl; row = refl }
 
-  pub shelf-left : shelved change packet h (s .devices) ≡ handleRawPacket packet time lent .shelf
+  pub shelf-left : shelved change packet h (s .devices) ≡ handleRawPacket (d .high) packet time lent .shelf
   unfolding shelved
   shelf-left =
-      read-as (λ e. shelfBy (askedWith (readingOf p) (e .kept) (e .chosen)) (laidShelf (readingOf p) packet h)) (laidShelf (readingOf p) packet h)
-      ∙ ap (λ (q : Plan). shelfAfter (readingOf q) own packet h) (sym same-lent)
-      ∙ shelf-is packet time lent (shelfAfter (readingOf (planOf packet lent)) own packet h) read shelves (b .live)
+      read-as (λ e. shelfBy (askedWith (readingOf (d .high) p) (e .kept) (e .chosen)) (laidShelf (readingOf (d .high) p) packet h)) (laidShelf (readingOf (d .high) p) packet h)
+      ∙ ap (λ (q : Plan). shelfAfter (readingOf (d .high) q) own packet h) (sym same-lent)
+      ∙ shelf-is (d .high) packet time lent (shelfAfter (readingOf (d .high) (planOf (d .high) packet lent)) own packet h) read shelves (b .live)
 
   requests-are : requested change packet h (s .devices) (s .logs .requests) ≡ sets (s .logs .requests) (n .requests * requestWidth) (log 11 (after .journal))
   unfolding requested
   requests-are =
-      ap (λ (m : ℕ). requestAfter (readingOf p) (n .requests) m (s .logs .requests)) (read-as (λ e. noteBy (askedWith (readingOf p) (e .kept) (e .chosen)) (laidShelf (readingOf p) packet h)) 0)
-      ∙ ap (λ (q : Plan). requestAfter (readingOf q) (n .requests) (noteAfter (readingOf q) own packet h) (s .logs .requests)) (sym same-lent)
-      ∙ request-is packet time lent (shelfAfter (readingOf (planOf packet lent)) own packet h) read shelves (b .live) refl (s .logs .requests) (n .requests * requestWidth)
-      ∙ ap (λ (v : World). sets (s .logs .requests) (n .requests * requestWidth) (log 11 (v .journal))) (packet-laden packet time lent (b .live))
+      ap (λ (m : ℕ). requestAfter (readingOf (d .high) p) (n .requests) m (s .logs .requests)) (read-as (λ e. noteBy (askedWith (readingOf (d .high) p) (e .kept) (e .chosen)) (laidShelf (readingOf (d .high) p) packet h)) 0)
+      ∙ ap (λ (q : Plan). requestAfter (readingOf (d .high) q) (n .requests) (noteAfter (readingOf (d .high) q) own packet h) (s .logs .requests)) (sym same-lent)
+      ∙ request-is (d .high) packet time lent (shelfAfter (readingOf (d .high) (planOf (d .high) packet lent)) own packet h) read shelves (b .live) refl (s .logs .requests) (n .requests * requestWidth)
+      ∙ ap (λ (v : World). sets (s .logs .requests) (n .requests * requestWidth) (log 11 (v .journal))) (packet-laden (d .high) packet time lent (b .live))
 
-  row-left : isAsked p ≡ true → rowShelved (readingOf p) (ownRow change (s .devices)) packet h ≡ rowAsked (p .close) (deviceBegun packet time w) (w .shelf)
+  row-left : isAsked p ≡ true → rowShelved (readingOf (d .high) p) (ownRow change (s .devices)) packet h ≡ rowAsked (p .close) (deviceBegun (d .high) packet time w) (w .shelf)
   row-left q =
-      ap (λ (e : Device). rowShelved (readingOf p) e packet h) (own-is q)
-      ∙ ap (λ (z : Plan). rowShelved (readingOf z) own packet h) (sym same-lent)
-      ∙ row-is packet time lent (shelfAfter (readingOf (planOf packet lent)) own packet h) read shelves
-      ∙ ap (λ (c : Bool). pick c (rowAsked (p .close) (deviceBegun packet time w) (w .shelf)) own) q
+      ap (λ (e : Device). rowShelved (readingOf (d .high) p) e packet h) (own-is q)
+      ∙ ap (λ (z : Plan). rowShelved (readingOf (d .high) z) own packet h) (sym same-lent)
+      ∙ row-is (d .high) packet time lent (shelfAfter (readingOf (d .high) (planOf (d .high) packet lent)) own packet h) read shelves
+      ∙ ap (λ (c : Bool). pick c (rowAsked (p .close) (deviceBegun (d .high) packet time w) (w .shelf)) own) q
 
   devices-are : DevicesOf after (s .devices) (changed change packet h (s .devices))
   devices-are =
@@ -461,7 +461,7 @@ module _ (packet : List ℕ) (time : ℕ) (s : State) (h : List ℕ) (b : Begins
       let i = placed-in in
       record {
         size = changed-length change packet h v;
-        there = λ j u. change-told p v (d .counts .devices) (n .requests) packet h (rowAsked (p .close) (deviceBegun packet time w) (w .shelf)) row-left j (inside (change .place) (change-placed .place)) (inside (readingOf p .place) (change-placed .owner)) (inside (change .at) (change-placed .at)) ∙ sym (played-devices packet time w j);
+        there = λ j u. change-told (d .high) p v (d .counts .devices) (n .requests) packet h (rowAsked (p .close) (deviceBegun (d .high) packet time w) (w .shelf)) row-left j (inside (change .place) (change-placed .place)) (inside (readingOf (d .high) p .place) (change-placed .owner)) (inside (change .at) (change-placed .at)) ∙ sym (played-devices (d .high) packet time w j);
         beyond = λ j u. changed-beyond change packet h v j (let a = i .0 in λ e. omega (arith, a, u, e)) (let a = i .1 .1 .1 in λ e. omega (arith, a, u, e)) (let a = i .1 .0 in λ e. omega (arith, a, u, e));
       }
 
@@ -491,7 +491,7 @@ module _ (packet : List ℕ) (time : ℕ) (s : State) (h : List ℕ) (b : Begins
         state (decoderBy d p sum (k .hand)) (changed change packet h (s .devices)) (k .table)
         (logs y (k .devices) (k .endpoints) z (s .logs .events) (k .transactions) (k .groups) (k .statebytes) (k .states) (k .items) (k .links) (requested change packet h (s .devices) (s .logs .requests)))
 
-    pub left : Left (handleRawPacket packet time lent) (d .finished) s left-state
+    pub left : Left (handleRawPacket (d .high) packet time lent) (d .finished) s left-state
     left =
-        subst (λ (v : World). Left v (d .finished) s left-state) (sym (packet-laden packet time lent (b .live)))
+        subst (λ (v : World). Left v (d .finished) s left-state) (sym (packet-laden (d .high) packet time lent (b .live)))
         (record { decoder = decoder-is k e; devices = devices-are; table = table-is k e; logs = logs-are })

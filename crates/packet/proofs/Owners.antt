@@ -10,13 +10,14 @@ use lib.ListN.{length}
 use Rattle.rows.specs.One.{one}
 use Rattle.usb.specs.Packet.{checkedOf, formatOf, dataFormat}
 use Rattle.usb.specs.Laws.{data-length}
-use Rattle.usb.specs.Pid.{DATA0, DATA1, SPLIT, MALFORMED}
+use Rattle.usb.specs.Pid.{DATA0, DATA1, DATA2, MDATA, SPLIT, MALFORMED}
 use Rattle.usb.specs.Fields.{tokenOf, setupDataOf}
 use Rattle.usb.specs.declared.Checked.{Checked}
 use Rattle.usb.specs.declared.Checked.the-variants.{Valid, Malformed}
-use Rattle.transaction.specs.Payload.{startPid, extractPayload}
+use Rattle.transaction.specs.Payload.{startPid, yields, extractPayload}
+use Rattle.transaction.specs.HighLaws.{yields-any}
 use Rattle.transaction.specs.Status.{judged, judgedOf, statusOf, transactionStatus}
-use Rattle.transaction.specs.Table.{pick, only, _or_}
+use Rattle.transaction.specs.Table.{pick}
 use Rattle.transaction.specs.declared.Judged.{Judged}
 use Rattle.transaction.specs.declared.Status.{Status}
 use Rattle.transaction.specs.declared.Status.the-variants.{New, Continue, Retry, Done, Fail, Ambiguous, Invalid}
@@ -127,19 +128,19 @@ module _ (w : World) (three : 3 ≤ w .count) (owned : (i : ℕ) → i < w .coun
     middle-owned Ambiguous pid packet n b = appending-owned Ambiguous pid packet b
     middle-owned Invalid pid packet n b = starting-owned Invalid pid packet n
 
-  module _ (j : Judged) (x0 : ℕ) (there : x0 < w .count) (e : Endpoint) (own : e .device < w .deviceCount) (t : Transaction) (packet : List ℕ) where
-    by-kept : planBy j x0 e t packet w .end .entry .device < w .deviceCount
+  module _ (high : Bool) (j : Judged) (x0 : ℕ) (there : x0 < w .count) (e : Endpoint) (own : e .device < w .deviceCount) (t : Transaction) (packet : List ℕ) where
+    by-kept : planBy high j x0 e t packet w .end .entry .device < w .deviceCount
     unfolding planBy
     by-kept =
-        let b = extractPayload t (j .pid) (length packet) (setupDataOf packet) in
+        let b = extractPayload high t (j .pid) (length packet) (setupDataOf packet) in
         let end = endOf x0 e b (detailOf x0 w) (w .lastItem) false false in
         let q = if-device (isNew (j .status) && not (eqb x0 0)) end e (end-device x0 e b (detailOf x0 w) (w .lastItem) false false) in
         omega (arith, own, q)
 
-    by-asked : planBy j x0 e t packet w .close .entry .device < w .deviceCount + one (planBy j x0 e t packet w .begin .device)
+    by-asked : planBy high j x0 e t packet w .close .entry .device < w .deviceCount + one (planBy high j x0 e t packet w .begin .device)
     unfolding planBy
     by-asked =
-        let b = extractPayload t (j .pid) (length packet) (setupDataOf packet) in
+        let b = extractPayload high t (j .pid) (length packet) (setupDataOf packet) in
         let end = endOf x0 e b (detailOf x0 w) (w .lastItem) false false in
         let ends = isNew (j .status) && not (eqb x0 0) in
         let e0 = entryEnded ends end (startPid (b .style)) e in
@@ -172,14 +173,14 @@ module _ (w : World) (three : 3 ≤ w .count) (owned : (i : ℕ) → i < w .coun
     own = let q = then-device (w .slot) e in let o = owned x0 old in omega (arith, q, o)
 
     -- the device whose part of the shelf a payload is laid to
-    pub plan-kept : planOf packet w .end .entry .device < w .deviceCount
+    pub plan-kept : (high : Bool) → planOf high packet w .end .entry .device < w .deviceCount
     unfolding planOf
-    plan-kept = by-kept (transactionStatus (stateAt (slotThen (w .slot)) t) packet) x0 old (entryThen (w .slot) e) own t packet
+    plan-kept high = by-kept high (transactionStatus high (stateAt (slotThen (w .slot)) t) packet) x0 old (entryThen (w .slot) e) own t packet
 
     -- the device that a request completes on
-    pub plan-asked : planOf packet w .close .entry .device < w .deviceCount + one (planOf packet w .begin .device)
+    pub plan-asked : (high : Bool) → planOf high packet w .close .entry .device < w .deviceCount + one (planOf high packet w .begin .device)
     unfolding planOf
-    plan-asked = by-asked (transactionStatus (stateAt (slotThen (w .slot)) t) packet) x0 old (entryThen (w .slot) e) own t packet
+    plan-asked high = by-asked high (transactionStatus high (stateAt (slotThen (w .slot)) t) packet) x0 old (entryThen (w .slot) e) own t packet
 
 -- ---- three bytes
 
@@ -188,11 +189,13 @@ rowed : (row kept : Bool) → row ≡ true → (not row && kept) ≡ true → �
 rowed true kept h q = false≢true q
 rowed false kept h q = false≢true h
 
-data-format : (pid : ℕ) (a b : Bool) → eqb pid DATA0 ≡ a → eqb pid DATA1 ≡ b → (a || b) ≡ true → formatOf pid ≡ dataFormat
+data-format : (pid : ℕ) (a b c d : Bool) → eqb pid DATA0 ≡ a → eqb pid DATA1 ≡ b → eqb pid DATA2 ≡ c → eqb pid MDATA ≡ d → (a || (b || (c || d))) ≡ true → formatOf pid ≡ dataFormat
 unfolding formatOf
-data-format pid true b ea eb h = let q = eqb-true pid DATA0 ea in rw q refl
-data-format pid false true ea eb h = let q = eqb-true pid DATA1 eb in rw q refl
-data-format pid false false ea eb h = absurd (false≢true h)
+data-format pid true b c d ea eb ec ed h = let q = eqb-true pid DATA0 ea in rw q refl
+data-format pid false true c d ea eb ec ed h = let q = eqb-true pid DATA1 eb in rw q refl
+data-format pid false false true d ea eb ec ed h = let q = eqb-true pid DATA2 ec in rw q refl
+data-format pid false false false true ea eb ec ed h = let q = eqb-true pid MDATA ed in rw q refl
+data-format pid false false false false ea eb ec ed h = absurd (false≢true h)
 
 first-of : (a b : Bool) → (a && b) ≡ true → a ≡ true
 first-of true b h = refl
@@ -202,22 +205,22 @@ second-of : (a b : Bool) → (a && b) ≡ true → b ≡ true
 second-of true b h = h
 second-of false b h = absurd (false≢true h)
 
-module _ (packet : List ℕ) (w : World) (x0 : ℕ) (e : Endpoint) (t : Transaction) where
+module _ (high : Bool) (packet : List ℕ) (w : World) (x0 : ℕ) (e : Endpoint) (t : Transaction) where
   abbrev planned : ℕ → Status → Plan
-  planned pid s = planBy (judged pid s) x0 e t packet w
+  planned pid s = planBy high (judged pid s) x0 e t packet w
 
   abbrev b : ℕ → Transaction
-  b pid = extractPayload t pid (length packet) (setupDataOf packet)
+  b pid = extractPayload high t pid (length packet) (setupDataOf packet)
 
   -- it has the PID of a data packet
-  payload-data : (pid : ℕ) (q : Plan) → q .begin .transaction .last ≡ pid → keeps q ≡ true → formatOf pid ≡ dataFormat
+  payload-data : (pid : ℕ) (q : Plan) → q .begin .transaction .last ≡ pid → keeps high q ≡ true → formatOf pid ≡ dataFormat
   payload-data pid q last h =
       let k = second-of (not (q .begin .row)) _ h in
-      let p : isPayload (q .brought .style) (q .begin .transaction .last) ≡ true = first-of (isPayload (q .brought .style) (q .begin .transaction .last)) _ k in
-      let d : ((DATA0 or only DATA1) (q .begin .transaction .last)) ≡ true = first-of ((DATA0 or only DATA1) (q .begin .transaction .last)) _ p in
-      data-format pid (eqb pid DATA0) (eqb pid DATA1) refl refl (ap (λ (n : ℕ). (DATA0 or only DATA1) n) (sym last) ∙ d)
+      let p : isPayload high (q .brought .style) (q .begin .transaction .last) ≡ true = first-of (isPayload high (q .brought .style) (q .begin .transaction .last)) _ k in
+      let d : yields high (q .begin .transaction .last) ≡ true = first-of (yields high (q .begin .transaction .last)) _ p in
+      data-format pid (eqb pid DATA0) (eqb pid DATA1) (eqb pid DATA2) (eqb pid MDATA) refl refl refl refl (yields-any high pid (ap (yields high) (sym last) ∙ d))
 
-  kept-data : (pid : ℕ) (s : Status) → keeps (planned pid s) ≡ true → formatOf pid ≡ dataFormat
+  kept-data : (pid : ℕ) (s : Status) → keeps high (planned pid s) ≡ true → formatOf pid ≡ dataFormat
   unfolding planBy
   kept-data pid New h = absurd (rowed _ _ (starting-row New x0 _ pid packet _ w) h)
   kept-data pid Continue h = payload-data pid (planned pid Continue) (appending-last Continue x0 e pid packet (b pid) w) h
@@ -227,19 +230,19 @@ module _ (packet : List ℕ) (w : World) (x0 : ℕ) (e : Endpoint) (t : Transact
   kept-data pid Ambiguous h = payload-data pid (planned pid Ambiguous) (appending-last Ambiguous x0 e pid packet (b pid) w) h
   kept-data pid Invalid h = absurd (rowed _ _ (starting-row Invalid x0 _ pid packet _ w) h)
 
-  by-long : (u : Transaction) → keeps (planBy (transactionStatus u packet) x0 e t packet w) ≡ true → 3 ≤ length packet
+  by-long : (u : Transaction) → keeps high (planBy high (transactionStatus high u packet) x0 e t packet w) ≡ true → 3 ≤ length packet
   unfolding transactionStatus planBy
   by-long u h = by (checkedOf packet) refl h
     where
-      by : (c : Checked) → checkedOf packet ≡ c → keeps (planBy (judgedOf u c (length packet)) x0 e t packet w) ≡ true → 3 ≤ length packet
+      by : (c : Checked) → checkedOf packet ≡ c → keeps high (planBy high (judgedOf high u c (length packet)) x0 e t packet w) ≡ true → 3 ≤ length packet
       by (Malformed reason) q h = absurd (rowed _ _ (starting-row Invalid x0 _ MALFORMED packet _ w) h)
-      by (Valid pid) q h = data-length packet pid q (kept-data pid (statusOf (u .style) u pid (length packet)) h) .0
+      by (Valid pid) q h = data-length packet pid q (kept-data pid (statusOf high (u .style) u pid (length packet)) h) .0
 
 -- a payload that is laid by is that of a data packet
-pub plan-long : (packet : List ℕ) (w : World) → keeps (planOf packet w) ≡ true → 3 ≤ length packet
+pub plan-long : (high : Bool) (packet : List ℕ) (w : World) → keeps high (planOf high packet w) ≡ true → 3 ≤ length packet
 unfolding planOf
-plan-long packet w h =
+plan-long high packet w h =
     let x0 = oldEndpoint (w .slot) (w .transaction) in
     let e = w .endpoints x0 in
     let t = transactionThen (w .slot) (w .transactions) e (w .transaction) in
-    by-long packet w x0 (entryThen (w .slot) e) t (stateAt (slotThen (w .slot)) t) h
+    by-long high packet w x0 (entryThen (w .slot) e) t (stateAt (slotThen (w .slot)) t) h

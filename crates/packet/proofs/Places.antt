@@ -88,17 +88,17 @@ module _ (w : World) (three : 3 ≤ w .count) (owned : (i : ℕ) → i < w .coun
   middle-old Ambiguous x0 e0 pid packet n b = appending-old Ambiguous x0 e0 pid packet b
   middle-old Invalid x0 e0 pid packet n b = starting-old Invalid x0 e0 pid packet n
 
-  by-old : (j : Judged) (x0 : ℕ) (e : Endpoint) (t : Transaction) (packet : List ℕ) → changes (planBy j x0 e t packet w .begin) ≡ true → planBy j x0 e t packet w .begin .device ≡ false → planBy j x0 e t packet w .begin .place < w .deviceCount
+  by-old : (high : Bool) (j : Judged) (x0 : ℕ) (e : Endpoint) (t : Transaction) (packet : List ℕ) → changes (planBy high j x0 e t packet w .begin) ≡ true → planBy high j x0 e t packet w .begin .device ≡ false → planBy high j x0 e t packet w .begin .place < w .deviceCount
   unfolding planBy
-  by-old j x0 e t packet h q =
-      let b = extractPayload t (j .pid) (length packet) (setupDataOf packet) in
+  by-old high j x0 e t packet h q =
+      let b = extractPayload high t (j .pid) (length packet) (setupDataOf packet) in
       let end = endOf x0 e b (detailsOf (w .devices (w .endpoints x0 .device)) (w .endpoints x0 .address)) (w .lastItem) false false in
       middle-old (j .status) x0 (entryEnded (isNew (j .status) && not (eqb x0 0)) end (startPid (b .style)) e) (j .pid) packet (w .transactions + one (resumes (w .slot))) b h q
 
-  pub plan-place : (packet : List ℕ) → changes (planOf packet w .begin) ≡ true → planOf packet w .begin .device ≡ false → planOf packet w .begin .place < w .deviceCount
+  pub plan-place : (high : Bool) (packet : List ℕ) → changes (planOf high packet w .begin) ≡ true → planOf high packet w .begin .device ≡ false → planOf high packet w .begin .place < w .deviceCount
   unfolding planOf
-  plan-place packet h q =
+  plan-place high packet h q =
       let x0 = oldEndpoint (w .slot) (w .transaction) in
       let e = w .endpoints x0 in
       let t = transactionThen (w .slot) (w .transactions) e (w .transaction) in
-      by-old (transactionStatus (stateAt (slotThen (w .slot)) t) packet) x0 (entryThen (w .slot) e) t packet h q
+      by-old high (transactionStatus high (stateAt (slotThen (w .slot)) t) packet) x0 (entryThen (w .slot) e) t packet h q

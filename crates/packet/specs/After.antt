@@ -78,11 +78,11 @@ handOf time reason d held t =
 
 abbrev pub droppedDecoder : Decoder → ℕ → Sum → Decoder
 droppedDecoder d time s =
-    record { counts = s .counts; slot = Empty; transaction = d .transaction; last = d .last; event = Idle; keepalive = d .keepalive; waiting = s .waiting; finished = d .finished; time = time }
+    record { counts = s .counts; slot = Empty; transaction = d .transaction; last = d .last; event = Idle; keepalive = d .keepalive; waiting = s .waiting; finished = d .finished; high = d .high; time = time }
 
 abbrev pub decoderBy : Decoder → Plan → Sum → Hand → Decoder
 decoderBy d p s h =
-    record { counts = s .counts; slot = p .slot; transaction = tied (p .begin .transaction) (h .written); last = h .written .last; event = Idle; keepalive = d .keepalive; waiting = s .waiting; finished = d .finished; time = h .written .stamp .time }
+    record { counts = s .counts; slot = p .slot; transaction = tied (p .begin .transaction) (h .written); last = h .written .last; event = Idle; keepalive = d .keepalive; waiting = s .waiting; finished = d .finished; high = d .high; time = h .written .stamp .time }
 
 -- ---- what is the caller's: the devices, the shelf and the log of requests
 
@@ -91,8 +91,8 @@ abbrev pub keeping : Change
 keeping = record { device = false; types = false; place = 0; owner = 0; number = 0; kind = 0; adds = false; at = 0; address = 0; reading = resting; row = 0 }
 
 -- by its steps, where there are n devices and the log holds `row` requests
-abbrev pub changeBy : Plan → ℕ → ℕ → Change
-changeBy p n row =
+abbrev pub changeBy : Bool → Plan → ℕ → ℕ → Change
+changeBy high p n row =
     let s = p .begin in
     let adds = p .closes && addsDevice (p .close .effect) in
     record {
@@ -105,7 +105,7 @@ changeBy p n row =
       adds = adds;
       at = pick adds (n + one (s .device)) 0;
       address = addressOf (p .close .effect);
-      reading = readingOf p;
+      reading = readingOf high p;
       row = row;
     }
 

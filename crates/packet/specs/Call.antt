@@ -1,5 +1,5 @@
 -- To be believed: the packet call (handle_raw_packet): its tests in 01's order, and what the rules leave.
--- Hold it to: handle_raw_packet of decoder.rs; 01, "Answer numbers": 1, 2, 3, 7, 9, 8; 02, 2: "Control payloads are now kept", "Refusals: none new"
+-- Hold it to: handle_raw_packet of decoder.rs; 01, "Answer numbers": 1, 2, 3, 7, 9, 8; 02, 2: "Control payloads are now kept", "Refusals: none new"; 02, 6: the mode is the decoder's
 use Prim.Native.Nat.{ℕ}
 use mathlib.Core.Bool.{cond}
 use mathlib.Core.List.{List}
@@ -12,9 +12,9 @@ use Rattle.record.specs.Answers.{Tests, packetTests}
 use Rattle.call.specs.Outcome.{Answers, accepts, isIll, isFull, isOver, worldAt}
 use Rattle.call.specs.State.{State}
 
--- the world that the rules end in, from the state s with the shelf h lent beside it
+-- the world that the rules end in, in the mode of the decoder, from the state s with the shelf h lent beside it
 abbrev pub after : List ℕ → ℕ → State → List ℕ → World
-after packet time s h = handleRawPacket packet time (withShelf h (worldAt s))
+after packet time s h = handleRawPacket (s .decoder .high) packet time (withShelf h (worldAt s))
 
 abbrev pub testsOf : List ℕ → ℕ → State → List ℕ → Tests
 testsOf packet time s h =

@@ -81,9 +81,9 @@ fn address_of(effect: Effect) -> u8
 }
 
 // Of a packet with these steps, where there are n devices and the log holds `row` requests.
-pub fn change_of(plan: Plan, n: usize, row: usize) -> Change
+pub fn change_of(high: bool, plan: Plan, n: usize, row: usize) -> Change
     requires { ⌜ n ≤ 64 ⌝ }
-    ensures { λ r. ⌜ r ≡ changeBy plan n row ⌝ }
+    ensures { λ r. ⌜ r ≡ changeBy high plan n row ⌝ }
 {
     let begin = plan.begin;
     let close = plan.close;
@@ -100,7 +100,7 @@ pub fn change_of(plan: Plan, n: usize, row: usize) -> Change
         adds,
         at: row_if(adds, behind),
         address: address_of(effect),
-        reading: reading_of(plan),
+        reading: reading_of(high, plan),
         row,
     }
 }

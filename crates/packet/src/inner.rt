@@ -85,6 +85,7 @@ fn dropped_decoder(d: Decoder, time: u64, sum: Sum) -> Decoder
         keepalive: d.keepalive,
         waiting: sum.waiting,
         finished: d.finished,
+        high: d.high,
         time,
     }
 }
@@ -107,6 +108,7 @@ fn decoder_by(d: Decoder, plan: Plan, sum: Sum, h: Hand) -> Decoder
         keepalive: d.keepalive,
         waiting: sum.waiting,
         finished: d.finished,
+        high: d.high,
         time: written.stamp.time,
     }
 }
@@ -229,7 +231,7 @@ pub fn packet_in(
             change: none,
         };
     }
-    let change = change_of(plan, n.devices, rows.requests);
+    let change = change_of(d.high, plan, n.devices, rows.requests);
     put_packet(n.bytes, rows, packet, time, bytes, packets);
     let hand = perform(
         plan,

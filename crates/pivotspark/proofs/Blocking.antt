@@ -142,12 +142,12 @@ module _ {t cuts out₀ out : List ℕ} {c₀ c : Clock} {s₀ s : Stand} {i at 
 
 -- ---- the entry
 
-module _ {t cuts out table h counts counts′ : List ℕ} {c : Clock} {l : Logs} {d : Device} {a r : ℕ} {s : State} (e : d ≡ fresh 0) (m : Makes (replicate 64 d) table l a s) where
-  pub blocks-refused : (a ≡ 0 → ⊥) → counts′ ≡ counted counts (s .decoder .counts) → r ≡ told a 0 → ToldBlocks t c cuts out table l h counts r out (s .table) (s .logs) h counts′
+module _ {high : Bool} {t cuts out table h counts counts′ : List ℕ} {c : Clock} {l : Logs} {d : Device} {a r : ℕ} {s : State} (e : d ≡ fresh 0) (m : Makes high (replicate 64 d) table l a s) where
+  pub blocks-refused : (a ≡ 0 → ⊥) → counts′ ≡ counted counts (s .decoder .counts) → r ≡ told a 0 → ToldBlocks high t c cuts out table l h counts r out (s .table) (s .logs) h counts′
   blocks-refused z n q =
       record { answer = a; blocks = 0; words = []; final = stand s h; by = Took.refused (made-on e m) z; result = q; out = stored-none out cuts; table = refl; logs = refl; shelf = refl; counted = n }
 
   pub blocks-told : {j : ℕ} {out′ : List ℕ} {s′ : Stand} → a ≡ 0 → Parts t cuts c (stand s h) j out out′ s′ → counts′ ≡ counted counts (s′ .state .decoder .counts) → r ≡ told 0 j
-      → ToldBlocks t c cuts out table l h counts r out′ (s′ .state .table) (s′ .state .logs) (s′ .shelf) counts′
+      → ToldBlocks high t c cuts out table l h counts r out′ (s′ .state .table) (s′ .state .logs) (s′ .shelf) counts′
   blocks-told {j} {out′} {s′} z p n q =
-      record { answer = 0; blocks = j; words = p .words; final = s′; by = Took.took (subst (λ (x : ℕ). Makes noDevices table l x s) z (made-on e m)) (p .blocks); result = q; out = p .out; table = refl; logs = refl; shelf = refl; counted = n }
+      record { answer = 0; blocks = j; words = p .words; final = s′; by = Took.took (subst (λ (x : ℕ). Makes high noDevices table l x s) z (made-on e m)) (p .blocks); result = q; out = p .out; table = refl; logs = refl; shelf = refl; counted = n }

@@ -1,6 +1,7 @@
 -- The counts stored in three parts are the counts stored, and the outcome of the entry is put together.
 use Prim.Native.Nat.{ℕ, _/_, _%_, _≤_, _<_}
 use native.Mathlib.Omega.{arith}
+use mathlib.Core.Bool.{Bool}
 use mathlib.Core.List.{List, [], _∷_}
 use mathlib.Core.Path.{_≡_, refl}
 use borrow.Author.Tests.{le-leb, lt-leb}
@@ -35,9 +36,9 @@ module _ (l : List ℕ) (n : Counts) where
 pub told-parts : {a r : ℕ} (p : ℕ) → r / 72057594037927936 ≡ a → r % 72057594037927936 ≡ p % 72057594037927936 → r ≡ told a p
 told-parts p h k = omega (arith, h, k)
 
-pub told-by : {trace t h counts counts′ : List ℕ} {l : Logs} {a p r : ℕ} {s : Stand}
-    → Ran trace t l h a p s
+pub told-by : {high : Bool} {trace t h counts counts′ : List ℕ} {l : Logs} {a p r : ℕ} {s : Stand}
+    → Ran high trace t l h a p s
     → counts′ ≡ counted counts (s .state .decoder .counts)
     → r ≡ told a p
-    → Told trace t l h counts r (s .state .table) (s .state .logs) (s .shelf) counts′
+    → Told high trace t l h counts r (s .state .table) (s .state .logs) (s .shelf) counts′
 told-by {a = a} {p} {s = s} x n h = record { answer = a; place = p; final = s; ran = x; result = h; table = refl; logs = refl; shelf = refl; counted = n }

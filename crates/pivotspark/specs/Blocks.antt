@@ -49,22 +49,22 @@ stored out cuts ws = cond (ltb (length cuts) (length out / 6)) (sets out 0 ws) o
 abbrev pub clockOf : ℕ → ℕ → Clock
 clockOf last time = record { started = true; last = last; time = time }
 
--- the answer of fresh, the blocks called, their words, and what is left
-pub data Took (t : List ℕ) (c : Clock) (cuts table : List ℕ) (l : Logs) (h : List ℕ) : ℕ → ℕ → List ℕ → Stand → Type 0 where
-  refused : {a : ℕ} {s : State} → Makes noDevices table l a s → (a ≡ 0 → ⊥) → Took t c cuts table l h a 0 [] (stand s h)
+-- the answer of fresh, in this mode, the blocks called, their words, and what is left
+pub data Took (high : Bool) (t : List ℕ) (c : Clock) (cuts table : List ℕ) (l : Logs) (h : List ℕ) : ℕ → ℕ → List ℕ → Stand → Type 0 where
+  refused : {a : ℕ} {s : State} → Makes high noDevices table l a s → (a ≡ 0 → ⊥) → Took high t c cuts table l h a 0 [] (stand s h)
   took : {j : ℕ} {s : State} {s′ : Stand} {ws : List ℕ}
-      → Makes noDevices table l 0 s
+      → Makes high noDevices table l 0 s
       → Blocks t cuts 0 0 c (stand s h) j ws s′
-      → Took t c cuts table l h 0 j ws s′
+      → Took high t c cuts table l h 0 j ws s′
 
 -- the call, on the table u and the shelf h, with the words o lent for the blocks, gives back r and leaves o′, u′, l′, h′ and counts′
-pub record ToldBlocks (t : List ℕ) (c : Clock) (cuts o u : List ℕ) (l : Logs) (h counts : List ℕ)
+pub record ToldBlocks (high : Bool) (t : List ℕ) (c : Clock) (cuts o u : List ℕ) (l : Logs) (h counts : List ℕ)
     (r : ℕ) (o′ u′ : List ℕ) (l′ : Logs) (h′ counts′ : List ℕ) : Type 0 where
   pub answer : ℕ
   pub blocks : ℕ
   pub words : List ℕ
   pub final : Stand
-  pub by : Took t c cuts u l h answer blocks words final
+  pub by : Took high t c cuts u l h answer blocks words final
   pub result : r ≡ told answer blocks
   pub out : o′ ≡ stored o cuts words
   pub table : u′ ≡ final .state .table

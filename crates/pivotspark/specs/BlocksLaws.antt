@@ -36,17 +36,17 @@ record SameAll (a b j k : ℕ) (ws vs : List ℕ) (s s′ : Stand) : Type 0 wher
   pub answer : a ≡ b
   pub rest : Same j k ws vs s s′
 
-same-took : {t cuts table : List ℕ} {c : Clock} {l : Logs} {h : List ℕ} {a b j k : ℕ} {ws vs : List ℕ} {s s′ : Stand} → Took t c cuts table l h a j ws s → Took t c cuts table l h b k vs s′ → SameAll a b j k ws vs s s′
+same-took : {high : Bool} {t cuts table : List ℕ} {c : Clock} {l : Logs} {h : List ℕ} {a b j k : ℕ} {ws vs : List ℕ} {s s′ : Stand} → Took high t c cuts table l h a j ws s → Took high t c cuts table l h b k vs s′ → SameAll a b j k ws vs s s′
 same-took {h = shelf} (refused m h) (refused o k) = let u = fresh-unique m o in record { answer = u .0; rest = record { blocks = refl; words = refl; final = λ i. stand (u .1 i) shelf } }
 same-took (refused m h) (took o y) = absurd (h (fresh-unique m o .0))
 same-took (took m x) (refused o k) = absurd (k (sym (fresh-unique m o .0)))
-same-took {t} {cuts} {c = c} {h = shelf} {k = k} {vs = vs} {s′ = s′} (took m x) (took o y) =
+same-took {high} {t} {cuts} {c = c} {h = shelf} {k = k} {vs = vs} {s′ = s′} (took m x) (took o y) =
     record { answer = refl; rest = same-blocks x (subst (λ (s : State). Blocks t cuts 0 0 c (stand s shelf) k vs s′) (sym (fresh-unique m o .1)) y) }
 
 -- 01: "any two permitted outcomes coincide"
-pub blocks-unique : {t cuts out u h counts out′ out″ u′ u″ h′ h″ counts′ counts″ : List ℕ} {c : Clock} {l l′ l″ : Logs} {r q : ℕ}
-    → ToldBlocks t c cuts out u l h counts r out′ u′ l′ h′ counts′
-    → ToldBlocks t c cuts out u l h counts q out″ u″ l″ h″ counts″
+pub blocks-unique : {high : Bool} {t cuts out u h counts out′ out″ u′ u″ h′ h″ counts′ counts″ : List ℕ} {c : Clock} {l l′ l″ : Logs} {r q : ℕ}
+    → ToldBlocks high t c cuts out u l h counts r out′ u′ l′ h′ counts′
+    → ToldBlocks high t c cuts out u l h counts q out″ u″ l″ h″ counts″
     → (r ≡ q) × (out′ ≡ out″) × (u′ ≡ u″) × (l′ ≡ l″) × (h′ ≡ h″) × (counts′ ≡ counts″)
 blocks-unique {cuts = cuts} {out = out} {counts = counts} x y =
     let same = same-took (x .by) (y .by) in

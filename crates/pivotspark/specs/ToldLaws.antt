@@ -1,5 +1,6 @@
 -- Laws (proved): what the contract of the entry rules out: any two outcomes coincide.
 use Prim.Native.Nat.{ℕ}
+use mathlib.Core.Bool.{Bool}
 use mathlib.Core.List.{List}
 use mathlib.Core.Path.{_≡_, sym, ap, _∙_}
 use Rattle.call.specs.State.{Logs}
@@ -8,9 +9,9 @@ use Rattle.run.specs.RunLaws.{run-unique}
 use Rattle.pivotspark.specs.Told.{told, counted, Told}
 
 -- 01: "any two permitted outcomes coincide"
-pub trace-unique : {trace t t′ t″ h h′ h″ counts counts′ counts″ : List ℕ} {l l′ l″ : Logs} {r q : ℕ}
-    → Told trace t l h counts r t′ l′ h′ counts′
-    → Told trace t l h counts q t″ l″ h″ counts″
+pub trace-unique : {high : Bool} {trace t t′ t″ h h′ h″ counts counts′ counts″ : List ℕ} {l l′ l″ : Logs} {r q : ℕ}
+    → Told high trace t l h counts r t′ l′ h′ counts′
+    → Told high trace t l h counts q t″ l″ h″ counts″
     → (r ≡ q) × (t′ ≡ t″) × (l′ ≡ l″) × (h′ ≡ h″) × (counts′ ≡ counts″)
 trace-unique {counts = counts} x y =
     let same = run-unique (x .ran) (y .ran) in

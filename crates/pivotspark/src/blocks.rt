@@ -18,6 +18,7 @@ ghost use Rattle.call.specs.State.{state, logs};
 ghost use Rattle.step.specs.Block.{stand};
 ghost use Rattle.pivotspark.specs.Blocks.{cutAt, goesOn, wordsOf, clockOf, ToldBlocks};
 ghost use Rattle.pivotspark.specs.Parts.{Stores, Parts};
+ghost use Rattle.pivotspark.specs.Told.{isOn};
 
 // What the blocks leave, and how many were called.
 struct Left {
@@ -150,9 +151,10 @@ fn run_blocks(
     }
 }
 
-// Records without header on the lent table, logs and shelf; `last` and `time` are the tick state before them, and the words of each block are stored in `out`.
+// Records without header on the lent table, logs and shelf, in the mode as for a trace; `last` and `time` are the tick state before them, and the words of each block are stored in `out`.
 #[no_mangle]
 pub extern "C" fn pivotspark_blocks(
+    mode: u8,
     records: &[u8],
     last: u32,
     time: u64,
@@ -174,11 +176,12 @@ pub extern "C" fn pivotspark_blocks(
     shelf: &mut Shelf,
     counts: &mut [u64],
 ) -> u64
-    ensures { λ r. ⌜ ToldBlocks (now (records .entry)) (clockOf last time) (now (cuts .entry)) (now (out .entry)) (now (table .entry)) (logs (now (bytes .entry)) (now («device_rows» .entry)) (now («endpoint_rows» .entry)) (now (packets .entry)) (now (events .entry)) (now (transactions .entry)) (now (groups .entry)) (now (statebytes .entry)) (now (states .entry)) (now (items .entry)) (now (links .entry)) (now (requests .entry))) (now (shelf .entry)) (now (counts .entry)) r (now (out .exit)) (now (table .exit)) (logs (now (bytes .exit)) (now («device_rows» .exit)) (now («endpoint_rows» .exit)) (now (packets .exit)) (now (events .exit)) (now (transactions .exit)) (now (groups .exit)) (now (statebytes .exit)) (now (states .exit)) (now (items .exit)) (now (links .exit)) (now (requests .exit))) (now (shelf .exit)) (now (counts .exit)) ⌝ }
+    ensures { λ r. ⌜ ToldBlocks (isOn mode) (now (records .entry)) (clockOf last time) (now (cuts .entry)) (now (out .entry)) (now (table .entry)) (logs (now (bytes .entry)) (now («device_rows» .entry)) (now («endpoint_rows» .entry)) (now (packets .entry)) (now (events .entry)) (now (transactions .entry)) (now (groups .entry)) (now (statebytes .entry)) (now (states .entry)) (now (items .entry)) (now (links .entry)) (now (requests .entry))) (now (shelf .entry)) (now (counts .entry)) r (now (out .exit)) (now (table .exit)) (logs (now (bytes .exit)) (now («device_rows» .exit)) (now («endpoint_rows» .exit)) (now (packets .exit)) (now (events .exit)) (now (transactions .exit)) (now (groups .exit)) (now (statebytes .exit)) (now (states .exit)) (now (items .exit)) (now (links .exit)) (now (requests .exit))) (now (shelf .exit)) (now (counts .exit)) ⌝ }
 {
     let blank = fresh_device(0);
     let devices = [blank; 64];
     let made = fresh(
+        mode != 0,
         devices,
         table,
         bytes,

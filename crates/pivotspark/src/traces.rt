@@ -5,7 +5,7 @@ use run::run;
 use shelving::Shelf;
 ghost use mathlib.Core.Path.{_≡_};
 ghost use Rattle.call.specs.State.{logs};
-ghost use Rattle.pivotspark.specs.Told.{told, counted, Told};
+ghost use Rattle.pivotspark.specs.Told.{isOn, told, counted, Told};
 
 // The answer in the top byte, the place below it.
 pub fn tell(answer: u8, place: usize) -> u64
@@ -47,9 +47,10 @@ pub fn put_counts(counts: &mut [u64], n: Counts)
     );
 }
 
-// The trace on the lent table, logs and shelf, which may hold anything. The record's counts are stored in `counts`; if it has fewer than twelve words it is left as it is.
+// The trace on the lent table, logs and shelf, which may hold anything; in the mode for high-bandwidth isochronous data where `mode` is not 0. The record's counts are stored in `counts`; if it has fewer than twelve words it is left as it is.
 #[no_mangle]
 pub extern "C" fn pivotspark_trace(
+    mode: u8,
     trace: &[u8],
     table: &mut Table,
     bytes: &mut [u8],
@@ -67,9 +68,10 @@ pub extern "C" fn pivotspark_trace(
     shelf: &mut Shelf,
     counts: &mut [u64],
 ) -> u64
-    ensures { λ r. ⌜ Told (now (trace .entry)) (now (table .entry)) (logs (now (bytes .entry)) (now («device_rows» .entry)) (now («endpoint_rows» .entry)) (now (packets .entry)) (now (events .entry)) (now (transactions .entry)) (now (groups .entry)) (now (statebytes .entry)) (now (states .entry)) (now (items .entry)) (now (links .entry)) (now (requests .entry))) (now (shelf .entry)) (now (counts .entry)) r (now (table .exit)) (logs (now (bytes .exit)) (now («device_rows» .exit)) (now («endpoint_rows» .exit)) (now (packets .exit)) (now (events .exit)) (now (transactions .exit)) (now (groups .exit)) (now (statebytes .exit)) (now (states .exit)) (now (items .exit)) (now (links .exit)) (now (requests .exit))) (now (shelf .exit)) (now (counts .exit)) ⌝ }
+    ensures { λ r. ⌜ Told (isOn mode) (now (trace .entry)) (now (table .entry)) (logs (now (bytes .entry)) (now («device_rows» .entry)) (now («endpoint_rows» .entry)) (now (packets .entry)) (now (events .entry)) (now (transactions .entry)) (now (groups .entry)) (now (statebytes .entry)) (now (states .entry)) (now (items .entry)) (now (links .entry)) (now (requests .entry))) (now (shelf .entry)) (now (counts .entry)) r (now (table .exit)) (logs (now (bytes .exit)) (now («device_rows» .exit)) (now («endpoint_rows» .exit)) (now (packets .exit)) (now (events .exit)) (now (transactions .exit)) (now (groups .exit)) (now (statebytes .exit)) (now (states .exit)) (now (items .exit)) (now (links .exit)) (now (requests .exit))) (now (shelf .exit)) (now (counts .exit)) ⌝ }
 {
     let r = run(
+        mode != 0,
         trace,
         table,
         bytes,

@@ -282,39 +282,39 @@ module _ (w : World) where
   middle-behind Ambiguous x0 e0 pid packet n b = appending-behind Ambiguous x0 e0 pid packet b
   middle-behind Invalid x0 e0 pid packet n b = starting-behind Invalid x0 e0 pid packet n
 
-  by-behind : (j : Judged) (x0 : ℕ) (e : Endpoint) (t : Transaction) (packet : List ℕ) → Behind (planBy j x0 e t packet w .begin) (w .deviceCount)
+  by-behind : (high : Bool) (j : Judged) (x0 : ℕ) (e : Endpoint) (t : Transaction) (packet : List ℕ) → Behind (planBy high j x0 e t packet w .begin) (w .deviceCount)
   unfolding planBy
-  by-behind j x0 e t packet =
-      let b = extractPayload t (j .pid) (length packet) (setupDataOf packet) in
+  by-behind high j x0 e t packet =
+      let b = extractPayload high t (j .pid) (length packet) (setupDataOf packet) in
       let end = endOf x0 e b (detailOf x0 w) (w .lastItem) false false in
       middle-behind (j .status) x0 (entryEnded (isNew (j .status) && not (eqb x0 0)) end (startPid (b .style)) e) (j .pid) packet (w .transactions + one (resumes (w .slot))) b
 
-  pub plan-behind : (packet : List ℕ) → Behind (planOf packet w .begin) (w .deviceCount)
+  pub plan-behind : (high : Bool) (packet : List ℕ) → Behind (planOf high packet w .begin) (w .deviceCount)
   unfolding planOf
-  plan-behind packet =
+  plan-behind high packet =
       let x0 = oldEndpoint (w .slot) (w .transaction) in
       let e = w .endpoints x0 in
       let t = transactionThen (w .slot) (w .transactions) e (w .transaction) in
-      by-behind (transactionStatus (stateAt (slotThen (w .slot)) t) packet) x0 (entryThen (w .slot) e) t packet
+      by-behind high (transactionStatus high (stateAt (slotThen (w .slot)) t) packet) x0 (entryThen (w .slot) e) t packet
 
   -- a resume changes none
-  resume-changes : (packet : List ℕ) → changes (planOf packet w .resume) ≡ false
+  resume-changes : (high : Bool) (packet : List ℕ) → changes (planOf high packet w .resume) ≡ false
   unfolding planOf planBy
-  resume-changes packet = refl
+  resume-changes high packet = refl
 
-  pub resume-device : (packet : List ℕ) → planOf packet w .resume .device ≡ false
+  pub resume-device : (high : Bool) (packet : List ℕ) → planOf high packet w .resume .device ≡ false
   unfolding planOf planBy
-  resume-device packet = refl
+  resume-device high packet = refl
 
   -- the old transaction ends without success
-  pub plan-quiet : (packet : List ℕ) → planOf packet w .end .effect ≡ NoEffect
+  pub plan-quiet : (high : Bool) (packet : List ℕ) → planOf high packet w .end .effect ≡ NoEffect
   unfolding planOf planBy endOf
-  plan-quiet packet =
+  plan-quiet high packet =
       let x0 = oldEndpoint (w .slot) (w .transaction) in
       let t = transactionThen (w .slot) (w .transactions) (w .endpoints x0) (w .transaction) in
       let e = entryThen (w .slot) (w .endpoints x0) in
-      let j = transactionStatus (stateAt (slotThen (w .slot)) t) packet in
-      let b = extractPayload t (j .pid) (length packet) (setupDataOf packet) in
+      let j = transactionStatus high (stateAt (slotThen (w .slot)) t) packet in
+      let b = extractPayload high t (j .pid) (length packet) (setupDataOf packet) in
       quiet-if (isNew (j .status) && not (eqb x0 0)) (endOf x0 e b (detailOf x0 w) (w .lastItem) false false) e (no-effect e b (detailOf x0 w) false)
     where
       quiet-if : (c : Bool) (s : End) (e : Endpoint) → s .effect ≡ NoEffect → endIf c s e .effect ≡ NoEffect
@@ -323,9 +323,9 @@ module _ (w : World) where
 
 -- ---- all of it
 
-module _ (packet : List ℕ) (time : ℕ) (w : World) where
+module _ (high : Bool) (packet : List ℕ) (time : ℕ) (w : World) where
   abbrev plan : Plan
-  plan = planOf packet w
+  plan = planOf high packet w
 
   -- up to the step that begins
   before-devices : (j : ℕ) → world3 plan packet time w .devices j ≡ w .devices j
@@ -333,8 +333,8 @@ module _ (packet : List ℕ) (time : ℕ) (w : World) where
     where
       resume : (b : Bool) → when b (begun (w .packets) (plan .resume)) (world1 packet time w) .devices j ≡ w .devices j
       resume true =
-          begun-devices (w .packets) (plan .resume) (world1 packet time w) (λ h. never (sym (resume-device w packet) ∙ h)) j
-          ∙ ap (λ (b : Bool). placed b (plan .resume .place) (rowAfter (plan .resume) (w .devices)) j (w .devices j)) (resume-changes w packet)
+          begun-devices (w .packets) (plan .resume) (world1 packet time w) (λ h. never (sym (resume-device w high packet) ∙ h)) j
+          ∙ ap (λ (b : Bool). placed b (plan .resume .place) (rowAfter (plan .resume) (w .devices)) j (w .devices j)) (resume-changes w high packet)
       resume false = refl
 
       ends : (b : Bool) → when b (λ v. ended (plan .old) (plan .end) (withTransaction (plan .brought) v)) (world2 plan packet time w) .devices j ≡ world2 plan packet time w .devices j
@@ -342,7 +342,7 @@ module _ (packet : List ℕ) (time : ℕ) (w : World) where
           let v = world2 plan packet time w in
           let d = plan .end .entry .device in
           ended-devices (plan .old) (plan .end) (withTransaction (plan .brought) v) j
-          ∙ ap (λ (f : Effect). placed (addsDevice f) (v .deviceCount) (fresh (addressOf f)) j (placed (asks f) d (rowBy (askedAt (plan .end .entry .setup) (lengthOf f) d (v .devices d)) (v .shelf) (v .devices d)) j (v .devices j))) (plan-quiet w packet)
+          ∙ ap (λ (f : Effect). placed (addsDevice f) (v .deviceCount) (fresh (addressOf f)) j (placed (asks f) d (rowBy (askedAt (plan .end .entry .setup) (lengthOf f) d (v .devices d)) (v .shelf) (v .devices d)) j (v .devices j))) (plan-quiet w high packet)
       ends false = refl
 
   -- and the shelf
@@ -358,7 +358,7 @@ module _ (packet : List ℕ) (time : ℕ) (w : World) where
           let v = world2 plan packet time w in
           let d = plan .end .entry .device in
           ended-shelf (plan .old) (plan .end) (withTransaction (plan .brought) v)
-          ∙ ap (λ (f : Effect). pick (asks f) (shelfBy (askedAt (plan .end .entry .setup) (lengthOf f) d (v .devices d)) (v .shelf)) (v .shelf)) (plan-quiet w packet)
+          ∙ ap (λ (f : Effect). pick (asks f) (shelfBy (askedAt (plan .end .entry .setup) (lengthOf f) d (v .devices d)) (v .shelf)) (v .shelf)) (plan-quiet w high packet)
       ends false = refl
 
   -- how many there are
@@ -366,13 +366,13 @@ module _ (packet : List ℕ) (time : ℕ) (w : World) where
   before-count = ends (plan .ends) ∙ resume (plan .resumes)
     where
       resume : (b : Bool) → when b (begun (w .packets) (plan .resume)) (world1 packet time w) .deviceCount ≡ w .deviceCount
-      resume true = begun-count (w .packets) (plan .resume) (world1 packet time w) ∙ ap (λ (b : Bool). w .deviceCount + one b) (resume-device w packet) ∙ omega arith
+      resume true = begun-count (w .packets) (plan .resume) (world1 packet time w) ∙ ap (λ (b : Bool). w .deviceCount + one b) (resume-device w high packet) ∙ omega arith
       resume false = refl
 
       ends : (b : Bool) → when b (λ v. ended (plan .old) (plan .end) (withTransaction (plan .brought) v)) (world2 plan packet time w) .deviceCount ≡ world2 plan packet time w .deviceCount
       ends true =
           ended-count (plan .old) (plan .end) (withTransaction (plan .brought) (world2 plan packet time w))
-          ∙ (ap (λ (f : Effect). world2 plan packet time w .deviceCount + one (addsDevice f)) (plan-quiet w packet) ∙ omega arith)
+          ∙ (ap (λ (f : Effect). world2 plan packet time w .deviceCount + one (addsDevice f)) (plan-quiet w high packet) ∙ omega arith)
       ends false = refl
 
   -- device j after the packet
@@ -381,7 +381,7 @@ module _ (packet : List ℕ) (time : ℕ) (w : World) where
 
   pub begun-at : (j : ℕ) → world4 plan packet time w .devices j ≡ deviceBegun j
   begun-at j =
-      begun-devices (w .packets) (plan .begin) (world3 plan packet time w) (λ h. plan-behind w packet h ∙ sym before-count) j
+      begun-devices (w .packets) (plan .begin) (world3 plan packet time w) (λ h. plan-behind w high packet h ∙ sym before-count) j
       ∙ (λ i. placed (changes (plan .begin)) (plan .begin .place) (rowAfter (plan .begin) (λ k. before-devices k i)) j (before-devices j i))
 
   begun-many : world4 plan packet time w .deviceCount ≡ w .deviceCount + one (plan .begin .device)

@@ -48,5 +48,5 @@ module _ (s : Status) (x0 : ℕ) (e0 : Endpoint) (pid : ℕ) (packet : List ℕ)
       by (Token sc kind token) = refl
 
 -- a step with a row of its own keeps none
-pub unkept : (p : Plan) (packet : List ℕ) (v : World) → p .begin .row ≡ true → v ≡ kept p packet v
-unkept p packet v h = λ i. withShelf (shelfWith (not (sym h i) && isKept (p .brought) (p .end .entry) (p .begin .transaction .last)) (p .end .entry) packet (v .shelf)) v
+pub unkept : (high : Bool) (p : Plan) (packet : List ℕ) (v : World) → p .begin .row ≡ true → v ≡ kept high p packet v
+unkept high p packet v h = λ i. withShelf (shelfWith (not (sym h i) && isKept high (p .brought) (p .end .entry) (p .begin .transaction .last)) (p .end .entry) packet (v .shelf)) v

@@ -65,9 +65,9 @@ taken f false s e v = refl
 
 -- ---- the old transaction is v's, on the endpoint x0, once it was resumed; w is the world before that, from which all is decided
 
-module _ (id pid x0 n : ℕ) (packet : List ℕ) (e : Endpoint) (w v : World) (r : Resumed x0 e n w v) where
+module _ (high : Bool) (id pid x0 n : ℕ) (packet : List ℕ) (e : Endpoint) (w v : World) (r : Resumed x0 e n w v) where
   abbrev b : Transaction
-  b = extractPayload (v .transaction) pid (length packet) (setupDataOf packet)
+  b = extractPayload high (v .transaction) pid (length packet) (setupDataOf packet)
 
   abbrev brought : World
   brought = withTransaction b v
@@ -111,7 +111,7 @@ module _ (id pid x0 n : ℕ) (packet : List ℕ) (e : Endpoint) (w v : World) (r
   gone-begun false = begun-transaction id newBegin v b
 
   new-is : (s : Slot) → transactionEnd false false (withTransaction b (withSlot s v)) ≡ withSlot Empty gone
-      → updateAt New id pid packet (completes (v .transaction .style) New) (withSlot s v) ≡ withSlot Current (begun id newBegin (when (not (eqb x0 0)) (λ u. ended x0 (endIf (not (eqb x0 0)) end e) (withTransaction b u)) v))
+      → updateAt high New id pid packet (completes (v .transaction .style) New) (withSlot s v) ≡ withSlot Current (begun id newBegin (when (not (eqb x0 0)) (λ u. ended x0 (endIf (not (eqb x0 0)) end e) (withTransaction b u)) v))
   new-is s h =
       ap (λ (u : World). following New (transactionStart id pid packet u)) h
       ∙ (start-is New new id pid x0 packet (withSlot Empty gone)
@@ -130,7 +130,7 @@ module _ (id pid x0 n : ℕ) (packet : List ℕ) (e : Endpoint) (w v : World) (r
   slot-resumed s = record { alike = slot-alike s (r .alike); own = r .own; other = r .other; transactions = r .transactions; lastItem = r .lastItem }
 
   invalid-is : (s : Slot)
-      → updateAt Invalid id pid packet (completes (v .transaction .style) Invalid) (withSlot s v)
+      → updateAt high Invalid id pid packet (completes (v .transaction .style) Invalid) (withSlot s v)
       ≡ (let x = invalidMiddle .begin .transaction .endpoint in
       withSlot Empty (when (not (eqb x 0)) (ended x (endIf (not (eqb x 0)) (closeOf invalidMiddle (w .lastItem) false false) (invalidMiddle .entry))) (begun id (invalidMiddle .begin) v)))
   invalid-is s =
@@ -173,77 +173,77 @@ module _ (id pid x0 n : ℕ) (packet : List ℕ) (e : Endpoint) (w v : World) (r
 
 -- ---- all of it, by the status
 
-module _ (id pid reason x0 : ℕ) (packet : List ℕ) (e : Endpoint) (w v : World) (r : Resumed x0 e (w .transactions + one (resumes (w .slot))) w v) where
+module _ (high : Bool) (id pid reason x0 : ℕ) (packet : List ℕ) (e : Endpoint) (w v : World) (r : Resumed x0 e (w .transactions + one (resumes (w .slot))) w v) where
   abbrev planned : Status → Plan
-  planned s = planBy (record { pid = pid; status = s; reason = reason }) x0 e (v .transaction) packet w
+  planned s = planBy high (record { pid = pid; status = s; reason = reason }) x0 e (v .transaction) packet w
 
   abbrev n : ℕ
   n = w .transactions + one (resumes (w .slot))
 
   -- a step that starts keeps no payload
-  starts-on : (s : Status) → Begins s → onward (planned s) id v ≡ onward (planned s) id (kept (planned s) packet v)
+  starts-on : (s : Status) → Begins s → onward (planned s) id v ≡ onward (planned s) id (kept high (planned s) packet v)
   unfolding planBy
   starts-on New new =
-      ap (onward (planned New) id) (unkept (planned New) packet v (starting-row New x0 (entry id pid x0 n packet e w v r) pid packet n w))
-  starts-on Invalid invalid = ap (onward (planned Invalid) id) (unkept (planned Invalid) packet v (starting-row Invalid x0 e pid packet n w))
+      ap (onward (planned New) id) (unkept high (planned New) packet v (starting-row New x0 (entry high id pid x0 n packet e w v r) pid packet n w))
+  starts-on Invalid invalid = ap (onward (planned Invalid) id) (unkept high (planned Invalid) packet v (starting-row Invalid x0 e pid packet n w))
 
   -- there was no transaction
-  empty-is : x0 ≡ 0 → (s : Status) → Begins s → updateAt s id pid packet (completes (v .transaction .style) s) (withSlot Empty v) ≡ onward (planned s) id (kept (planned s) packet v)
+  empty-is : x0 ≡ 0 → (s : Status) → Begins s → updateAt high s id pid packet (completes (v .transaction .style) s) (withSlot Empty v) ≡ onward (planned s) id (kept high (planned s) packet v)
   unfolding planBy
   empty-is z New new =
-      new-is id pid x0 n packet e w v r Empty (ap (λ (c : Bool). withSlot Empty (when (not c) (ended x0 (end id pid x0 n packet e w v r)) (brought id pid x0 n packet e w v r))) (sym (eq-eqb x0 0 z)))
+      new-is high id pid x0 n packet e w v r Empty (ap (λ (c : Bool). withSlot Empty (when (not c) (ended x0 (end high id pid x0 n packet e w v r)) (brought high id pid x0 n packet e w v r))) (sym (eq-eqb x0 0 z)))
       ∙ starts-on New new
-  empty-is z Invalid invalid = invalid-is id pid x0 n packet e w v r Empty ∙ starts-on Invalid invalid
+  empty-is z Invalid invalid = invalid-is high id pid x0 n packet e w v r Empty ∙ starts-on Invalid invalid
 
   -- there was one
   module _ (on : v .transaction .endpoint ≡ x0) (then : slotThen (w .slot) ≡ Current) where
-    at : b id pid x0 n packet e w v r .endpoint ≡ x0
-    at = extract-keeps (v .transaction) pid (length packet) (setupDataOf packet) .endpoint ∙ on
+    at : b high id pid x0 n packet e w v r .endpoint ≡ x0
+    at = extract-keeps high (v .transaction) pid (length packet) (setupDataOf packet) .endpoint ∙ on
 
     held : (u : World) → withSlot Current u ≡ withSlot (slotThen (w .slot)) u
     held u = ap (λ (z : Slot). withSlot z u) (sym then)
 
     -- the world with the packet's payload on the shelf, as the rules have it
     abbrev laden : World
-    laden = keepPayload pid packet v
+    laden = keepPayload high pid packet v
 
     laden-resumed : Resumed x0 e n w laden
     laden-resumed = record { alike = record { count = r .alike .count; devices = r .alike .devices; deviceCount = r .alike .deviceCount; device = r .alike .device; address = r .alike .address }; own = r .own; other = r .other; transactions = r .transactions; lastItem = r .lastItem }
 
-    goes-kept : (s : Status) (p : Plan) → p .begin ≡ appending s x0 e pid packet (b id pid x0 n packet e w v r) w .begin → p .brought ≡ b id pid x0 n packet e w v r → p .end .entry ≡ e → laden ≡ kept p packet v
+    goes-kept : (s : Status) (p : Plan) → p .begin ≡ appending s x0 e pid packet (b high id pid x0 n packet e w v r) w .begin → p .brought ≡ b high id pid x0 n packet e w v r → p .end .entry ≡ e → laden ≡ kept high p packet v
     goes-kept s p eb et ee =
-        let t = b id pid x0 n packet e w v r in
-        let k = extract-keeps (v .transaction) pid (length packet) (setupDataOf packet) in
+        let t = b high id pid x0 n packet e w v r in
+        let k = extract-keeps high (v .transaction) pid (length packet) (setupDataOf packet) in
         let row = appending-row s x0 e pid packet t w in
         let last = appending-last s x0 e pid packet t w in
         let own : v .endpoints (v .transaction .endpoint) ≡ e = ap (v .endpoints) on ∙ r .own in
-        (λ i. withShelf (shelfWith (not (sym row i) && (isPayload (sym (k .style) i) (sym last i) && (not (eqb (sym (k .endpoint) i) 0) && isLaid (kindOf (own i .setup))))) (own i) packet (v .shelf)) v)
-        ∙ (λ i. withShelf (shelfWith (not (sym eb i .row) && isKept (sym et i) (sym ee i) (sym eb i .transaction .last)) (sym ee i) packet (v .shelf)) v)
+        (λ i. withShelf (shelfWith (not (sym row i) && (isPayload high (sym (k .style) i) (sym last i) && (not (eqb (sym (k .endpoint) i) 0) && isLaid (kindOf (own i .setup))))) (own i) packet (v .shelf)) v)
+        ∙ (λ i. withShelf (shelfWith (not (sym eb i .row) && isKept high (sym et i) (sym ee i) (sym eb i .transaction .last)) (sym ee i) packet (v .shelf)) v)
 
-    current-is : (s : Status) → updateAt s id pid packet (completes (v .transaction .style) s) (withSlot Current v) ≡ onward (planned s) id (kept (planned s) packet v)
+    current-is : (s : Status) → updateAt high s id pid packet (completes (v .transaction .style) s) (withSlot Current v) ≡ onward (planned s) id (kept high (planned s) packet v)
     unfolding planBy
     current-is New =
-        new-is id pid x0 n packet e w v r Current
-        (end-on x0 false false (brought id pid x0 n packet e w v r) at ∙ ap (λ (s : End). withSlot Empty (when (not (eqb x0 0)) (ended x0 s) (brought id pid x0 n packet e w v r))) (end-same id pid x0 n packet e w v r))
+        new-is high id pid x0 n packet e w v r Current
+        (end-on x0 false false (brought high id pid x0 n packet e w v r) at ∙ ap (λ (s : End). withSlot Empty (when (not (eqb x0 0)) (ended x0 s) (brought high id pid x0 n packet e w v r))) (end-same high id pid x0 n packet e w v r))
         ∙ starts-on New new
     current-is Continue =
-        on-is id pid x0 n packet e w laden laden-resumed Continue continue at
+        on-is high id pid x0 n packet e w laden laden-resumed Continue continue at
         ∙ held (begun id (planned Continue .begin) laden)
         ∙ ap (onward (planned Continue) id) (goes-kept Continue (planned Continue) refl refl refl)
     current-is Retry =
-        last-is id pid x0 n packet e w laden laden-resumed Retry retry at true (completes (v .transaction .style) Retry)
+        last-is high id pid x0 n packet e w laden laden-resumed Retry retry at true (completes (v .transaction .style) Retry)
         ∙ ap (onward (planned Retry) id) (goes-kept Retry (planned Retry) refl refl refl)
     current-is Done =
-        last-is id pid x0 n packet e w laden laden-resumed Done done at true (completes (v .transaction .style) Done)
+        last-is high id pid x0 n packet e w laden laden-resumed Done done at true (completes (v .transaction .style) Done)
         ∙ ap (onward (planned Done) id) (goes-kept Done (planned Done) refl refl refl)
     current-is Fail =
-        last-is id pid x0 n packet e w laden laden-resumed Fail fail at false (completes (v .transaction .style) Fail)
+        last-is high id pid x0 n packet e w laden laden-resumed Fail fail at false (completes (v .transaction .style) Fail)
         ∙ ap (onward (planned Fail) id) (goes-kept Fail (planned Fail) refl refl refl)
     current-is Ambiguous =
-        on-is id pid x0 n packet e w laden laden-resumed Ambiguous ambiguous at
+        on-is high id pid x0 n packet e w laden laden-resumed Ambiguous ambiguous at
         ∙ held (begun id (planned Ambiguous .begin) laden)
         ∙ ap (onward (planned Ambiguous) id) (goes-kept Ambiguous (planned Ambiguous) refl refl refl)
-    current-is Invalid = invalid-is id pid x0 n packet e w v r Current ∙ starts-on Invalid invalid
+    current-is Invalid = invalid-is high id pid x0 n packet e w v r Current ∙ starts-on Invalid invalid
 
 -- ---- transaction_update, by the slot
 
@@ -272,28 +272,28 @@ link-resumed id w =
 abbrev pub carried : Plan → ℕ → World → World
 carried p id w = w ▷ when (p .resumes) (begun id (p .resume)) ▷ onward p id
 
-by-slot : (s : Slot) (id : ℕ) (packet : List ℕ) (w : World) → isDropped s (w .transaction) ≡ false
-    → transactionUpdate id packet (withSlot s w) ≡ (let p = planOf packet (withSlot s w) in carried p id (kept p packet (withSlot s w)))
+by-slot : (high : Bool) (s : Slot) (id : ℕ) (packet : List ℕ) (w : World) → isDropped s (w .transaction) ≡ false
+    → transactionUpdate high id packet (withSlot s w) ≡ (let p = planOf high packet (withSlot s w) in carried p id (kept high p packet (withSlot s w)))
 unfolding transactionUpdate planOf planBy begun opened
-by-slot Empty id packet w h =
+by-slot high Empty id packet w h =
     let v = withSlot Empty w in
     let t = stateAt Empty (w .transaction) in
-    let pid = transactionStatus t packet .pid in
-    let reason = transactionStatus t packet .reason in
-    no-transaction (λ s. updateAt s id pid packet (completes (t .style) s) v ≡ (let p = planBy (record { pid = pid; status = s; reason = reason }) 0 (w .endpoints 0) (w .transaction) packet v in onward p id (kept p packet v)))
-    (empty-is id pid reason 0 packet (w .endpoints 0) v v (same-resumed 0 v) refl New new) (empty-is id pid reason 0 packet (w .endpoints 0) v v (same-resumed 0 v) refl Invalid invalid) t refl packet
-by-slot Current id packet w h =
+    let pid = transactionStatus high t packet .pid in
+    let reason = transactionStatus high t packet .reason in
+    no-transaction high (λ s. updateAt high s id pid packet (completes (t .style) s) v ≡ (let p = planBy high (record { pid = pid; status = s; reason = reason }) 0 (w .endpoints 0) (w .transaction) packet v in onward p id (kept high p packet v)))
+    (empty-is high id pid reason 0 packet (w .endpoints 0) v v (same-resumed 0 v) refl New new) (empty-is high id pid reason 0 packet (w .endpoints 0) v v (same-resumed 0 v) refl Invalid invalid) t refl packet
+by-slot high Current id packet w h =
     let v = withSlot Current w in
     let x = w .transaction .endpoint in
-    let j = transactionStatus (w .transaction) packet in
-    current-is id (j .pid) (j .reason) x packet (w .endpoints x) v v (same-resumed x v) refl refl (j .status)
-by-slot Suspended id packet w h =
+    let j = transactionStatus high (w .transaction) packet in
+    current-is high id (j .pid) (j .reason) x packet (w .endpoints x) v v (same-resumed x v) refl refl (j .status)
+by-slot high Suspended id packet w h =
     let u = withSlot Suspended w in
     let x = w .transaction .endpoint in
     let v = begun id (resumeOf u) u in
-    let j = transactionStatus (v .transaction) packet in
-    ap (λ (c : Bool). pick c (withSlot Empty u) (updateFrom id packet (resumeAt Suspended id u))) h
-    ∙ current-is id (j .pid) (j .reason) x packet (moreTransactions (w .endpoints x)) u v (link-resumed id u) refl refl (j .status)
+    let j = transactionStatus high (v .transaction) packet in
+    ap (λ (c : Bool). pick c (withSlot Empty u) (updateFrom high id packet (resumeAt Suspended id u))) h
+    ∙ current-is high id (j .pid) (j .reason) x packet (moreTransactions (w .endpoints x)) u v (link-resumed id u) refl refl (j .status)
 
 -- ---- handle_raw_packet
 
@@ -302,15 +302,15 @@ abbrev bareOf : World → World
 bareOf w = makeWorld (w .endpoints) (w .count) (w .devices) (w .deviceCount) (w .slot) (w .transaction) (w .lastItem) Idle false (stamp 0 0 0) []
     0 0 (w .transactions) 0 0 0 []
 
-plan-bare : (packet : List ℕ) (w : World) → planOf packet (bareOf w) ≡ planOf packet w
+plan-bare : (high : Bool) (packet : List ℕ) (w : World) → planOf high packet (bareOf w) ≡ planOf high packet w
 unfolding planOf planBy
-plan-bare packet w =
+plan-bare high packet w =
     let x0 = oldEndpoint (w .slot) (w .transaction) in
     let t = transactionThen (w .slot) (w .transactions) (w .endpoints x0) (w .transaction) in
     let e = entryThen (w .slot) (w .endpoints x0) in
-    let j = transactionStatus (stateAt (slotThen (w .slot)) t) packet in
+    let j = transactionStatus high (stateAt (slotThen (w .slot)) t) packet in
     let s = j .status in
-    let b = extractPayload t (j .pid) (length packet) (setupDataOf packet) in
+    let b = extractPayload high t (j .pid) (length packet) (setupDataOf packet) in
     let end = endOf x0 e b (detailOf x0 w) (w .lastItem) false false in
     let ends = isNew s && not (eqb x0 0) in
     λ i. let m = middle-same s x0 (entryEnded ends end (startPid (b .style)) e) (j .pid) (w .transactions + one (resumes (w .slot))) b i in
@@ -342,37 +342,37 @@ plan-bare packet w =
     middle-same Invalid x0 e0 pid n b = same-starting alike x0 e0 (λ j. refl) Invalid pid packet n
 
 -- not from the packet's rows
-pub plan-same : (packet : List ℕ) (time : ℕ) (w : World) → planOf packet (withPacket packet time w) ≡ planOf packet w
-plan-same packet time w = sym (plan-bare packet (withPacket packet time w)) ∙ plan-bare packet w
+pub plan-same : (high : Bool) (packet : List ℕ) (time : ℕ) (w : World) → planOf high packet (withPacket packet time w) ≡ planOf high packet w
+plan-same high packet time w = sym (plan-bare high packet (withPacket packet time w)) ∙ plan-bare high packet w
 
 -- it has the packet's reason
-pub plan-reason : (packet : List ℕ) (w : World) → planOf packet w .reason ≡ reasonOf packet
+pub plan-reason : (high : Bool) (packet : List ℕ) (w : World) → planOf high packet w .reason ≡ reasonOf packet
 unfolding planOf planBy
-plan-reason packet w =
+plan-reason high packet w =
     let x0 = oldEndpoint (w .slot) (w .transaction) in
-    status-reason (stateAt (slotThen (w .slot)) (transactionThen (w .slot) (w .transactions) (w .endpoints x0) (w .transaction))) packet
+    status-reason high (stateAt (slotThen (w .slot)) (transactionThen (w .slot) (w .transactions) (w .endpoints x0) (w .transaction))) packet
 
 -- nor from the shelf
-pub plan-shelf : (packet shelf : List ℕ) (w : World) → planOf packet (withShelf shelf w) ≡ planOf packet w
-plan-shelf packet shelf w = sym (plan-bare packet (withShelf shelf w)) ∙ plan-bare packet w
+pub plan-shelf : (high : Bool) (packet shelf : List ℕ) (w : World) → planOf high packet (withShelf shelf w) ≡ planOf high packet w
+plan-shelf high packet shelf w = sym (plan-bare high packet (withShelf shelf w)) ∙ plan-bare high packet w
 
-pub packet-is : (packet : List ℕ) (time : ℕ) (w : World) → isDropped (w .slot) (w .transaction) ≡ false → handleRawPacket packet time w ≡ played (planOf packet w) packet time (kept (planOf packet w) packet w)
+pub packet-is : (high : Bool) (packet : List ℕ) (time : ℕ) (w : World) → isDropped (w .slot) (w .transaction) ≡ false → handleRawPacket high packet time w ≡ played (planOf high packet w) packet time (kept high (planOf high packet w) packet w)
 unfolding handleRawPacket played
-packet-is packet time w h =
+packet-is high packet time w h =
     let v = withPacket packet time w in
-    by-slot (w .slot) (w .packets) packet v h ∙ ap (λ (p : Plan). carried p (w .packets) (kept p packet v)) (plan-same packet time w)
+    by-slot high (w .slot) (w .packets) packet v h ∙ ap (λ (p : Plan). carried p (w .packets) (kept high p packet v)) (plan-same high packet time w)
 
 -- the same, said of one world: that with the packet's payload on the shelf
-pub packet-laden : (packet : List ℕ) (time : ℕ) (w : World) → isDropped (w .slot) (w .transaction) ≡ false
-    → handleRawPacket packet time w ≡ (let v = kept (planOf packet w) packet w in played (planOf packet v) packet time v)
-packet-laden packet time w h =
-    let v = kept (planOf packet w) packet w in
-    packet-is packet time w h ∙ ap (λ (p : Plan). played p packet time v) (sym (plan-shelf packet (v .shelf) w))
+pub packet-laden : (high : Bool) (packet : List ℕ) (time : ℕ) (w : World) → isDropped (w .slot) (w .transaction) ≡ false
+    → handleRawPacket high packet time w ≡ (let v = kept high (planOf high packet w) packet w in played (planOf high packet v) packet time v)
+packet-laden high packet time w h =
+    let v = kept high (planOf high packet w) packet w in
+    packet-is high packet time w h ∙ ap (λ (p : Plan). played p packet time v) (sym (plan-shelf high packet (v .shelf) w))
 
 -- a suspended transaction without its endpoint is dropped (answer 8)
-pub dropped-is : (packet : List ℕ) (time : ℕ) (w : World) → isDropped (w .slot) (w .transaction) ≡ true
-    → handleRawPacket packet time w ≡ withSlot Empty (withPacket packet time w)
+pub dropped-is : (high : Bool) (packet : List ℕ) (time : ℕ) (w : World) → isDropped (w .slot) (w .transaction) ≡ true
+    → handleRawPacket high packet time w ≡ withSlot Empty (withPacket packet time w)
 unfolding handleRawPacket transactionUpdate
-dropped-is packet time w h =
+dropped-is high packet time w h =
     let v = withPacket packet time w in
-    ap (λ (c : Bool). pick c (withSlot Empty v) (updateFrom (w .packets) packet (resumeAt (w .slot) (w .packets) v))) h
+    ap (λ (c : Bool). pick c (withSlot Empty v) (updateFrom high (w .packets) packet (resumeAt (w .slot) (w .packets) v))) h

@@ -93,9 +93,9 @@ no-effect e t d complete =
 -- ---- with no transaction
 
 -- what holds of New and of Invalid holds of the status of a packet where there is no transaction
-pub no-transaction : (P : Status → Type 0) → P New → P Invalid → (t : Transaction) → t .style ≡ Nothing → (packet : List ℕ) → P (transactionStatus t packet .status)
+pub no-transaction : (high : Bool) (P : Status → Type 0) → P New → P Invalid → (t : Transaction) → t .style ≡ Nothing → (packet : List ℕ) → P (transactionStatus high t packet .status)
 unfolding transactionStatus
-no-transaction P new invalid t h packet = by (checkedOf packet)
+no-transaction high P new invalid t h packet = by (checkedOf packet)
   where
     -- the two rows of startRows
     rows : (a b : Bool) → P (pick a New (pick b New Invalid))
@@ -103,8 +103,8 @@ no-transaction P new invalid t h packet = by (checkedOf packet)
     rows false true = new
     rows false false = invalid
 
-    by : (c : Checked) → P (judgedOf t c (length packet) .status)
+    by : (c : Checked) → P (judgedOf high t c (length packet) .status)
     by (Malformed reason) = invalid
     by (Valid next) =
-        subst (λ (s : Style). P (statusOf s t next (length packet))) (sym h)
+        subst (λ (s : Style). P (statusOf high s t next (length packet))) (sym h)
         (rows (fits (SOF or SETUP or IN or OUT or PING or only SPLIT ∷ []) (next ∷ []) && true) (fits (only MALFORMED ∷ []) (next ∷ []) && true))

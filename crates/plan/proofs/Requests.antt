@@ -55,9 +55,9 @@ ended-requests x s w =
     let l = act-requests (s .update) x (change x (becomes (s .entry)) w) in
     effect-requests (s .effect) x (updated x s w) ∙ λ i. l i ++ rowWords (s .effect) x (u i) (q i) (h i)
 
-module _ (packet : List ℕ) (time : ℕ) (w : World) where
+module _ (high : Bool) (packet : List ℕ) (time : ℕ) (w : World) where
   abbrev plan : Plan
-  plan = planOf packet w
+  plan = planOf high packet w
 
   begun-log : requestsIn (world4 plan packet time w) ≡ requestsIn w
   begun-log = begun-requests (w .packets) (plan .begin) (world3 plan packet time w) ∙ ends (plan .ends) ∙ resume (plan .resumes) ∙ own
@@ -74,21 +74,21 @@ module _ (packet : List ℕ) (time : ℕ) (w : World) where
           let v = withTransaction (plan .brought) (world2 plan packet time w) in
           let d = plan .end .entry .device in
           ended-requests (plan .old) (plan .end) v
-          ∙ ap (λ (f : Effect). requestsIn v ++ rowWords f (plan .old) (plan .end .entry .setup) (askedAt (plan .end .entry .setup) (lengthOf f) d (v .devices d)) (v .shelf)) (plan-quiet w packet)
+          ∙ ap (λ (f : Effect). requestsIn v ++ rowWords f (plan .old) (plan .end .entry .setup) (askedAt (plan .end .entry .setup) (lengthOf f) d (v .devices d)) (v .shelf)) (plan-quiet w high packet)
           ∙ append-nil (requestsIn v)
       ends false = refl
 
   -- the row of the request that completes: its endpoint, its setup data, the length of its payload, its note
   pub played-requests : requestsIn (played plan packet time w)
-      ≡ requestsIn w ++ pick (plan .closes && asks (plan .close .effect)) (requestWords (asking (plan .begin .transaction .endpoint) (plan .close .entry .setup) (lengthOf (plan .close .effect)) (noteBy (askedClose packet time w) (w .shelf)))) []
+      ≡ requestsIn w ++ pick (plan .closes && asks (plan .close .effect)) (requestWords (asking (plan .begin .transaction .endpoint) (plan .close .entry .setup) (lengthOf (plan .close .effect)) (noteBy (askedClose high packet time w) (w .shelf)))) []
   unfolding played
   played-requests = by (plan .closes)
     where
       row : List ℕ
-      row = requestWords (asking (plan .begin .transaction .endpoint) (plan .close .entry .setup) (lengthOf (plan .close .effect)) (noteBy (askedClose packet time w) (w .shelf)))
+      row = requestWords (asking (plan .begin .transaction .endpoint) (plan .close .entry .setup) (lengthOf (plan .close .effect)) (noteBy (askedClose high packet time w) (w .shelf)))
 
       by : (b : Bool) → requestsIn (when b (ended (plan .begin .transaction .endpoint) (plan .close)) (world4 plan packet time w)) ≡ requestsIn w ++ pick (b && asks (plan .close .effect)) row []
       by true =
           ended-requests (plan .begin .transaction .endpoint) (plan .close) (world4 plan packet time w)
-          ∙ λ i. begun-log i ++ rowWords (plan .close .effect) (plan .begin .transaction .endpoint) (plan .close .entry .setup) (askedBy (plan .close) (λ k. begun-at packet time w k i)) (shelf-begun packet time w i)
+          ∙ λ i. begun-log i ++ rowWords (plan .close .effect) (plan .begin .transaction .endpoint) (plan .close .entry .setup) (askedBy (plan .close) (λ k. begun-at high packet time w k i)) (shelf-begun high packet time w i)
       by false = begun-log ∙ sym (append-nil (requestsIn w))

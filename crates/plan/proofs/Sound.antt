@@ -48,17 +48,17 @@ use Rattle.plan.proofs.Small.{Small, FewAll, few-more, small-more, afte
 use Rattle.plan.proofs.Bounded.{Bounded, onGoing, middle-bounded, never}
 
 -- the world before a packet
-pub record Sane (packet : List ℕ) (w : World) : Type 0 where
+pub record Sane (high : Bool) (packet : List ℕ) (w : World) : Type 0 where
   -- the special endpoints stand, and there is room for a new one where the packet has one
   pub special : 3 ≤ w .count
-  pub room : w .count + one (planOf packet w .begin .endpoint) ≤ 128
+  pub room : w .count + one (planOf high packet w .begin .endpoint) ≤ 128
   pub devices : w .deviceCount ≤ 64
   -- no endpoint has more T rows or G rows than there are links, and there are numbers for the links and the transaction rows of the packet
   pub links : ℕ
   pub few : FewAll links links w
-  pub linked : links + planLinks (planOf packet w) < 2 ^ 64
-  pub started : links + planStarts (planOf packet w) < 2 ^ 64
-  pub rows : w .transactions + one (resumes (w .slot)) + one (planOf packet w .begin .row) ≤ 2 ^ 64
+  pub linked : links + planLinks (planOf high packet w) < 2 ^ 64
+  pub started : links + planStarts (planOf high packet w) < 2 ^ 64
+  pub rows : w .transactions + one (resumes (w .slot)) + one (planOf high packet w .begin .row) ≤ 2 ^ 64
   pub fits : (j : ℕ) → j < w .count → Fits (w .endpoints j)
   -- the old transaction's endpoint is one of them, and its token a byte
   pub old : oldEndpoint (w .slot) (w .transaction) < w .count
@@ -103,25 +103,25 @@ if-small true s x p q = p
 if-small false s x p q = q
 
 -- the PID of a packet is a byte
-pid-byte : (t : Transaction) (packet : List ℕ) → getD packet 0 0 < 256 → transactionStatus t packet .pid < 256
+pid-byte : (high : Bool) (t : Transaction) (packet : List ℕ) → getD packet 0 0 < 256 → transactionStatus high t packet .pid < 256
 unfolding transactionStatus
-pid-byte t packet h = by (checkedOf packet) refl
+pid-byte high t packet h = by (checkedOf packet) refl
   where
-    by : (c : Checked) → checkedOf packet ≡ c → judgedOf t c (length packet) .pid < 256
+    by : (c : Checked) → checkedOf packet ≡ c → judgedOf high t c (length packet) .pid < 256
     by (Malformed reason) q = omega arith
     by (Valid next) q = omega (arith, valid packet next q .first)
 
 -- ---- the steps of a plan
 
 -- no endpoint has more than L T rows and L G rows before; e is the old endpoint's entry, once its transaction is resumed
-module _ (packet : List ℕ) (time : ℕ) (w : World) (special : 3 ≤ w .count) (devices : w .deviceCount ≤ 64) (L : ℕ) (entries : (j : ℕ) → j < w .count → Small L L (w .endpoints j))
+module _ (high : Bool) (packet : List ℕ) (time : ℕ) (w : World) (special : 3 ≤ w .count) (devices : w .deviceCount ≤ 64) (L : ℕ) (entries : (j : ℕ) → j < w .count → Small L L (w .endpoints j))
     (s : Status) (pid reason : ℕ) (byte : pid < 256) (x0 : ℕ) (old : x0 < w .count) (e : Endpoint) (small : Small (L + one (resumes (w .slot))) L e) (t : Transaction) (on : onGoing s ≡ true → t .endpoint < w .count) (token : startPid (t .style) < 256)
     (resumed : resumes (w .slot) ≡ true → (w .transaction .endpoint < w .count) × (startPid (w .transaction .style) < 256)) where
   abbrev plan : Plan
-  plan = planBy (record { pid = pid; status = s; reason = reason }) x0 e t packet w
+  plan = planBy high (record { pid = pid; status = s; reason = reason }) x0 e t packet w
 
   abbrev b : Transaction
-  b = extractPayload t pid (length packet) (setupDataOf packet)
+  b = extractPayload high t pid (length packet) (setupDataOf packet)
 
   abbrev detail : Detail
   detail = detailOf x0 w
@@ -144,7 +144,7 @@ module _ (packet : List ℕ) (time : ℕ) (w : World) (special : 3 ≤ w .count)
   gs2 c = L + started c (endIf c end e .update)
 
   brought-token : startPid (b .style) < 256
-  brought-token = subst (λ (z : Style). startPid z < 256) (sym (extract-keeps t pid (length packet) (setupDataOf packet) .style)) token
+  brought-token = subst (λ (z : Style). startPid z < 256) (sym (extract-keeps high t pid (length packet) (setupDataOf packet) .style)) token
 
   end-small : Small ts1 L (end .entry)
   unfolding endOf
@@ -167,7 +167,7 @@ module _ (packet : List ℕ) (time : ℕ) (w : World) (special : 3 ≤ w .count)
   bounded : Bounded (w .count) (ts2 ends) (gs2 ends) (w .transactions + one (resumes (w .slot))) middle
   bounded =
       middle-bounded w special devices (ts2 ends) (gs2 ends) x0 (entryEnded ends end (startPid (b .style)) e) old (ended-small ends) (λ j h. small-more (more2 ends .0) (more2 ends .1) (entries j h)) s pid (w .transactions + one (resumes (w .slot))) byte packet b
-      (λ q. subst (λ (x : ℕ). x < w .count) (sym (extract-keeps t pid (length packet) (setupDataOf packet) .endpoint)) (on q)) brought-token
+      (λ q. subst (λ (x : ℕ). x < w .count) (sym (extract-keeps high t pid (length packet) (setupDataOf packet) .endpoint)) (on q)) brought-token
 
   -- the worlds between
   few1 : FewAll L L (world1 packet time w)
@@ -289,18 +289,18 @@ then-style Current id e t = refl
 then-style Suspended id e t = refl
 
 -- where there is no transaction, none goes on
-then-on : (s : Slot) (id n : ℕ) (e : Endpoint) (t : Transaction) (packet : List ℕ) → oldEndpoint s t < n
-    → (let v = transactionThen s id e t in onGoing (transactionStatus (stateAt (slotThen s) v) packet .status) ≡ true → v .endpoint < n)
-then-on Empty id n e t packet h = no-transaction (λ s. onGoing s ≡ true → t .endpoint < n) never never (stateAt Empty t) refl packet
-then-on Current id n e t packet h = λ q. h
-then-on Suspended id n e t packet h = λ q. h
+then-on : (high : Bool) (s : Slot) (id n : ℕ) (e : Endpoint) (t : Transaction) (packet : List ℕ) → oldEndpoint s t < n
+    → (let v = transactionThen s id e t in onGoing (transactionStatus high (stateAt (slotThen s) v) packet .status) ≡ true → v .endpoint < n)
+then-on high Empty id n e t packet h = no-transaction high (λ s. onGoing s ≡ true → t .endpoint < n) never never (stateAt Empty t) refl packet
+then-on high Current id n e t packet h = λ q. h
+then-on high Suspended id n e t packet h = λ q. h
 
 pub then-resumed : (s : Slot) (n : ℕ) (t : Transaction) → oldEndpoint s t < n → resumes s ≡ true → t .endpoint < n
 then-resumed Empty n t h = never
 then-resumed Current n t h = never
 then-resumed Suspended n t h = λ q. h
 
-module _ (packet : List ℕ) (w : World) (a : Sane packet w) where
+module _ (high : Bool) (packet : List ℕ) (w : World) (a : Sane high packet w) where
   abbrev held : ℕ
   held = oldEndpoint (w .slot) (w .transaction)
 
@@ -308,54 +308,54 @@ module _ (packet : List ℕ) (w : World) (a : Sane packet w) where
   resumedBy = transactionThen (w .slot) (w .transactions) (w .endpoints held) (w .transaction)
 
   abbrev judged : Judged
-  judged = transactionStatus (stateAt (slotThen (w .slot)) resumedBy) packet
+  judged = transactionStatus high (stateAt (slotThen (w .slot)) resumedBy) packet
 
   entries-small : (j : ℕ) → j < w .count → Small (a .links) (a .links) (w .endpoints j)
   entries-small j h = record { few = a .few j h; fits = a .fits j h }
 
-  pub fits-packet : (time : ℕ) → (planOf packet w .closes ≡ true → passes (planOf packet w .close .effect) (planOf packet w .close .entry .total) ≡ false)
-      → PlanFits (planOf packet w) packet time w
+  pub fits-packet : (time : ℕ) → (planOf high packet w .closes ≡ true → passes (planOf high packet w .close .effect) (planOf high packet w .close .entry .total) ≡ false)
+      → PlanFits (planOf high packet w) packet time w
   unfolding planOf planBy
   fits-packet time total =
-      plan-fits packet time w (a .special) (a .devices) (a .links) entries-small (judged .status) (judged .pid) (judged .reason) (pid-byte (stateAt (slotThen (w .slot)) resumedBy) packet (a .first)) held (a .old) (entryThen (w .slot) (w .endpoints held))
+      plan-fits high packet time w (a .special) (a .devices) (a .links) entries-small (judged .status) (judged .pid) (judged .reason) (pid-byte high (stateAt (slotThen (w .slot)) resumedBy) packet (a .first)) held (a .old) (entryThen (w .slot) (w .endpoints held))
       (then-small (w .slot) (w .endpoints held) (entries-small held (a .old)))
       resumedBy
-      (then-on (w .slot) (w .transactions) (w .count) (w .endpoints held) (w .transaction) packet (a .old))
+      (then-on high (w .slot) (w .transactions) (w .count) (w .endpoints held) (w .transaction) packet (a .old))
       (subst (λ (z : Style). startPid z < 256) (sym (then-style (w .slot) (w .transactions) (w .endpoints held) (w .transaction))) (a .token))
       (λ q. (then-resumed (w .slot) (w .count) (w .transaction) (a .old) q, a .token))
       (a .linked) (a .started) (a .room) total
 
   -- the plan that is made in words is this one
-  pub words-packet : planWords (planOf packet w) ≡ planOf packet w
+  pub words-packet : planWords (planOf high packet w) ≡ planOf high packet w
   unfolding planOf
   words-packet =
-      same-words (planOf packet w)
-      (plan-worded packet 0 w (a .special) (a .devices) (a .links) entries-small (judged .status) (judged .pid) (judged .reason) (pid-byte (stateAt (slotThen (w .slot)) resumedBy) packet (a .first)) held (a .old) (entryThen (w .slot) (w .endpoints held))
+      same-words (planOf high packet w)
+      (plan-worded high packet 0 w (a .special) (a .devices) (a .links) entries-small (judged .status) (judged .pid) (judged .reason) (pid-byte high (stateAt (slotThen (w .slot)) resumedBy) packet (a .first)) held (a .old) (entryThen (w .slot) (w .endpoints held))
       (then-small (w .slot) (w .endpoints held) (entries-small held (a .old)))
       resumedBy
-      (then-on (w .slot) (w .transactions) (w .count) (w .endpoints held) (w .transaction) packet (a .old))
+      (then-on high (w .slot) (w .transactions) (w .count) (w .endpoints held) (w .transaction) packet (a .old))
       (subst (λ (z : Style). startPid z < 256) (sym (then-style (w .slot) (w .transactions) (w .endpoints held) (w .transaction))) (a .token))
       (λ q. (then-resumed (w .slot) (w .count) (w .transaction) (a .old) q, a .token))
       (a .linked) (a .started) (a .rows))
 
 -- how many endpoints there are after it, so that `room` says that they are not too many
-pub played-count : (packet : List ℕ) (time : ℕ) (w : World) → played (planOf packet w) packet time w .count ≡ w .count + one (planOf packet w .begin .endpoint)
+pub played-count : (high : Bool) (packet : List ℕ) (time : ℕ) (w : World) → played (planOf high packet w) packet time w .count ≡ w .count + one (planOf high packet w .begin .endpoint)
 unfolding planOf planBy played
-played-count packet time w = closed (p .closes) ∙ (begun-count (w .packets) (p .begin) (world3 p packet time w) ∙ ap (λ (n : ℕ). n + one (p .begin .endpoint)) (old-ended (p .ends) ∙ resumed (p .resumes)))
+played-count high packet time w = closed (p .closes) ∙ (begun-count (w .packets) (p .begin) (world3 p packet time w) ∙ ap (λ (n : ℕ). n + one (p .begin .endpoint)) (old-ended (p .ends) ∙ resumed (p .resumes)))
   where
     p : Plan
-    p = planOf packet w
+    p = planOf high packet w
 
-    closed : (c : Bool) → when c (ended (planOf packet w .begin .transaction .endpoint) (planOf packet w .close)) (world4 (planOf packet w) packet time w) .count ≡ world4 (planOf packet w) packet time w .count
-    closed true = ended-count (planOf packet w .begin .transaction .endpoint) (planOf packet w .close) (world4 (planOf packet w) packet time w)
+    closed : (c : Bool) → when c (ended (planOf high packet w .begin .transaction .endpoint) (planOf high packet w .close)) (world4 (planOf high packet w) packet time w) .count ≡ world4 (planOf high packet w) packet time w .count
+    closed true = ended-count (planOf high packet w .begin .transaction .endpoint) (planOf high packet w .close) (world4 (planOf high packet w) packet time w)
     closed false = refl
 
-    old-ended : (c : Bool) → when c (λ v. ended (planOf packet w .old) (planOf packet w .end) (withTransaction (planOf packet w .brought) v)) (world2 (planOf packet w) packet time w) .count ≡ world2 (planOf packet w) packet time w .count
-    old-ended true = ended-count (planOf packet w .old) (planOf packet w .end) (withTransaction (planOf packet w .brought) (world2 (planOf packet w) packet time w))
+    old-ended : (c : Bool) → when c (λ v. ended (planOf high packet w .old) (planOf high packet w .end) (withTransaction (planOf high packet w .brought) v)) (world2 (planOf high packet w) packet time w) .count ≡ world2 (planOf high packet w) packet time w .count
+    old-ended true = ended-count (planOf high packet w .old) (planOf high packet w .end) (withTransaction (planOf high packet w .brought) (world2 (planOf high packet w) packet time w))
     old-ended false = refl
 
-    resumed : (c : Bool) → when c (begun (w .packets) (planOf packet w .resume)) (world1 packet time w) .count ≡ w .count
-    resumed true = omega (arith, begun-count (w .packets) (planOf packet w .resume) (world1 packet time w))
+    resumed : (c : Bool) → when c (begun (w .packets) (planOf high packet w .resume)) (world1 packet time w) .count ≡ w .count
+    resumed true = omega (arith, begun-count (w .packets) (planOf high packet w .resume) (world1 packet time w))
     resumed false = refl
 
 -- ---- an event or finish

@@ -261,11 +261,11 @@ abbrev pub lastEnded : Bool → End → ℕ → ℕ → ℕ
 lastEnded ends s x last = pick ends (itemAfter (s .update) x last) last
 
 -- by the old transaction's endpoint, that one's entry and the transaction, resumed; j is the packet's status
-unfoldable pub planBy : Judged → ℕ → Endpoint → Transaction → List ℕ → World → Plan
-planBy j x0 e t packet w =
+unfoldable pub planBy : Bool → Judged → ℕ → Endpoint → Transaction → List ℕ → World → Plan
+planBy high j x0 e t packet w =
     let s = j .status in
     let pid = j .pid in
-    let b = extractPayload t pid (length packet) (setupDataOf packet) in
+    let b = extractPayload high t pid (length packet) (setupDataOf packet) in
     let end = endOf x0 e b (detailOf x0 w) (w .lastItem) false false in
     let ends = isNew s && not (eqb x0 0) in
     let e0 = entryEnded ends end (startPid (b .style)) e in
@@ -285,21 +285,21 @@ planBy j x0 e t packet w =
       reason = j .reason;
     }
 
-unfoldable pub planOf : List ℕ → World → Plan
-planOf packet w =
+unfoldable pub planOf : Bool → List ℕ → World → Plan
+planOf high packet w =
     let x0 = oldEndpoint (w .slot) (w .transaction) in
     let e = w .endpoints x0 in
     let t = transactionThen (w .slot) (w .transactions) e (w .transaction) in
-    planBy (transactionStatus (stateAt (slotThen (w .slot)) t) packet) x0 (entryThen (w .slot) e) t packet w
+    planBy high (transactionStatus high (stateAt (slotThen (w .slot)) t) packet) x0 (entryThen (w .slot) e) t packet w
 
 -- ---- the payload that the packet brings to a read (rules, keepPayload): a transaction that goes on has no row of its own, and its last packet is this one
 
-abbrev pub keeps : Plan → Bool
-keeps p = not (p .begin .row) && isKept (p .brought) (p .end .entry) (p .begin .transaction .last)
+abbrev pub keeps : Bool → Plan → Bool
+keeps high p = not (p .begin .row) && isKept high (p .brought) (p .end .entry) (p .begin .transaction .last)
 
 -- the world before the packet, with its payload on the shelf
-abbrev pub kept : Plan → List ℕ → World → World
-kept p packet w = withShelf (shelfWith (keeps p) (p .end .entry) packet (w .shelf)) w
+abbrev pub kept : Bool → Plan → List ℕ → World → World
+kept high p packet w = withShelf (shelfWith (keeps high p) (p .end .entry) packet (w .shelf)) w
 
 -- ---- done: the packet's rows, then each step
 

@@ -111,22 +111,22 @@ BeginWants s t l = (t .endpoint < s .decoder .counts .endpoints) × ((s .decoder
 
 pub record BeginPlan (packet : List ℕ) (time : ℕ) (s : State) (row : Bool) (t : Transaction) (l : Bool) : Type 0 where
   pub plan : Plan
-  pub is : planOf packet (worldAt s) ≡ plan
+  pub is : planOf (s .decoder .high) packet (worldAt s) ≡ plan
   pub summed : sumPlan (s .decoder) (heldAt s) plan (length packet) (roomOf (s .logs)) ≡ beginSum row l (length packet) (s .decoder)
   pub left : leftWith plan (beginSum row l (length packet) (s .decoder)) packet time s ≡ beginState row t l packet time s
-  pub kept : isChange (changeBy plan (s .decoder .counts .devices) (heldAt s .requests)) ≡ false
+  pub kept : isChange (changeBy (s .decoder .high) plan (s .decoder .counts .devices) (heldAt s .requests)) ≡ false
   -- what the code asks before it writes: the endpoint is there, and its count has room for one more
   pub wants : PlanAsks plan (deskBy (handOf time (plan .reason) (s .decoder) (heldAt s) (s .table)) s) → BeginWants s t l
 
 module _ (packet : List ℕ) (time : ℕ) (s : State) (h : Enters packet s) where
-  pub only-plan : {row : Bool} {t : Transaction} {l : Bool} → BeginOnly (planOf packet (worldAt s)) row t l Current → keeps (planOf packet (worldAt s)) ≡ false → RowsRoom (one row) (one l) (length packet) (heldAt s) (s .decoder .counts) (roomOf (s .logs)) → BeginPlan packet time s row t l
+  pub only-plan : {row : Bool} {t : Transaction} {l : Bool} → BeginOnly (planOf (s .decoder .high) packet (worldAt s)) row t l Current → keeps (s .decoder .high) (planOf (s .decoder .high) packet (worldAt s)) ≡ false → RowsRoom (one row) (one l) (length packet) (heldAt s) (s .decoder .counts) (roomOf (s .logs)) → BeginPlan packet time s row t l
   only-plan {row} {t} {l} q u f =
       record {
-        plan = onlyBegin (planOf packet (worldAt s)) row t l Current;
+        plan = onlyBegin (planOf (s .decoder .high) packet (worldAt s)) row t l Current;
         is = shape q;
-        summed = sum-by (planOf packet (worldAt s)) t Current (s .decoder) (length packet) row l (heldAt s) (roomOf (s .logs)) (well packet time s h .counts) (well packet time s h .numbered) f;
-        left = left-by (planOf packet (worldAt s)) t packet time s row l;
-        kept = ap (λ (b : Bool). b || false) (ap keeps (sym (shape q)) ∙ u);
+        summed = sum-by (planOf (s .decoder .high) packet (worldAt s)) t Current (s .decoder) (length packet) row l (heldAt s) (roomOf (s .logs)) (well packet time s h .counts) (well packet time s h .numbered) f;
+        left = left-by (planOf (s .decoder .high) packet (worldAt s)) t packet time s row l;
+        kept = ap (λ (b : Bool). b || false) (ap (keeps (s .decoder .high)) (sym (shape q)) ∙ u);
         wants = λ a. (a .begin .there, (a .begin .few, a .begin .transactions));
       }
 

@@ -45,7 +45,7 @@ module _ (packet : List ℕ) (time : ℕ) (s : State) (h : Enters packet s) wher
   pub well : WellFormed (s .decoder) (s .devices) (s .table) (roomOf (s .logs))
   well = sound s (h .ill) .0
 
-  module _ {q : Plan} {z : Sum} (e : planOf packet (worldAt s) ≡ q) (f : sumPlan (s .decoder) (heldAt s) q (length packet) (roomOf (s .logs)) ≡ z) (ok : z .answer ≡ 0) where
+  module _ {q : Plan} {z : Sum} (e : planOf (s .decoder .high) packet (worldAt s) ≡ q) (f : sumPlan (s .decoder) (heldAt s) q (length packet) (roomOf (s .logs)) ≡ z) (ok : z .answer ≡ 0) where
     decided : Decided packet s q (heldAt s) (roomOf (s .logs)) z
     decided =
         record {
@@ -68,9 +68,9 @@ module _ (packet : List ℕ) (time : ℕ) (s : State) (h : Enters packet s) wher
     pub shape-rows : (heldAt s .bytes + length packet ≤ length (s .logs .bytes)) × ((heldAt s .packets + 1) * packetWidth ≤ length (s .logs .packets))
     shape-rows = rows-fit packet time s decided ok
 
-    pub shape-call : isChange (changeBy q (s .decoder .counts .devices) (heldAt s .requests)) ≡ false → (shelf : List ℕ) → PacketCall packet time s shelf 0 (leftWith q z packet time s) shelf
+    pub shape-call : isChange (changeBy (s .decoder .high) q (s .decoder .counts .devices) (heldAt s .requests)) ≡ false → (shelf : List ℕ) → PacketCall packet time s shelf 0 (leftWith q z packet time s) shelf
     shape-call c shelf =
         let k = performed q (deskBy (handOf time (q .reason) (s .decoder) (heldAt s) (s .table)) s) in
-        let x = changeBy q (s .decoder .counts .devices) (heldAt s .requests) in
+        let x = changeBy (s .decoder .high) q (s .decoder .counts .devices) (heldAt s .requests) in
         with-parts packet time s shelf (sym (changed-none x packet shelf (s .devices) c)) (sym (requested-none x packet shelf (s .devices) c (s .logs .requests))) (sym (shelved-none x packet shelf (s .devices) c))
         (accepted-by packet time s decided ok {h = handOf time (q .reason) (s .decoder) (heldAt s) (s .table)} {k = k} {x = decoderBy (s .decoder) q z (k .hand)} {c = x} refl refl refl refl refl refl shelf)

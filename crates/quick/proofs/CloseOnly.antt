@@ -90,14 +90,14 @@ left-by p t e packet time s = refl
 -- ---- the call
 
 module _ (packet : List ℕ) (time : ℕ) (s : State) (h : Enters packet s) where
-  module _ {t : Transaction} {e : End} (q : CloseOnly (planOf packet (worldAt s)) t e Empty) (f : CloseFits e (length packet) (s .decoder) (heldAt s) (roomOf (s .logs))) where
-    summed : sumPlan (s .decoder) (heldAt s) (onlyClose (planOf packet (worldAt s)) t e Empty) (length packet) (roomOf (s .logs)) ≡ accepted (s .decoder) (closeTally e (length packet) (s .decoder))
-    summed = sum-by (planOf packet (worldAt s)) t e Empty (s .decoder) (length packet) (heldAt s) (roomOf (s .logs)) f
+  module _ {t : Transaction} {e : End} (q : CloseOnly (planOf (s .decoder .high) packet (worldAt s)) t e Empty) (f : CloseFits e (length packet) (s .decoder) (heldAt s) (roomOf (s .logs))) where
+    summed : sumPlan (s .decoder) (heldAt s) (onlyClose (planOf (s .decoder .high) packet (worldAt s)) t e Empty) (length packet) (roomOf (s .logs)) ≡ accepted (s .decoder) (closeTally e (length packet) (s .decoder))
+    summed = sum-by (planOf (s .decoder .high) packet (worldAt s)) t e Empty (s .decoder) (length packet) (heldAt s) (roomOf (s .logs)) f
 
-    pub close-only-call : keeps (planOf packet (worldAt s)) ≡ false → {s′ : State} → s′ ≡ closeState t e (closeTally e (length packet) (s .decoder)) packet time s → (shelf : List ℕ) → PacketCall packet time s shelf 0 s′ shelf
+    pub close-only-call : keeps (s .decoder .high) (planOf (s .decoder .high) packet (worldAt s)) ≡ false → {s′ : State} → s′ ≡ closeState t e (closeTally e (length packet) (s .decoder)) packet time s → (shelf : List ℕ) → PacketCall packet time s shelf 0 s′ shelf
     close-only-call u c shelf =
-        let k : keeps (onlyClose (planOf packet (worldAt s)) t e Empty) ≡ false = ap keeps (sym (shape q)) ∙ u in
-        subst (λ (x : State). PacketCall packet time s shelf 0 x shelf) (left-by (planOf packet (worldAt s)) t e packet time s ∙ sym c)
+        let k : keeps (s .decoder .high) (onlyClose (planOf (s .decoder .high) packet (worldAt s)) t e Empty) ≡ false = ap (keeps (s .decoder .high)) (sym (shape q)) ∙ u in
+        subst (λ (x : State). PacketCall packet time s shelf 0 x shelf) (left-by (planOf (s .decoder .high) packet (worldAt s)) t e packet time s ∙ sym c)
         (shape-call packet time s h (shape q) summed refl (λ i. f .device i || (k i || f .request i)) shelf)
 
     -- what carrying the end out asks, of the logs that are lent for it

@@ -139,7 +139,7 @@ light-closes e len d held room w m l =
 
 -- ---- the call
 
-module _ (packet : List ℕ) (time : ℕ) (s : State) (h : Enters packet s) {t : Transaction} {e : End} (q : CloseOnly (planOf packet (worldAt s)) t e Empty) (f : CloseFits e (length packet) (s .decoder) (heldAt s) (roomOf (s .logs)))
+module _ (packet : List ℕ) (time : ℕ) (s : State) (h : Enters packet s) {t : Transaction} {e : End} (q : CloseOnly (planOf (s .decoder .high) packet (worldAt s)) t e Empty) (f : CloseFits e (length packet) (s .decoder) (heldAt s) (roomOf (s .logs)))
     (l : LightRoom e (length packet) (heldAt s) (s .decoder .counts) (roomOf (s .logs))) (fits : Fits (e .entry)) where
   pub there : t .endpoint < 128
   there = let a = close-only-asks packet time s h q f .asks in omega (arith, a .there, a .few)
@@ -155,7 +155,7 @@ module _ (packet : List ℕ) (time : ℕ) (s : State) (h : Enters packet s) {t :
 
   -- of what the code has: each part with its equation (light_only)
   pub light-by : {held : Counts} {r : Decoder} {table bytes packets rows : List ℕ}
-      → keeps (planOf packet (worldAt s)) ≡ false
+      → keeps (s .decoder .high) (planOf (s .decoder .high) packet (worldAt s)) ≡ false
       → startPid (t .style) < 256
       → held ≡ heldAt s
       → r ≡ lightDecoder t e (moreRows 0 (linkRows (e .update) (e .effect)) (length packet) (s .decoder .counts)) (s .decoder .waiting) time (s .decoder)

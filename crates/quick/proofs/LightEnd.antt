@@ -141,6 +141,7 @@ module _ (t : Transaction) (z : Tally) (packet : List ℕ) (time : ℕ) (s : Sta
         keepalive = s .decoder .keepalive;
         waiting = z .waiting;
         finished = s .decoder .finished;
+        high = s .decoder .high;
         time = time;
       })
       (s .devices)

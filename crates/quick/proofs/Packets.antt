@@ -51,22 +51,22 @@ pick-same true a = refl
 pick-same false a = refl
 
 -- neither
-pub not-shaped : (t : Transaction) (p : Plan) (w : World) → Shaped (noShape t) p w
-not-shaped t p w = record { begins = λ h. absurd (false≢true h); closes = λ h. absurd (false≢true h) }
+pub not-shaped : (high : Bool) (t : Transaction) (p : Plan) (w : World) → Shaped high (noShape t) p w
+not-shaped high t p w = record { begins = λ h. absurd (false≢true h); closes = λ h. absurd (false≢true h) }
 
 -- one that begins does not close
-pub begun-shaped : (row l : Bool) (t : Transaction) {p : Plan} {w : World} → Begun (beginShape row l t) p w → Shaped (beginShape row l t) p w
-begun-shaped row l t b = record { begins = λ h. b; closes = λ h. absurd (false≢true h) }
+pub begun-shaped : (high : Bool) (row l : Bool) (t : Transaction) {p : Plan} {w : World} → Begun high (beginShape row l t) p w → Shaped high (beginShape row l t) p w
+begun-shaped high row l t b = record { begins = λ h. b; closes = λ h. absurd (false≢true h) }
 
 -- a step with a row of its own lays nothing by
-rowed-kept : (p : Plan) → p .begin .row ≡ true → keeps p ≡ false
-rowed-kept p h = ap (λ (r : Bool). not r && isKept (p .brought) (p .end .entry) (p .begin .transaction .last)) h
+rowed-kept : (high : Bool) (p : Plan) → p .begin .row ≡ true → keeps high p ≡ false
+rowed-kept high p h = ap (λ (r : Bool). not r && isKept high (p .brought) (p .end .entry) (p .begin .transaction .last)) h
 
-begun-only : (p : Plan) (w : World) (t : Transaction) (l : Bool) → isDropped (w .slot) (w .transaction) ≡ false → BeginOnly p true t l Current → Begun (beginShape true l t) p w
-begun-only p w t l live o = record { live = live; plan = inl o; kept = rowed-kept p (o .begins) }
+begun-only : (high : Bool) (p : Plan) (w : World) (t : Transaction) (l : Bool) → isDropped (w .slot) (w .transaction) ≡ false → BeginOnly p true t l Current → Begun high (beginShape true l t) p w
+begun-only high p w t l live o = record { live = live; plan = inl o; kept = rowed-kept high p (o .begins) }
 
-begun-rest : (p : Plan) (w : World) (t : Transaction) (l : Bool) → isDropped (w .slot) (w .transaction) ≡ false → BeginRest p w true t l → Begun (beginShape true l t) p w
-begun-rest p w t l live r = record { live = live; plan = inr r; kept = rowed-kept p (r .begins .begins) }
+begun-rest : (high : Bool) (p : Plan) (w : World) (t : Transaction) (l : Bool) → isDropped (w .slot) (w .transaction) ≡ false → BeginRest p w true t l → Begun high (beginShape true l t) p w
+begun-rest high p w t l live r = record { live = live; plan = inr r; kept = rowed-kept high p (r .begins .begins) }
 
 -- ---- a token on an endpoint that is there and where no group starts early
 
@@ -115,18 +115,18 @@ token-by q m packet pid n x0 e0 p w h e p1 p2 p3 p4 p5 p6 =
     }
 
 -- with an empty slot
-token-on : (packet : List ℕ) (pid : ℕ) (p : Place) (w : World) → (let v = withSlot Empty w in transactionStatus (newTransaction Nothing 0 0 0 Unknown) packet ≡ judged pid New → Token packet pid 0 (v .endpoints 0) p v
-    → Begun (tokenShape pid (v .transactions) p) (planOf packet v) v)
+token-on : (high : Bool) (packet : List ℕ) (pid : ℕ) (p : Place) (w : World) → (let v = withSlot Empty w in transactionStatus high (newTransaction Nothing 0 0 0 Unknown) packet ≡ judged pid New → Token packet pid 0 (v .endpoints 0) p v
+    → Begun high (tokenShape pid (v .transactions) p) (planOf high packet v) v)
 unfolding planOf planBy
-token-on packet pid p w new h =
+token-on high packet pid p w new h =
     let v = withSlot Empty w in
-    subst (λ (j : Judged). Begun (tokenShape pid (v .transactions) p) (planBy j 0 (v .endpoints 0) (v .transaction) packet v) v) (sym new)
-    (begun-only _ _ _ _ refl (token-by _ _ packet pid (v .transactions) 0 (v .endpoints 0) p v h refl refl refl refl refl refl refl))
+    subst (λ (j : Judged). Begun high (tokenShape pid (v .transactions) p) (planBy high j 0 (v .endpoints 0) (v .transaction) packet v) v) (sym new)
+    (begun-only high _ _ _ _ refl (token-by _ _ packet pid (v .transactions) 0 (v .endpoints 0) p v h refl refl refl refl refl refl refl))
 
-pub token-begins : (packet : List ℕ) (pid : ℕ) (p : Place) (w : World) → w .slot ≡ Empty → transactionStatus (newTransaction Nothing 0 0 0 Unknown) packet ≡ judged pid New → Token packet pid 0 (w .endpoints 0) p w
-    → Begun (tokenShape pid (w .transactions) p) (planOf packet w) w
-token-begins packet pid p w e =
-    subst (λ (v : World). transactionStatus (newTransaction Nothing 0 0 0 Unknown) packet ≡ judged pid New → Token packet pid 0 (v .endpoints 0) p v → Begun (tokenShape pid (v .transactions) p) (planOf packet v) v) (λ k. withSlot (sym e k) w) (token-on packet pid p w)
+pub token-begins : (high : Bool) (packet : List ℕ) (pid : ℕ) (p : Place) (w : World) → w .slot ≡ Empty → transactionStatus high (newTransaction Nothing 0 0 0 Unknown) packet ≡ judged pid New → Token packet pid 0 (w .endpoints 0) p w
+    → Begun high (tokenShape pid (w .transactions) p) (planOf high packet w) w
+token-begins high packet pid p w e =
+    subst (λ (v : World). transactionStatus high (newTransaction Nothing 0 0 0 Unknown) packet ≡ judged pid New → Token packet pid 0 (v .endpoints 0) p v → Begun high (tokenShape pid (v .transactions) p) (planOf high packet v) v) (λ k. withSlot (sym e k) w) (token-on high packet pid p w)
 
 -- behind a SOF at rest
 
@@ -141,26 +141,26 @@ pub record Resting (w : World) : Type 0 where
   pub idle : w .endpoints (w .transaction .endpoint) .pending ≡ false
   pub kind : detailOf (w .transaction .endpoint) w .kind ≡ Framing
 
-abbrev RestClaim : List ℕ → ℕ → Place → World → Type 0
-RestClaim packet pid p v =
-    transactionStatus (v .transaction) packet ≡ judged pid New → Resting v → Token packet pid (v .transaction .endpoint) (v .endpoints (v .transaction .endpoint)) p v → Begun (tokenShape pid (v .transactions) p) (planOf packet v) v
+abbrev RestClaim : Bool → List ℕ → ℕ → Place → World → Type 0
+RestClaim high packet pid p v =
+    transactionStatus high (v .transaction) packet ≡ judged pid New → Resting v → Token packet pid (v .transaction .endpoint) (v .endpoints (v .transaction .endpoint)) p v → Begun high (tokenShape pid (v .transactions) p) (planOf high packet v) v
 
-rest-on : (packet : List ℕ) (pid : ℕ) (p : Place) (w : World) → RestClaim packet pid p (withSlot Current w)
+rest-on : (high : Bool) (packet : List ℕ) (pid : ℕ) (p : Place) (w : World) → RestClaim high packet pid p (withSlot Current w)
 unfolding planOf planBy
-rest-on packet pid p w new r h =
+rest-on high packet pid p w new r h =
     let v = withSlot Current w in
     let x = v .transaction .endpoint in
     let e = v .endpoints x in
-    let b = extractPayload (v .transaction) pid (length packet) (setupDataOf packet) in
-    let kept = extract-keeps (v .transaction) pid (length packet) (setupDataOf packet) in
+    let b = extractPayload high (v .transaction) pid (length packet) (setupDataOf packet) in
+    let kept = extract-keeps high (v .transaction) pid (length packet) (setupDataOf packet) in
     let token : startPid (b .style) ≡ SOF = ap startPid (kept .style) ∙ r .token in
     let end : endOf x e b (detailOf x v) (v .lastItem) false false ≡ restEnd e = sof-end x e b (detailOf x v) (v .lastItem) (r .active) (r .idle) (r .kind) token (kept .linked ∙ r .linked) in
     let ends : not (eqb x 0) ≡ true = ap (λ (y : ℕ). not (eqb y 0)) (r .at) in
     let entry : entryEnded (not (eqb x 0)) (endOf x e b (detailOf x v) (v .lastItem) false false) (startPid (b .style)) e ≡ e =
     (λ i. entryEnded (ends i) (end i) (startPid (b .style)) e) ∙ sof-entry (startPid (b .style)) e (r .done) (r .last ∙ sym token) in
     let h0 : Token packet pid x (entryEnded (not (eqb x 0)) (endOf x e b (detailOf x v) (v .lastItem) false false) (startPid (b .style)) e) p v = subst (λ (y : Endpoint). Token packet pid x y p v) (sym entry) h in
-    subst (λ (j : Judged). Begun (tokenShape pid (v .transactions) p) (planBy j x e (v .transaction) packet v) v) (sym new)
-    (begun-rest _ _ _ _ refl
+    subst (λ (j : Judged). Begun high (tokenShape pid (v .transactions) p) (planBy high j x e (v .transaction) packet v) v) (sym new)
+    (begun-rest high _ _ _ _ refl
     (record {
       begins = token-by _ _ packet pid (v .transactions) x _ p v h0 refl refl refl refl refl refl refl;
       ends = ends;
@@ -170,22 +170,22 @@ rest-on packet pid p w new r h =
       last = r .last ∙ sym token;
     }))
 
-pub rest-begins : (packet : List ℕ) (pid : ℕ) (p : Place) (w : World) → w .slot ≡ Current → RestClaim packet pid p w
-rest-begins packet pid p w e = subst (RestClaim packet pid p) (λ k. withSlot (sym e k) w) (rest-on packet pid p w)
+pub rest-begins : (high : Bool) (packet : List ℕ) (pid : ℕ) (p : Place) (w : World) → w .slot ≡ Current → RestClaim high packet pid p w
+rest-begins high packet pid p w e = subst (RestClaim high packet pid p) (λ k. withSlot (sym e k) w) (rest-on high packet pid p w)
 
 -- ---- a packet behind others of a plain transaction
 
 -- w is the world with the slot Current
-module _ (packet : List ℕ) (pid first : ℕ) (w : World) (style : w .transaction .style ≡ Simple first) where
+module _ (high : Bool) (packet : List ℕ) (pid first : ℕ) (w : World) (style : w .transaction .style ≡ Simple first) where
   abbrev x : ℕ
   x = w .transaction .endpoint
 
   -- with what the packet brings, and then with its PID
   abbrev b : Transaction
-  b = extractPayload (w .transaction) pid (length packet) (setupDataOf packet)
+  b = extractPayload high (w .transaction) pid (length packet) (setupDataOf packet)
 
   abbrev t : Transaction
-  t = broughtTo (w .transaction) pid packet
+  t = broughtTo high (w .transaction) pid packet
 
   abbrev middle : Status → Middle
   middle s = record { begin = going false t (updateFor s pid t (w .endpoints x)); entry = w .endpoints x; detail = detailOf x w }
@@ -193,11 +193,11 @@ module _ (packet : List ℕ) (pid first : ℕ) (w : World) (style : w .transacti
   appending-at : (s : Status) → appending s x (w .endpoints x) pid packet b w ≡ middle s
   unfolding appending
   appending-at s =
-      ap (λ (y : Style). appendingAt y s x (w .endpoints x) pid packet b w) (extract-keeps (w .transaction) pid (length packet) (setupDataOf packet) .style ∙ style)
+      ap (λ (y : Style). appendingAt y s x (w .endpoints x) pid packet b w) (extract-keeps high (w .transaction) pid (length packet) (setupDataOf packet) .style ∙ style)
       ∙ ap (λ (e : Endpoint). record { begin = going false t (updateFor s pid t e); entry = e; detail = detailOf x w }) (pick-same (eqb x x) (w .endpoints x))
 
   same-endpoint : t .endpoint ≡ x
-  same-endpoint = extract-keeps (w .transaction) pid (length packet) (setupDataOf packet) .endpoint
+  same-endpoint = extract-keeps high (w .transaction) pid (length packet) (setupDataOf packet) .endpoint
 
   -- it goes on
   begin-by : (p : Plan) (s : Status) (l : Bool) (m : Middle) → m ≡ middle s → updateFor s pid t (w .endpoints x) ≡ links l Keep
@@ -220,10 +220,10 @@ module _ (packet : List ℕ) (pid first : ℕ) (w : World) (style : w .transacti
       }
 
   -- it lays nothing by
-  next-kept : (p : Plan) (s : Status) (m : Middle) → m ≡ middle s → isKept t (w .endpoints x) (t .last) ≡ false → p .begin ≡ m .begin → p .brought ≡ b → p .end .entry ≡ w .endpoints x → keeps p ≡ false
+  next-kept : (p : Plan) (s : Status) (m : Middle) → m ≡ middle s → isKept high t (w .endpoints x) (t .last) ≡ false → p .begin ≡ m .begin → p .brought ≡ b → p .end .entry ≡ w .endpoints x → keeps high p ≡ false
   next-kept p s m e k p1 p2 p3 =
       let g = p1 ∙ ap (λ (y : Middle). y .begin) e in
-      (λ i. not (g i .row) && isKept (p2 i) (p3 i) (g i .transaction .last)) ∙ k
+      (λ i. not (g i .row) && isKept high (p2 i) (p3 i) (g i .transaction .last)) ∙ k
 
   abbrev closeIn : Status → Middle → End
   closeIn s m = closeOf m (w .lastItem) (succeeds s) (completesBy s (w .transaction .style))
@@ -256,68 +256,68 @@ module _ (packet : List ℕ) (pid first : ℕ) (w : World) (style : w .transacti
       }
 
 -- by its status
-module _ (packet : List ℕ) (pid first : ℕ) (v : World) where
+module _ (high : Bool) (packet : List ℕ) (pid first : ℕ) (v : World) where
   abbrev w : World
   w = withSlot Current v
 
   abbrev planAt : Status → Plan
-  planAt s = planBy (judged pid s) (w .transaction .endpoint) (w .endpoints (w .transaction .endpoint)) (w .transaction) packet w
+  planAt s = planBy high (judged pid s) (w .transaction .endpoint) (w .endpoints (w .transaction .endpoint)) (w .transaction) packet w
 
   abbrev NextShaped : Status → Type 0
-  NextShaped s = Shaped (nextShape s (w .transaction .endpoint) (w .endpoints (w .transaction .endpoint)) (broughtTo (w .transaction) pid packet)) (planAt s) w
+  NextShaped s = Shaped high (nextShape s (w .transaction .endpoint) (w .endpoints (w .transaction .endpoint)) (broughtTo high (w .transaction) pid packet)) (planAt s) w
 
   -- the payload that the packet brings is not laid by
   abbrev Unkept : Type 0
-  Unkept = isKept (broughtTo (w .transaction) pid packet) (w .endpoints (w .transaction .endpoint)) pid ≡ false
+  Unkept = isKept high (broughtTo high (w .transaction) pid packet) (w .endpoints (w .transaction .endpoint)) pid ≡ false
 
   next-by : (s : Status) → w .transaction .style ≡ Simple first → Unkept → NextShaped s
   unfolding planBy
-  next-by New h k = not-shaped _ _ _
+  next-by New h k = not-shaped high _ _ _
   next-by Continue h k =
-      let m = appending-at packet pid first w h Continue in
-      record { begins = λ q. record { live = refl; plan = inl (begin-by packet pid first w h _ Continue _ _ m refl refl refl refl refl refl refl); kept = next-kept packet pid first w h (planAt Continue) Continue _ m k refl refl refl }; closes = λ q. absurd (false≢true q) }
+      let m = appending-at high packet pid first w h Continue in
+      record { begins = λ q. record { live = refl; plan = inl (begin-by high packet pid first w h _ Continue _ _ m refl refl refl refl refl refl refl); kept = next-kept high packet pid first w h (planAt Continue) Continue _ m k refl refl refl }; closes = λ q. absurd (false≢true q) }
   next-by Retry h k =
-      let m = appending-at packet pid first w h Retry in
-      record { begins = λ q. absurd (false≢true q); closes = λ q. record { live = refl; plan = close-by packet pid first w h _ Retry _ m refl refl q refl refl refl refl refl refl refl; kept = next-kept packet pid first w h (planAt Retry) Retry _ m k refl refl refl } }
+      let m = appending-at high packet pid first w h Retry in
+      record { begins = λ q. absurd (false≢true q); closes = λ q. record { live = refl; plan = close-by high packet pid first w h _ Retry _ m refl refl q refl refl refl refl refl refl refl; kept = next-kept high packet pid first w h (planAt Retry) Retry _ m k refl refl refl } }
   next-by Done h k =
-      let m = appending-at packet pid first w h Done in
-      record { begins = λ q. absurd (false≢true q); closes = λ q. record { live = refl; plan = close-by packet pid first w h _ Done _ m refl refl q refl refl refl refl refl refl refl; kept = next-kept packet pid first w h (planAt Done) Done _ m k refl refl refl } }
+      let m = appending-at high packet pid first w h Done in
+      record { begins = λ q. absurd (false≢true q); closes = λ q. record { live = refl; plan = close-by high packet pid first w h _ Done _ m refl refl q refl refl refl refl refl refl refl; kept = next-kept high packet pid first w h (planAt Done) Done _ m k refl refl refl } }
   next-by Fail h k =
-      let m = appending-at packet pid first w h Fail in
-      record { begins = λ q. absurd (false≢true q); closes = λ q. record { live = refl; plan = close-by packet pid first w h _ Fail _ m refl refl q refl refl refl refl refl refl refl; kept = next-kept packet pid first w h (planAt Fail) Fail _ m k refl refl refl } }
+      let m = appending-at high packet pid first w h Fail in
+      record { begins = λ q. absurd (false≢true q); closes = λ q. record { live = refl; plan = close-by high packet pid first w h _ Fail _ m refl refl q refl refl refl refl refl refl refl; kept = next-kept high packet pid first w h (planAt Fail) Fail _ m k refl refl refl } }
   next-by Ambiguous h k =
-      let m = appending-at packet pid first w h Ambiguous in
-      record { begins = λ q. record { live = refl; plan = inl (begin-by packet pid first w h _ Ambiguous _ _ m refl refl refl refl refl refl refl); kept = next-kept packet pid first w h (planAt Ambiguous) Ambiguous _ m k refl refl refl }; closes = λ q. absurd (false≢true q) }
-  next-by Invalid h k = not-shaped _ _ _
+      let m = appending-at high packet pid first w h Ambiguous in
+      record { begins = λ q. record { live = refl; plan = inl (begin-by high packet pid first w h _ Ambiguous _ _ m refl refl refl refl refl refl refl); kept = next-kept high packet pid first w h (planAt Ambiguous) Ambiguous _ m k refl refl refl }; closes = λ q. absurd (false≢true q) }
+  next-by Invalid h k = not-shaped high _ _ _
 
-  next-on : (s : Status) → w .transaction .style ≡ Simple first → Unkept → transactionStatus (w .transaction) packet ≡ judged pid s
-      → Shaped (nextShape s (w .transaction .endpoint) (w .endpoints (w .transaction .endpoint)) (broughtTo (w .transaction) pid packet)) (planOf packet w) w
+  next-on : (s : Status) → w .transaction .style ≡ Simple first → Unkept → transactionStatus high (w .transaction) packet ≡ judged pid s
+      → Shaped high (nextShape s (w .transaction .endpoint) (w .endpoints (w .transaction .endpoint)) (broughtTo high (w .transaction) pid packet)) (planOf high packet w) w
   unfolding planOf
   next-on s h k e =
-      subst (λ (j : Judged). Shaped (nextShape s (w .transaction .endpoint) (w .endpoints (w .transaction .endpoint)) (broughtTo (w .transaction) pid packet)) (planBy j (w .transaction .endpoint) (w .endpoints (w .transaction .endpoint)) (w .transaction) packet w) w) (sym e)
+      subst (λ (j : Judged). Shaped high (nextShape s (w .transaction .endpoint) (w .endpoints (w .transaction .endpoint)) (broughtTo high (w .transaction) pid packet)) (planBy high j (w .transaction .endpoint) (w .endpoints (w .transaction .endpoint)) (w .transaction) packet w) w) (sym e)
       (next-by s h k)
 
-pub next-shaped : (packet : List ℕ) (j : Judged) (w : World) → isPlain (w .slot) (w .transaction .style) ≡ true → isKept (broughtTo (w .transaction) (j .pid) packet) (w .endpoints (w .transaction .endpoint)) (j .pid) ≡ false → transactionStatus (w .transaction) packet ≡ j
-    → Shaped (nextShape (j .status) (w .transaction .endpoint) (w .endpoints (w .transaction .endpoint)) (broughtTo (w .transaction) (j .pid) packet)) (planOf packet w) w
-next-shaped packet j w h k e = by (w .slot) refl (w .transaction .style) refl h
+pub next-shaped : (high : Bool) (packet : List ℕ) (j : Judged) (w : World) → isPlain (w .slot) (w .transaction .style) ≡ true → isKept high (broughtTo high (w .transaction) (j .pid) packet) (w .endpoints (w .transaction .endpoint)) (j .pid) ≡ false → transactionStatus high (w .transaction) packet ≡ j
+    → Shaped high (nextShape (j .status) (w .transaction .endpoint) (w .endpoints (w .transaction .endpoint)) (broughtTo high (w .transaction) (j .pid) packet)) (planOf high packet w) w
+next-shaped high packet j w h k e = by (w .slot) refl (w .transaction .style) refl h
   where
     Claim : World → Type 0
-    Claim u = transactionStatus (u .transaction) packet ≡ j → Shaped (nextShape (j .status) (u .transaction .endpoint) (u .endpoints (u .transaction .endpoint)) (broughtTo (u .transaction) (j .pid) packet)) (planOf packet u) u
+    Claim u = transactionStatus high (u .transaction) packet ≡ j → Shaped high (nextShape (j .status) (u .transaction .endpoint) (u .endpoints (u .transaction .endpoint)) (broughtTo high (u .transaction) (j .pid) packet)) (planOf high packet u) u
 
     -- a malformed packet is Invalid, which has no shape
-    kinds : (s : Status) → j .status ≡ s → (Taken (j .status) → Shaped (nextShape (j .status) (w .transaction .endpoint) (w .endpoints (w .transaction .endpoint)) (broughtTo (w .transaction) (j .pid) packet)) (planOf packet (withSlot Current w)) (withSlot Current w))
-        → Shaped (nextShape (j .status) (w .transaction .endpoint) (w .endpoints (w .transaction .endpoint)) (broughtTo (w .transaction) (j .pid) packet)) (planOf packet (withSlot Current w)) (withSlot Current w)
+    kinds : (s : Status) → j .status ≡ s → (Taken (j .status) → Shaped high (nextShape (j .status) (w .transaction .endpoint) (w .endpoints (w .transaction .endpoint)) (broughtTo high (w .transaction) (j .pid) packet)) (planOf high packet (withSlot Current w)) (withSlot Current w))
+        → Shaped high (nextShape (j .status) (w .transaction .endpoint) (w .endpoints (w .transaction .endpoint)) (broughtTo high (w .transaction) (j .pid) packet)) (planOf high packet (withSlot Current w)) (withSlot Current w)
     kinds New s g = g (subst Taken (sym s) tt)
     kinds Continue s g = g (subst Taken (sym s) tt)
     kinds Retry s g = g (subst Taken (sym s) tt)
     kinds Done s g = g (subst Taken (sym s) tt)
     kinds Fail s g = g (subst Taken (sym s) tt)
     kinds Ambiguous s g = g (subst Taken (sym s) tt)
-    kinds Invalid s g = subst (λ (x : Status). Shaped (nextShape x (w .transaction .endpoint) (w .endpoints (w .transaction .endpoint)) (broughtTo (w .transaction) (j .pid) packet)) (planOf packet (withSlot Current w)) (withSlot Current w)) (sym s) (not-shaped _ _ _)
+    kinds Invalid s g = subst (λ (x : Status). Shaped high (nextShape x (w .transaction .endpoint) (w .endpoints (w .transaction .endpoint)) (broughtTo high (w .transaction) (j .pid) packet)) (planOf high packet (withSlot Current w)) (withSlot Current w)) (sym s) (not-shaped high _ _ _)
 
     by : (a : Slot) → w .slot ≡ a → (y : Style) → w .transaction .style ≡ y → isPlain a y ≡ true
-        → Shaped (nextShape (j .status) (w .transaction .endpoint) (w .endpoints (w .transaction .endpoint)) (broughtTo (w .transaction) (j .pid) packet)) (planOf packet w) w
-    by Current p (Simple first) q r = subst Claim (λ i. withSlot (sym p i) w) (λ f. kinds (j .status) refl (λ g. next-on packet (j .pid) first w (j .status) q k (f ∙ judged-is (w .transaction) packet (sym f) g))) e
+        → Shaped high (nextShape (j .status) (w .transaction .endpoint) (w .endpoints (w .transaction .endpoint)) (broughtTo high (w .transaction) (j .pid) packet)) (planOf high packet w) w
+    by Current p (Simple first) q r = subst Claim (λ i. withSlot (sym p i) w) (λ f. kinds (j .status) refl (λ g. next-on high packet (j .pid) first w (j .status) q k (f ∙ judged-is high (w .transaction) packet (sym f) g))) e
     by Current p Nothing q r = absurd (false≢true r)
     by Current p (Split sc kind) q r = absurd (false≢true r)
     by Current p (Tokened sc kind token) q r = absurd (false≢true r)

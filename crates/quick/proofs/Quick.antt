@@ -61,11 +61,11 @@ enters m live =
 
 pub record BeginTaken (packet : List ℕ) (s : State) (q : Shape) : Type 0 where
   pub enters : Enters packet s
-  pub plan : Begins (planOf packet (worldAt s)) (worldAt s) (q .row) (q .transaction) (q .link)
-  pub kept : keeps (planOf packet (worldAt s)) ≡ false
+  pub plan : Begins (planOf (s .decoder .high) packet (worldAt s)) (worldAt s) (q .row) (q .transaction) (q .link)
+  pub kept : keeps (s .decoder .high) (planOf (s .decoder .high) packet (worldAt s)) ≡ false
   pub fits : RowsRoom (one (q .row)) (one (q .link)) (length packet) (heldAt s) (s .decoder .counts) (roomOf (s .logs))
 
-pub begin-taken : (packet : List ℕ) (s : State) (q : Shape) {held room : Counts} {f : Bool} → Meets packet s → Shaped q (planOf packet (worldAt s)) (worldAt s)
+pub begin-taken : (packet : List ℕ) (s : State) (q : Shape) {held room : Counts} {f : Bool} → Meets packet s → Shaped (s .decoder .high) q (planOf (s .decoder .high) packet (worldAt s)) (worldAt s)
     → held ≡ heldAt s → room ≡ roomOf (s .logs) → f ≡ rowsRoom (one (q .row)) (one (q .link)) (length packet) held (s .decoder .counts) room → (q .begins && f) ≡ true → BeginTaken packet s q
 begin-taken packet s q {held} {room} {f} m h e1 e2 e3 t =
     let g = both (q .begins) f t in
@@ -81,22 +81,22 @@ begin-taken packet s q {held} {room} {f} m h e1 e2 e3 t =
 
 pub record CloseTaken (packet : List ℕ) (s : State) (q : Shape) (e : End) : Type 0 where
   pub enters : Enters packet s
-  pub plan : CloseOnly (planOf packet (worldAt s)) (q .transaction) e Empty
-  pub kept : keeps (planOf packet (worldAt s)) ≡ false
+  pub plan : CloseOnly (planOf (s .decoder .high) packet (worldAt s)) (q .transaction) e Empty
+  pub kept : keeps (s .decoder .high) (planOf (s .decoder .high) packet (worldAt s)) ≡ false
   pub fits : CloseFits e (length packet) (s .decoder) (heldAt s) (roomOf (s .logs))
 
 -- the plan, where the packet has that shape, with the end that end_by gives
-close-plan : (packet : List ℕ) (s : State) (q : Shape) (old : Detail) {e : End} → Shaped q (planOf packet (worldAt s)) (worldAt s)
+close-plan : (packet : List ℕ) (s : State) (q : Shape) (old : Detail) {e : End} → Shaped (s .decoder .high) q (planOf (s .decoder .high) packet (worldAt s)) (worldAt s)
     → old ≡ detailOf (oldEndpoint (s .decoder .slot) (s .decoder .transaction)) (worldAt s) → e ≡ endBy q (s .decoder) old (s .table) → q .closes ≡ true
-    → (isDropped (s .decoder .slot) (s .decoder .transaction) ≡ false) × (CloseOnly (planOf packet (worldAt s)) (q .transaction) e Empty × (keeps (planOf packet (worldAt s)) ≡ false))
+    → (isDropped (s .decoder .slot) (s .decoder .transaction) ≡ false) × (CloseOnly (planOf (s .decoder .high) packet (worldAt s)) (q .transaction) e Empty × (keeps (s .decoder .high) (planOf (s .decoder .high) packet (worldAt s)) ≡ false))
 close-plan packet s q old {e} h e1 e2 c =
     let b = h .closes c in
     let x = oldEndpoint (s .decoder .slot) (s .decoder .transaction) in
     let end : e ≡ heldEnd (q .success) (q .transaction) (worldAt s) =
     e2 ∙ ((λ i. endIf (c i) (endOf x (entryAt (s .table) x) (q .transaction) (e1 i) (s .decoder .last) (q .success) true) (entryAt (s .table) x))) in
-    (b .live, (subst (λ (y : End). CloseOnly (planOf packet (worldAt s)) (q .transaction) y Empty) (sym end) (b .plan), b .kept))
+    (b .live, (subst (λ (y : End). CloseOnly (planOf (s .decoder .high) packet (worldAt s)) (q .transaction) y Empty) (sym end) (b .plan), b .kept))
 
-pub close-taken : (packet : List ℕ) (s : State) (q : Shape) (old : Detail) {held room : Counts} {e : End} {c : Close} → Meets packet s → Shaped q (planOf packet (worldAt s)) (worldAt s)
+pub close-taken : (packet : List ℕ) (s : State) (q : Shape) (old : Detail) {held room : Counts} {e : End} {c : Close} → Meets packet s → Shaped (s .decoder .high) q (planOf (s .decoder .high) packet (worldAt s)) (worldAt s)
     → held ≡ heldAt s → room ≡ roomOf (s .logs) → old ≡ detailOf (oldEndpoint (s .decoder .slot) (s .decoder .transaction)) (worldAt s)
     → e ≡ endBy q (s .decoder) old (s .table) → c ≡ closeOf (q .closes) e (s .decoder) held (length packet) room → c .taken ≡ true → CloseTaken packet s q e
 close-taken packet s q old {held} {room} {e} {c} m h e0 e1 e2 e3 e4 t =
@@ -113,13 +113,13 @@ close-taken packet s q old {held} {room} {e} {c} m h e0 e1 e2 e3 e4 t =
 
 pub record LightTaken (packet : List ℕ) (s : State) (q : Shape) (e : End) : Type 0 where
   pub enters : Enters packet s
-  pub plan : CloseOnly (planOf packet (worldAt s)) (q .transaction) e Empty
-  pub kept : keeps (planOf packet (worldAt s)) ≡ false
+  pub plan : CloseOnly (planOf (s .decoder .high) packet (worldAt s)) (q .transaction) e Empty
+  pub kept : keeps (s .decoder .high) (planOf (s .decoder .high) packet (worldAt s)) ≡ false
   pub light : LightRoom e (length packet) (heldAt s) (s .decoder .counts) (roomOf (s .logs))
   pub fits : CloseFits e (length packet) (s .decoder) (heldAt s) (roomOf (s .logs))
   pub entry : Fits (e .entry)
 
-pub light-taken : (packet : List ℕ) (s : State) (q : Shape) (old : Detail) {held room : Counts} {e : End} {f : Bool} → Meets packet s → Shaped q (planOf packet (worldAt s)) (worldAt s)
+pub light-taken : (packet : List ℕ) (s : State) (q : Shape) (old : Detail) {held room : Counts} {e : End} {f : Bool} → Meets packet s → Shaped (s .decoder .high) q (planOf (s .decoder .high) packet (worldAt s)) (worldAt s)
     → held ≡ heldAt s → room ≡ roomOf (s .logs) → old ≡ detailOf (oldEndpoint (s .decoder .slot) (s .decoder .transaction)) (worldAt s)
     → e ≡ endBy q (s .decoder) old (s .table) → f ≡ lightFits e (length packet) held (s .decoder .counts) room → (q .closes && f) ≡ true → LightTaken packet s q e
 light-taken packet s q old {held} {room} {e} {f} m h e0 e1 e2 e3 e4 t =

@@ -98,9 +98,9 @@ unfolding sumPlan planPasses tallyPlan tallyEnd tallyUpdate
 rest-sum p e row t l d held len room = refl
 
 module _ (packet : List ℕ) (time : ℕ) (s : State) (h : Enters packet s) where
-  module _ {row : Bool} {t : Transaction} {l : Bool} (q : BeginRest (planOf packet (worldAt s)) (worldAt s) row t l) where
+  module _ {row : Bool} {t : Transaction} {l : Bool} (q : BeginRest (planOf (s .decoder .high) packet (worldAt s)) (worldAt s) row t l) where
     abbrev p : Plan
-    p = unended (planOf packet (worldAt s))
+    p = unended (planOf (s .decoder .high) packet (worldAt s))
 
     abbrev e : Endpoint
     e = entryAt (s .table) (p .old)
@@ -108,9 +108,9 @@ module _ (packet : List ℕ) (time : ℕ) (s : State) (h : Enters packet s) wher
     abbrev k : Desk
     k = deskBy (handOf time noReason (s .decoder) (heldAt s) (s .table)) s
 
-    rest-shape : planOf packet (worldAt s) ≡ withRest (onlyBegin p row t l Current) e
+    rest-shape : planOf (s .decoder .high) packet (worldAt s) ≡ withRest (onlyBegin p row t l Current) e
     rest-shape =
-        (λ i. let v = planOf packet (worldAt s) in record { resumes = v .resumes; resume = v .resume; ends = q .ends i; old = v .old; brought = v .brought; end = q .end i; begin = v .begin; closes = v .closes; close = v .close; slot = v .slot; reason = v .reason })
+        (λ i. let v = planOf (s .decoder .high) packet (worldAt s) in record { resumes = v .resumes; resume = v .resume; ends = q .ends i; old = v .old; brought = v .brought; end = q .end i; begin = v .begin; closes = v .closes; close = v .close; slot = v .slot; reason = v .reason })
         ∙ ap (λ (y : Plan). withRest y e) (shape (q .begins))
 
     stored : Stored (s .table) (p .old)
@@ -125,7 +125,7 @@ module _ (packet : List ℕ) (time : ℕ) (s : State) (h : Enters packet s) wher
         state (decoderBy (s .decoder) (onlyBegin p row t l Current) z (y .hand)) (s .devices) (y .table)
         (logs (sets (s .logs .bytes) (heldAt s .bytes) packet) (y .devices) (y .endpoints) (sets (s .logs .packets) (heldAt s .packets * packetWidth) (s .decoder .counts .bytes ∷ time ∷ [])) (s .logs .events) (y .transactions) (y .groups) (y .statebytes) (y .states) (y .items) (y .links) (s .logs .requests))
 
-    pub rest-plan : keeps (planOf packet (worldAt s)) ≡ false → RowsRoom (one row) (one l) (length packet) (heldAt s) (s .decoder .counts) (roomOf (s .logs)) → BeginPlan packet time s row t l
+    pub rest-plan : keeps (s .decoder .high) (planOf (s .decoder .high) packet (worldAt s)) ≡ false → RowsRoom (one row) (one l) (length packet) (heldAt s) (s .decoder .counts) (roomOf (s .logs)) → BeginPlan packet time s row t l
     rest-plan u f =
         let z = beginSum row l (length packet) (s .decoder) in
         record {
@@ -134,11 +134,11 @@ module _ (packet : List ℕ) (time : ℕ) (s : State) (h : Enters packet s) wher
           summed = rest-sum p e row t l (s .decoder) (heldAt s) (length packet) (roomOf (s .logs))
               ∙ sum-by p t Current (s .decoder) (length packet) row l (heldAt s) (roomOf (s .logs)) (well packet time s h .counts) (well packet time s h .numbered) f;
           left = ap (λ (y : Desk). after z (begunDesk (onlyBegin p row t l Current .begin) y)) rested ∙ left-by p t packet time s row l;
-          kept = ap (λ (b : Bool). b || false) (ap keeps (sym rest-shape) ∙ u);
+          kept = ap (λ (b : Bool). b || false) (ap (keeps (s .decoder .high)) (sym rest-shape) ∙ u);
           wants = λ a. let b = subst (λ (y : Desk). BeginAsks (onlyBegin p row t l Current .begin) y) rested (a .begin) in (b .there, (b .few, b .transactions));
         }
 
-  pub begins-plan : {row : Bool} {t : Transaction} {l : Bool} → Begins (planOf packet (worldAt s)) (worldAt s) row t l → keeps (planOf packet (worldAt s)) ≡ false → RowsRoom (one row) (one l) (length packet) (heldAt s) (s .decoder .counts) (roomOf (s .logs)) → BeginPlan packet time s row t l
+  pub begins-plan : {row : Bool} {t : Transaction} {l : Bool} → Begins (planOf (s .decoder .high) packet (worldAt s)) (worldAt s) row t l → keeps (s .decoder .high) (planOf (s .decoder .high) packet (worldAt s)) ≡ false → RowsRoom (one row) (one l) (length packet) (heldAt s) (s .decoder .counts) (roomOf (s .logs)) → BeginPlan packet time s row t l
   begins-plan (inl q) u f = only-plan packet time s h q u f
   begins-plan (inr q) u f = rest-plan q u f
 

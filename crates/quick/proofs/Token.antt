@@ -104,13 +104,13 @@ resting-by w old h o c =
 module _ (d : Decoder) (table : List ℕ) (r : Ready d table) (near : Near) (packet : List ℕ) (pid i x0 : ℕ) where
   pub token-shaped : {f : Found} {detail : Detail} {e : Endpoint} {start append : Update} {kind : ℕ} {t : Transaction} {q : Shape}
       → x0 ≡ oldEndpoint (d .slot) (d .transaction) → isFree (d .slot) (d .transaction) (near .old) (entryAt table framingEp) ≡ true
-      → transactionStatus (stateAt (d .slot) (d .transaction)) packet ≡ judged pid New → (eqb pid MALFORMED || eqb pid SPLIT) ≡ false
+      → transactionStatus (d .high) (stateAt (d .slot) (d .transaction)) packet ≡ judged pid New → (eqb pid MALFORMED || eqb pid SPLIT) ≡ false
       → f ≡ foundOn (near .found) pid packet (worldOf d [] table) → f ≡ At i → detail ≡ detailBy pid near → e ≡ entryAt table i
       → start ≡ decideEarlyStart pid (e .phase) false → (start .start || eqb i x0) ≡ false
       → kind ≡ typeBy (detail .kind) → t ≡ newTransaction (Simple pid) (d .counts .transactions) pid i kind → append ≡ decideEarlyAppend t e → q ≡ beginShape true (append .link) t
-      → ForSeen near (oldEndpoint (d .slot) (d .transaction)) packet d table (λ w. Shaped q (planOf packet w) w)
+      → ForSeen near (oldEndpoint (d .slot) (d .transaction)) packet d table (λ w. Shaped (d .high) q (planOf (d .high) packet w) w)
   token-shaped {f} {detail} {e} {start} {append} {kind} {t} {q} old free new usual e1 e2 e3 e4 e5 e6 e7 e8 e9 e10 v s =
-      subst (λ (x : Shape). Shaped x (planOf packet w) w) (sym q1) (begun-shaped _ _ _ (by (free-empty (d .slot) (d .transaction) (near .old) (entryAt table framingEp) free)))
+      subst (λ (x : Shape). Shaped (d .high) x (planOf (d .high) packet w) w) (sym q1) (begun-shaped (d .high) _ _ _ (by (free-empty (d .slot) (d .transaction) (near .old) (entryAt table framingEp) free)))
     where
       w : World
       w = worldOf d v table
@@ -150,12 +150,12 @@ module _ (d : Decoder) (table : List ℕ) (r : Ready d table) (near : Near) (pac
             goes = not-early pid (entryAt table i .phase) (sym (ap (λ (a : Update). a .start) e5 ∙ ap (λ (x : Endpoint). decideEarlyStart pid (x .phase) false .start) e4) ∙ n .0);
           }
 
-      by : (d .slot ≡ Empty) ⊎ ((d .slot ≡ Current) × (restsOn (d .transaction) (near .old) (entryAt table framingEp) ≡ true)) → Begun (beginShape true (decideEarlyAppend u (entryAt table i) .link) u) (planOf packet w) w
+      by : (d .slot ≡ Empty) ⊎ ((d .slot ≡ Current) × (restsOn (d .transaction) (near .old) (entryAt table framingEp) ≡ true)) → Begun (d .high) (beginShape true (decideEarlyAppend u (entryAt table i) .link) u) (planOf (d .high) packet w) w
       by (inl a) =
-          token-begins packet pid p w a (sym (ap (λ (x : Slot). transactionStatus (stateAt x (d .transaction)) packet) a) ∙ new)
+          token-begins (d .high) packet pid p w a (sym (ap (λ (x : Slot). transactionStatus (d .high) (stateAt x (d .transaction)) packet) a) ∙ new)
           (subst (λ (x : ℕ). Token packet pid x (entryAt table x) p w) (ap (λ (x : Slot). oldEndpoint x (d .transaction)) a) token)
       by (inr a) =
           let held : o ≡ d .transaction .endpoint = ap (λ (x : Slot). oldEndpoint x (d .transaction)) (a .0) in
-          rest-begins packet pid p w (a .0) (sym (ap (λ (x : Slot). transactionStatus (stateAt x (d .transaction)) packet) (a .0)) ∙ new)
+          rest-begins (d .high) packet pid p w (a .0) (sym (ap (λ (x : Slot). transactionStatus (d .high) (stateAt x (d .transaction)) packet) (a .0)) ∙ new)
           (resting-by w (near .old) (a .1) (s .old ∙ ap (λ (x : ℕ). detailOf x w) held) (r .three))
           (subst (λ (x : ℕ). Token packet pid x (entryAt table x) p w) held token)

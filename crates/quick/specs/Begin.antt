@@ -110,6 +110,7 @@ beginDecoder row t l len time table d =
       keepalive = d .keepalive;
       waiting = d .waiting;
       finished = d .finished;
+      high = d .high;
       time = time;
     }
 

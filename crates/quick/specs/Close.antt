@@ -93,7 +93,7 @@ pub record CloseFits (e : End) (len : ℕ) (d : Decoder) (held room : Counts) : 
 -- the record with another transaction
 abbrev pub holding : Transaction → Decoder → Decoder
 holding t d =
-    record { counts = d .counts; slot = d .slot; transaction = t; last = d .last; event = d .event; keepalive = d .keepalive; waiting = d .waiting; finished = d .finished; time = d .time }
+    record { counts = d .counts; slot = d .slot; transaction = t; last = d .last; event = d .event; keepalive = d .keepalive; waiting = d .waiting; finished = d .finished; high = d .high; time = d .time }
 
 -- where the call begins to write, with the T row of t
 abbrev pub closeHand : Transaction → ℕ → Decoder → Counts → List ℕ → Hand
@@ -105,7 +105,7 @@ entered t time s =
 
 abbrev pub closedDecoder : Transaction → Tally → Written → Decoder → Decoder
 closedDecoder t z h d =
-    record { counts = addCounts (d .counts) z; slot = Empty; transaction = tied t h; last = h .last; event = Idle; keepalive = d .keepalive; waiting = z .waiting; finished = d .finished; time = h .stamp .time }
+    record { counts = addCounts (d .counts) z; slot = Empty; transaction = tied t h; last = h .last; event = Idle; keepalive = d .keepalive; waiting = z .waiting; finished = d .finished; high = d .high; time = h .stamp .time }
 
 -- with these rows added
 abbrev pub closeState : Transaction → End → Tally → List ℕ → ℕ → State → State

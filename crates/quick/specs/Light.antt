@@ -79,6 +79,7 @@ lightDecoder t e n m time d =
       keepalive = d .keepalive;
       waiting = m;
       finished = d .finished;
+      high = d .high;
       time = time;
     }
 

@@ -56,8 +56,8 @@ nextShape Invalid x e t = noShape t
 -- ---- what they go by
 
 -- the transaction t with what the packet brings to it
-abbrev pub broughtTo : Transaction → ℕ → List ℕ → Transaction
-broughtTo t pid packet = withPid pid (extractPayload t pid (length packet) (setupDataOf packet))
+abbrev pub broughtTo : Bool → Transaction → ℕ → List ℕ → Transaction
+broughtTo high t pid packet = withPid pid (extractPayload high t pid (length packet) (setupDataOf packet))
 
 abbrev pub isSimple : Style → Bool
 isSimple Nothing = false
@@ -92,10 +92,10 @@ isPlain Suspended s = false
 
 -- ---- right of the plan p on the world w; its payload, if there is one, is not laid by
 
-pub record Begun (q : Shape) (p : Plan) (w : World) : Type 0 where
+pub record Begun (high : Bool) (q : Shape) (p : Plan) (w : World) : Type 0 where
   pub live : isDropped (w .slot) (w .transaction) ≡ false
   pub plan : Begins p w (q .row) (q .transaction) (q .link)
-  pub kept : keeps p ≡ false
+  pub kept : keeps high p ≡ false
 
 -- the end of the transaction that is held
 abbrev pub heldEnd : Bool → Transaction → World → End
@@ -103,11 +103,11 @@ heldEnd success t w =
     let x = oldEndpoint (w .slot) (w .transaction) in
     endOf x (w .endpoints x) t (detailOf x w) (w .lastItem) success true
 
-pub record Closed (q : Shape) (p : Plan) (w : World) : Type 0 where
+pub record Closed (high : Bool) (q : Shape) (p : Plan) (w : World) : Type 0 where
   pub live : isDropped (w .slot) (w .transaction) ≡ false
   pub plan : CloseOnly p (q .transaction) (heldEnd (q .success) (q .transaction) w) Empty
-  pub kept : keeps p ≡ false
+  pub kept : keeps high p ≡ false
 
-pub record Shaped (q : Shape) (p : Plan) (w : World) : Type 0 where
-  pub begins : q .begins ≡ true → Begun q p w
-  pub closes : q .closes ≡ true → Closed q p w
+pub record Shaped (high : Bool) (q : Shape) (p : Plan) (w : World) : Type 0 where
+  pub begins : q .begins ≡ true → Begun high q p w
+  pub closes : q .closes ≡ true → Closed high q p w

@@ -122,6 +122,7 @@ pub fn begin_only(
         keepalive: d.keepalive,
         waiting: d.waiting,
         finished: d.finished,
+        high: d.high,
         time,
     }
 }

@@ -122,6 +122,7 @@ fn closed_decoder(t: Transaction, tally: Tally, d: Decoder, h: Hand) -> Decoder
         keepalive: d.keepalive,
         waiting: tally.waiting,
         finished: d.finished,
+        high: d.high,
         time: written.stamp.time,
     }
 }

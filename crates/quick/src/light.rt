@@ -183,6 +183,7 @@ pub fn light_only(
         keepalive: d.keepalive,
         waiting: d.waiting,
         finished: d.finished,
+        high: d.high,
         time,
     }
 }

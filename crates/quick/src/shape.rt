@@ -103,8 +103,8 @@ fn token_shape(x0: usize, pid: u8, packet: &[u8], d: Decoder, near: Near, table:
     requires { ⌜ Ready d (now table) ⌝ }
     requires { ⌜ x0 ≡ oldEndpoint (d .slot) (d .transaction) ⌝ }
     requires { ⌜ isFree (d .slot) (d .transaction) (near .old) (entryAt (now table) framingEp) ≡ true ⌝ }
-    requires { ⌜ transactionStatus (stateAt (d .slot) (d .transaction)) (now packet) ≡ judged pid New ⌝ }
-    ensures { λ r. ⌜ ForSeen near (oldEndpoint (d .slot) (d .transaction)) (now (packet .entry)) d (now (table .entry)) (λ w. Shaped r (planOf (now (packet .entry)) w) w) ⌝ }
+    requires { ⌜ transactionStatus (d .high) (stateAt (d .slot) (d .transaction)) (now packet) ≡ judged pid New ⌝ }
+    ensures { λ r. ⌜ ForSeen near (oldEndpoint (d .slot) (d .transaction)) (now (packet .entry)) d (now (table .entry)) (λ w. Shaped (d .high) r (planOf (d .high) (now (packet .entry)) w) w) ⌝ }
 {
     let t = d.transaction;
     if (pid == MALFORMED) | (pid == SPLIT) {
@@ -151,19 +151,22 @@ fn next_shape(status: Status, x: usize, t: Transaction, table: &Table) -> Shape
 }
 
 // The transaction with what the packet brings to it.
-fn brought_to(t: Transaction, pid: u8, packet: &[u8]) -> Transaction
-    ensures { λ r. ⌜ r ≡ broughtTo t pid (now (packet .entry)) ⌝ }
+fn brought_to(high: bool, t: Transaction, pid: u8, packet: &[u8]) -> Transaction
+    ensures { λ r. ⌜ r ≡ broughtTo high t pid (now (packet .entry)) ⌝ }
 {
-    with_pid(pid, extract_payload(t, pid, packet.len(), setup_of(packet)))
+    with_pid(
+        pid,
+        extract_payload(high, t, pid, packet.len(), setup_of(packet)),
+    )
 }
 
 // Whether the packet's payload is to be laid by, which has to have a plan: t is the transaction with what it brought, on endpoint x.
-fn lays(x: usize, t: Transaction, table: &Table) -> bool
+fn lays(high: bool, x: usize, t: Transaction, table: &Table) -> bool
     requires { ⌜ x < 128 ⌝ }
-    ensures { λ r. ⌜ r ≡ isKept t (entryAt (now (table .entry)) x) (t .last) ⌝ }
+    ensures { λ r. ⌜ r ≡ isKept high t (entryAt (now (table .entry)) x) (t .last) ⌝ }
 {
     let e = load(table, x);
-    is_kept(t, e, t.last)
+    is_kept(high, t, e, t.last)
 }
 
 fn is_plain(slot: Slot, style: Style) -> bool
@@ -211,14 +214,14 @@ fn is_free(slot: Slot, t: Transaction, old: Detail, table: &Table) -> bool
 // By the slot, and by what the packet is to the transaction there.
 pub fn shape_of(d: Decoder, near: Near, table: &Table, packet: &[u8]) -> Shape
     requires { ⌜ Ready d (now table) ⌝ }
-    ensures { λ r. ⌜ ForSeen near (oldEndpoint (d .slot) (d .transaction)) (now (packet .entry)) d (now (table .entry)) (λ w. Shaped r (planOf (now (packet .entry)) w) w) ⌝ }
+    ensures { λ r. ⌜ ForSeen near (oldEndpoint (d .slot) (d .transaction)) (now (packet .entry)) d (now (table .entry)) (λ w. Shaped (d .high) r (planOf (d .high) (now (packet .entry)) w) w) ⌝ }
 {
     let slot = d.slot;
     let t = d.transaction;
     let style = t.style;
     // By itself: handed on to be checked below another call, the packet's slice is stored by two words and loaded as one, and the load waits (docs/SPEED.md).
     let checked = usb::check(packet);
-    let j = status_by(state_at(slot, t), checked, packet.len());
+    let j = status_by(d.high, state_at(slot, t), checked, packet.len());
     let status = j.status;
     let pid = j.pid;
     let x0 = old_endpoint(slot, t);
@@ -229,8 +232,8 @@ pub fn shape_of(d: Decoder, near: Near, table: &Table, packet: &[u8]) -> Shape
         return no_shape(t);
     }
     let x = t.endpoint;
-    let next = brought_to(t, pid, packet);
-    if lays(x, next, table) {
+    let next = brought_to(d.high, t, pid, packet);
+    if lays(d.high, x, next, table) {
         return no_shape(next);
     }
     next_shape(status, x, next, table)

@@ -2,7 +2,7 @@
 -- refused one.
 -- Hold it to: Decoder::new of decoder.rs; 01, "Answer numbers": "Making a fresh decoder .."
 use Prim.Native.Nat.{ℕ}
-use mathlib.Core.Bool.{false}
+use mathlib.Core.Bool.{Bool, false}
 use mathlib.Core.List.{List}
 use lib.ListN.{length, set, replicate}
 use Rattle.transaction.specs.declared.Style.the-variants.{Nothing}
@@ -39,14 +39,25 @@ countsOf m n =
 abbrev pub noTransaction : Transaction
 noTransaction = newTransaction Nothing 0 0 0 Unknown
 
--- with those counts, and nothing else yet
-abbrev pub idleWith : Counts → Decoder
-idleWith n =
-    record { counts = n; slot = Empty; transaction = noTransaction; last = noItem; event = Idle; keepalive = false; waiting = 0; finished = false; time = 0 }
+-- in this mode, with those counts, and nothing else yet
+abbrev pub idleWith : Bool → Counts → Decoder
+idleWith high n =
+    record {
+      counts = n;
+      slot = Empty;
+      transaction = noTransaction;
+      last = noItem;
+      event = Idle;
+      keepalive = false;
+      waiting = 0;
+      finished = false;
+      high = high;
+      time = 0;
+    }
 
--- "writes one device and three endpoint rows"
-abbrev pub freshDecoder : Decoder
-freshDecoder = idleWith (countsOf 1 3)
+-- "writes one device and three endpoint rows"; "a mode, chosen at the fresh decoder" (02, 6)
+abbrev pub freshDecoder : Bool → Decoder
+freshDecoder high = idleWith high (countsOf 1 3)
 
 -- the default device at address 0, and the special endpoints on it: EVENT_EP_NUM, INVALID_EP_NUM, FRAMING_EP_NUM
 abbrev pub freshDevices : List Device → List Device
@@ -61,4 +72,4 @@ freshTable table = storeAt (storeAt (storeAt (clearTable table) 0 (newEndpoint 0
 
 -- "refused, it returns a record that every call answers 1": its first device does not stand
 abbrev pub refusedDecoder : Decoder
-refusedDecoder = idleWith (countsOf 0 0)
+refusedDecoder = idleWith false (countsOf 0 0)

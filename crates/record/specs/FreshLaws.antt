@@ -141,9 +141,9 @@ module _ (table : List ℕ) (l : length table ≡ word.table) where
   unfolding fresh
   first-device devices h = ap (λ (d : Device). d .address) (getD-set-same devices 0 (fresh 0) blank h)
 
-  pub fresh-formed : (devices : List Device) (room : Counts) → 0 < length devices → Within (countsOf 1 3) room
-      → wellFormed freshDecoder (freshDevices devices) (freshTable table) room ≡ true
-  fresh-formed devices room h w =
+  pub fresh-formed : (high : Bool) (devices : List Device) (room : Counts) → 0 < length devices → Within (countsOf 1 3) room
+      → wellFormed (freshDecoder high) (freshDevices devices) (freshTable table) room ≡ true
+  fresh-formed high devices room h w =
       let e0 = fresh-entry 0 (omega arith) in
       let e1 = fresh-entry 1 (omega arith) in
       let e2 = fresh-entry 2 (omega arith) in
@@ -178,9 +178,9 @@ module _ (table : List ℕ) (l : length table ≡ word.table) where
       })
 
   -- it stands for the world that the rules begin with (fn new of decoder.rs)
-  pub fresh-world : (devices : List Device) → 0 < length devices → Agrees (worldOf freshDecoder (freshDevices devices) (freshTable table)) rules.fresh
+  pub fresh-world : (high : Bool) (devices : List Device) → 0 < length devices → Agrees (worldOf (freshDecoder high) (freshDevices devices) (freshTable table)) rules.fresh
   unfolding fresh
-  fresh-world devices h =
+  fresh-world high devices h =
       record {
         endpoints = λ i v. fresh-entry i v ∙ began i v;
         count = refl;

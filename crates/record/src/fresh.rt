@@ -48,8 +48,8 @@ fn counts_of(devices: usize, endpoints: usize) -> Counts
     }
 }
 
-fn idle_with(counts: Counts) -> Decoder
-    ensures { λ r. ⌜ r ≡ idleWith counts ⌝ }
+fn idle_with(high: bool, counts: Counts) -> Decoder
+    ensures { λ r. ⌜ r ≡ idleWith high counts ⌝ }
 {
     let transaction = no_transaction();
     Decoder {
@@ -61,16 +61,17 @@ fn idle_with(counts: Counts) -> Decoder
         keepalive: false,
         waiting: 0,
         finished: false,
+        high,
         time: 0,
     }
 }
 
-// With the first device and the three special endpoints.
-pub fn fresh_decoder() -> Decoder
-    ensures { λ r. ⌜ r ≡ freshDecoder ⌝ }
+// With the first device and the three special endpoints, in this mode.
+pub fn fresh_decoder(high: bool) -> Decoder
+    ensures { λ r. ⌜ r ≡ freshDecoder high ⌝ }
 {
     let counts = counts_of(1, 3);
-    idle_with(counts)
+    idle_with(high, counts)
 }
 
 // Not well formed, whatever stands beside it: there is no device.
@@ -78,5 +79,5 @@ pub fn refused_decoder() -> Decoder
     ensures { λ r. ⌜ r ≡ refusedDecoder ⌝ }
 {
     let counts = counts_of(0, 0);
-    idle_with(counts)
+    idle_with(false, counts)
 }

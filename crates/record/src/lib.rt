@@ -56,4 +56,6 @@ pub struct Decoder {
     pub keepalive: bool,
     // Whether finish was called.
     pub finished: bool,
+    // The mode for high-bandwidth isochronous data, chosen at the fresh decoder; no call changes it.
+    pub high: bool,
 }

@@ -324,29 +324,29 @@ module _ (n : World) where
       by false true = r
       by false false = let x = endpointOf pid p v in let u : World = packetEndpoint pid p v in early-start pid x (start (newTransaction (Simple pid) (w .transactions) pid x (typeOf x u)) u) (place pid p v r)
 
-  update-at : (s : Status) (i pid : ℕ) (p : List ℕ) (k : Bool) (w : World) → Counted w → Counted (updateAt s i pid p k w)
-  update-at New i pid p k w l = let v : World = transactionEnd false false (brought pid p w) in early-append (transactionStart i pid p v) (tr-start i pid p v (tr-end false false (brought pid p w) l))
-  update-at Continue i pid p k w l = early-append (transactionAppend pid p (extracted pid p w)) (tr-append pid p (extracted pid p w) l)
-  update-at Retry i pid p k w l = tr-end true k (transactionAppend pid p (extracted pid p w)) (tr-append pid p (extracted pid p w) l)
-  update-at Done i pid p k w l = tr-end true k (transactionAppend pid p (extracted pid p w)) (tr-append pid p (extracted pid p w) l)
-  update-at Fail i pid p k w l = tr-end false k (transactionAppend pid p (extracted pid p w)) (tr-append pid p (extracted pid p w) l)
-  update-at Ambiguous i pid p k w l = tr-append pid p (extracted pid p w) l
-  update-at Invalid i pid p k w l = tr-end false false (transactionStart i pid p w) (tr-start i pid p w l)
+  update-at : (high : Bool) (s : Status) (i pid : ℕ) (p : List ℕ) (k : Bool) (w : World) → Counted w → Counted (updateAt high s i pid p k w)
+  update-at high New i pid p k w l = let v : World = transactionEnd false false (brought high pid p w) in early-append (transactionStart i pid p v) (tr-start i pid p v (tr-end false false (brought high pid p w) l))
+  update-at high Continue i pid p k w l = early-append (transactionAppend pid p (extracted high pid p w)) (tr-append pid p (extracted high pid p w) l)
+  update-at high Retry i pid p k w l = tr-end true k (transactionAppend pid p (extracted high pid p w)) (tr-append pid p (extracted high pid p w) l)
+  update-at high Done i pid p k w l = tr-end true k (transactionAppend pid p (extracted high pid p w)) (tr-append pid p (extracted high pid p w) l)
+  update-at high Fail i pid p k w l = tr-end false k (transactionAppend pid p (extracted high pid p w)) (tr-append pid p (extracted high pid p w) l)
+  update-at high Ambiguous i pid p k w l = tr-append pid p (extracted high pid p w) l
+  update-at high Invalid i pid p k w l = tr-end false false (transactionStart i pid p w) (tr-start i pid p w l)
 
   resume : (z : Slot) (i : ℕ) (w : World) → Counted w → Counted (resumeAt z i w)
   resume Empty i w l = l
   resume Current i w l = l
   resume Suspended i w l = transaction-row i w l
 
-  tr-update : (i : ℕ) (p : List ℕ) (w : World) → Counted w → Counted (transactionUpdate i p w)
+  tr-update : (high : Bool) (i : ℕ) (p : List ℕ) (w : World) → Counted w → Counted (transactionUpdate high i p w)
   unfolding transactionUpdate
-  tr-update i p w l = may (isDropped (w .slot) (w .transaction)) (withSlot Empty w) (updateFrom i p u) l (update-at (j .status) i (j .pid) p (completes (stateAt (u .slot) (u .transaction) .style) (j .status)) u (resume (w .slot) i w l))
+  tr-update high i p w l = may (isDropped (w .slot) (w .transaction)) (withSlot Empty w) (updateFrom high i p u) l (update-at high (j .status) i (j .pid) p (completes (stateAt (u .slot) (u .transaction) .style) (j .status)) u (resume (w .slot) i w l))
     where
       u : World
       u = resumeAt (w .slot) i w
 
       j : Judged
-      j = transactionStatus (stateAt (u .slot) (u .transaction)) p
+      j = transactionStatus high (stateAt (u .slot) (u .transaction)) p
 
   -- ---- events
 
@@ -378,9 +378,9 @@ module _ (n : World) where
 
   -- ---- the calls
 
-  packets : (p : List ℕ) (time : ℕ) (w : World) → Counted w → Counted (handleRawPacket p time w)
+  packets : (high : Bool) (p : List ℕ) (time : ℕ) (w : World) → Counted w → Counted (handleRawPacket high p time w)
   unfolding handleRawPacket
-  packets p time w l = tr-update (w .packets) p (pushPacket (w .bytes) time v) (packet-row (w .bytes) time v (bytes p (withEventState Idle (stamped time (reasonOf p) w)) l))
+  packets high p time w l = tr-update high (w .packets) p (pushPacket (w .bytes) time v) (packet-row (w .bytes) time v (bytes p (withEventState Idle (stamped time (reasonOf p) w)) l))
     where
       v : World
       v = appendBytes p (withEventState Idle (stamped time (reasonOf p) w))
@@ -397,9 +397,9 @@ module _ (n : World) where
   details (At i) number direction kind max w l = l
   details Nothing number direction kind max w l = l
 
-  pub counts : (k : Call) (w : World) → Counted w → Counted (call k w)
+  pub counts : (high : Bool) (k : Call) (w : World) → Counted w → Counted (call high k w)
   unfolding handleDetail finish
-  counts (packet p time shelf) w l = packets p time (withShelf shelf w) l
-  counts (event kind code time) w l = events kind code time w l
-  counts (detail a number r kind m) w l = details (deviceFor a w) number r kind m w l
-  counts finishing w l = tr-end false false (lastStamped w) l
+  counts high (packet p time shelf) w l = packets high p time (withShelf shelf w) l
+  counts high (event kind code time) w l = events kind code time w l
+  counts high (detail a number r kind m) w l = details (deviceFor a w) number r kind m w l
+  counts high finishing w l = tr-end false false (lastStamped w) l

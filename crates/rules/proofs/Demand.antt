@@ -34,11 +34,11 @@ pub record Sound (js : List Row) (w : World) : Type 0 where
   pub keeps : (e : ℕ) → Keeps js e c y (withJournal [] w)
 
 -- a call keeps it
-pub sound : (js : List Row) (w : World) (k : Call) → Sound js w → Sound (call k (withJournal [] w) .journal ++ js) (call k (withJournal [] w))
-sound js w k s = record { c = m .c′; y = m .y′; fits = m .fits; three = m .three; keeps = λ e. m .keeps e (s .keeps e) }
+pub sound : (high : Bool) (js : List Row) (w : World) (k : Call) → Sound js w → Sound (call high k (withJournal [] w) .journal ++ js) (call high k (withJournal [] w))
+sound high js w k s = record { c = m .c′; y = m .y′; fits = m .fits; three = m .three; keeps = λ e. m .keeps e (s .keeps e) }
   where
-    m : Moves js (s .c) (s .y) (withJournal [] w) (call k (withJournal [] w))
-    m = calls js (s .c) (s .y) (s .fits) (s .three) k (withJournal [] w) (s .keeps 0)
+    m : Moves js (s .c) (s .y) (withJournal [] w) (call high k (withJournal [] w))
+    m = calls js (s .c) (s .y) (s .fits) (s .three) high k (withJournal [] w) (s .keeps 0)
 
 -- an endpoint that is not there has no group
 none-there : {e c y : ℕ} (p : Phase) {g d k t n : ℕ} {ms : List Mark} → Holds e c y p g d k t n ms → c ≤ e → 3 ≤ c → (d′ : ℕ) → Holds e c y None 0 d′ k t n ms
@@ -92,9 +92,9 @@ fresh-keeps e = new (place (eqb e 2) (eqb e 1) (eqb e 0) .phase) _ _ (none-yet (
     no-groups false false true = refl
     no-groups false false false = refl
 
-pub always : {js : List Row} {w : World} → Reach js w → Sound js w
+pub always : {high : Bool} {js : List Row} {w : World} → Reach high js w → Sound js w
 always begin = record { c = 3; y = 0; fits = omega arith; three = omega arith; keeps = fresh-keeps }
-always (next {js} {w} k r) = sound js w k (always r)
+always {high} (next {js} {w} k r) = sound high js w k (always r)
 
 length-upTo : (n : ℕ) → length (upTo n) ≡ n
 length-upTo zero = refl
@@ -141,15 +141,15 @@ module _ {js : List Row} {w : World} (s : Sound js w) (e : ℕ) (d : ¬ (e ≡ 0
 
 -- ---- after every sequence of calls
 
-pub demand3 : {js : List Row} {w : World} → Reach js w → (e : ℕ) → ¬ (e ≡ 0) → OnMarks e js
+pub demand3 : {high : Bool} {js : List Row} {w : World} → Reach high js w → (e : ℕ) → ¬ (e ≡ 0) → OnMarks e js
 demand3 r = on-marks (always r)
 
-pub groups-are : {js : List Row} {w : World} → Reach js w → (e : ℕ) → ¬ (e ≡ 0) → (starts (marks e js) ≡ w .endpoints e .groups) × (w .endpoints e .groups ≡ length (closings (marks e js)) + unclosed (phase e w))
+pub groups-are : {high : Bool} {js : List Row} {w : World} → Reach high js w → (e : ℕ) → ¬ (e ≡ 0) → (starts (marks e js) ≡ w .endpoints e .groups) × (w .endpoints e .groups ≡ length (closings (marks e js)) + unclosed (phase e w))
 groups-are r = groups-of (always r)
 
 -- the three special endpoints are there, and the transaction's endpoint is
-pub endpoints-there : {js : List Row} {w : World} → Reach js w → (3 ≤ w .count) × (w .transaction .endpoint < w .count)
-endpoints-there {js} {w} r =
+pub endpoints-there : {high : Bool} {js : List Row} {w : World} → Reach high js w → (3 ≤ w .count) × (w .transaction .endpoint < w .count)
+endpoints-there {high} {js} {w} r =
     let s : Sound js w = always r in
     let k = s .keeps 0 .size in
     let t = s .keeps 0 .target in

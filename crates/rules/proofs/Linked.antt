@@ -237,13 +237,13 @@ none-of (r ∷ rs) d xs h k = by (fits (r .tests) xs && r .guard) (ambiguous (r 
     by false false q i rest = rest i
     by false true q i rest = let z : true ≡ false = i in cc
 
-split-sure : (t : Transaction) (sc kind : ℕ) → t .style ≡ Split sc kind → (c : Checked) (n : ℕ) → ambiguous (judgedOf t c n .status) ≡ false
-split-sure t sc kind q (Malformed reason) n = refl
-split-sure t sc kind q (Valid pid) n = rw q (none-of (splitRows n) Invalid (kind ∷ sc ∷ t .last ∷ pid ∷ []) refl refl)
+split-sure : (high : Bool) (t : Transaction) (sc kind : ℕ) → t .style ≡ Split sc kind → (c : Checked) (n : ℕ) → ambiguous (judgedOf high t c n .status) ≡ false
+split-sure high t sc kind q (Malformed reason) n = refl
+split-sure high t sc kind q (Valid pid) n = rw q (none-of (splitRows n) Invalid (kind ∷ sc ∷ t .last ∷ pid ∷ []) refl refl)
 
-sure : (t : Transaction) (sc kind : ℕ) (p : List ℕ) → t .style ≡ Split sc kind → ambiguous (transactionStatus t p .status) ≡ false
+sure : (high : Bool) (t : Transaction) (sc kind : ℕ) (p : List ℕ) → t .style ≡ Split sc kind → ambiguous (transactionStatus high t p .status) ≡ false
 unfolding transactionStatus
-sure t sc kind p q = split-sure t sc kind q (checkedOf p) (length p)
+sure high t sc kind p q = split-sure high t sc kind q (checkedOf p) (length p)
 
 -- the transaction at hand is no split without its token
 abbrev Fine : Slot → Transaction → Type 0
@@ -251,10 +251,10 @@ Fine Empty t = Unit {0}
 Fine Current t = (sc kind : ℕ) → t .style ≡ Split sc kind → ⊥
 Fine Suspended t = Unit {0}
 
-fine : (s : Slot) (t : Transaction) (p : List ℕ) → ambiguous (transactionStatus (stateAt s t) p .status) ≡ true → Fine s t
-fine Empty t p h = tt
-fine Current t p h = λ sc kind q. (let z = sure t sc kind p q in let y : _≡_ {A = ℕ} 0 1 = cc in omega arith)
-fine Suspended t p h = tt
+fine : (high : Bool) (s : Slot) (t : Transaction) (p : List ℕ) → ambiguous (transactionStatus high (stateAt s t) p .status) ≡ true → Fine s t
+fine high Empty t p h = tt
+fine high Current t p h = λ sc kind q. (let z = sure high t sc kind p q in let y : _≡_ {A = ℕ} 0 1 = cc in omega arith)
+fine high Suspended t p h = tt
 
 pid-links : (s : Slot) (pid : ℕ) (t : Transaction) (f : ℕ → Endpoint) → LinkedIn s t f → LinkedIn s (withPid pid t) f
 pid-links Empty pid t f l = tt
@@ -267,33 +267,33 @@ token-links (Simple first) pid p w d l = pid-links (w .slot) pid (w .transaction
 token-links (Split sc kind) pid p w d l = absurd (d sc kind refl)
 token-links (Token sc kind first) pid p w d l = pid-links (w .slot) pid (w .transaction) (w .endpoints) l
 
-module _ (pid : ℕ) (p : List ℕ) where
-  pub extract-links : (s : Slot) (t : Transaction) (f : ℕ → Endpoint) → LinkedIn s t f → LinkedIn s (extractPayload t pid (length p) (setupDataOf p)) f
+module _ (high : Bool) (pid : ℕ) (p : List ℕ) where
+  pub extract-links : (s : Slot) (t : Transaction) (f : ℕ → Endpoint) → LinkedIn s t f → LinkedIn s (extractPayload high t pid (length p) (setupDataOf p)) f
   extract-links Empty t f l = tt
-  extract-links Current t f l = let k = extract-keeps t pid (length p) (setupDataOf p) in rw (k .endpoint, k .linked) l
-  extract-links Suspended t f l = let k = extract-keeps t pid (length p) (setupDataOf p) in rw (k .endpoint, k .linked) l
+  extract-links Current t f l = let k = extract-keeps high t pid (length p) (setupDataOf p) in rw (k .endpoint, k .linked) l
+  extract-links Suspended t f l = let k = extract-keeps high t pid (length p) (setupDataOf p) in rw (k .endpoint, k .linked) l
 
-  ambiguous-links : (s : Slot) (w : World) → w .slot ≡ s → Awake s → Fine s (w .transaction) → Linked w → Linked (transactionAppend pid p (extracted pid p w))
-  ambiguous-links Empty w q a d l = rw (token-slot (extracted pid p w .transaction .style) pid p (extracted pid p w) ∙ q) tt
+  ambiguous-links : (s : Slot) (w : World) → w .slot ≡ s → Awake s → Fine s (w .transaction) → Linked w → Linked (transactionAppend pid p (extracted high pid p w))
+  ambiguous-links Empty w q a d l = rw (token-slot (extracted high pid p w .transaction .style) pid p (extracted high pid p w) ∙ q) tt
   ambiguous-links Current w q a d l =
-      token-links (v .transaction .style) pid p v (λ sc kind z. d sc kind (sym (extract-keeps (w .transaction) pid (length p) (setupDataOf p) .style) ∙ z)) (extract-links (w .slot) (w .transaction) (w .endpoints) l)
+      token-links (v .transaction .style) pid p v (λ sc kind z. d sc kind (sym (extract-keeps high (w .transaction) pid (length p) (setupDataOf p) .style) ∙ z)) (extract-links (w .slot) (w .transaction) (w .endpoints) l)
     where
       v : World
-      v = extracted pid p w
+      v = extracted high pid p w
   ambiguous-links Suspended w q a d l = absurd a
 
-  update-links : (s : Status) (n : ℕ) (k : Bool) (w : World) → Awake (w .slot) → Linked w → (ambiguous s ≡ true → Fine (w .slot) (w .transaction)) → Linked (updateAt s n pid p k w)
-  update-links New n k w a l d = append-linked (transactionStart n pid p (transactionEnd false false (brought pid p w)))
-  update-links Continue n k w a l d = append-linked (transactionAppend pid p (extracted pid p w))
-  update-links Retry n k w a l d = appended-ends pid p true k (extracted pid p w) a
-  update-links Done n k w a l d = appended-ends pid p true k (extracted pid p w) a
-  update-links Fail n k w a l d = appended-ends pid p false k (extracted pid p w) a
+  update-links : (s : Status) (n : ℕ) (k : Bool) (w : World) → Awake (w .slot) → Linked w → (ambiguous s ≡ true → Fine (w .slot) (w .transaction)) → Linked (updateAt high s n pid p k w)
+  update-links New n k w a l d = append-linked (transactionStart n pid p (transactionEnd false false (brought high pid p w)))
+  update-links Continue n k w a l d = append-linked (transactionAppend pid p (extracted high pid p w))
+  update-links Retry n k w a l d = appended-ends pid p true k (extracted high pid p w) a
+  update-links Done n k w a l d = appended-ends pid p true k (extracted high pid p w) a
+  update-links Fail n k w a l d = appended-ends pid p false k (extracted high pid p w) a
   update-links Ambiguous n k w a l d = ambiguous-links (w .slot) w refl a (d refl) l
   update-links Invalid n k w a l d = awake-ends (transactionStart n pid p w .slot) false false (transactionStart n pid p w) refl (rw (started-slot n pid p w) tt)
 
-packet-links : (p : List ℕ) (time : ℕ) (w : World) → Linked w → Linked (handleRawPacket p time w)
+packet-links : (high : Bool) (p : List ℕ) (time : ℕ) (w : World) → Linked w → Linked (handleRawPacket high p time w)
 unfolding handleRawPacket transactionUpdate
-packet-links p time w l = by (isDropped (w .slot) (w .transaction))
+packet-links high p time w l = by (isDropped (w .slot) (w .transaction))
   where
     v : World
     v = pushPacket (w .bytes) time (appendBytes p (withEventState Idle (stamped time (reasonOf p) w)))
@@ -302,12 +302,12 @@ packet-links p time w l = by (isDropped (w .slot) (w .transaction))
     u = resumeAt (w .slot) (w .packets) v
 
     j : Judged
-    j = transactionStatus (stateAt (u .slot) (u .transaction)) p
+    j = transactionStatus high (stateAt (u .slot) (u .transaction)) p
 
-    by : (b : Bool) → Linked (pick b (withSlot Empty v) (updateFrom (w .packets) p u))
+    by : (b : Bool) → Linked (pick b (withSlot Empty v) (updateFrom high (w .packets) p u))
     by true = tt
     by false =
-        update-links (j .pid) p (j .status) (w .packets) (completes (stateAt (u .slot) (u .transaction) .style) (j .status)) u (resume-wakes (w .slot) (w .packets) v refl) (resume-links (w .slot) (w .packets) v refl l) (fine (u .slot) (u .transaction) p)
+        update-links high (j .pid) p (j .status) (w .packets) (completes (stateAt (u .slot) (u .transaction) .style) (j .status)) u (resume-wakes (w .slot) (w .packets) v refl) (resume-links (w .slot) (w .packets) v refl l) (fine high (u .slot) (u .transaction) p)
 
 -- ---- every call, on every world
 
@@ -315,18 +315,18 @@ detail-links : (g : Found) (number direction kind max : ℕ) (w : World) → Lin
 detail-links (At i) number direction kind max w l = l
 detail-links Nothing number direction kind max w l = l
 
-pub linked-after : (k : Call) (w : World) → Linked w → Linked (call k w)
+pub linked-after : (high : Bool) (k : Call) (w : World) → Linked w → Linked (call high k w)
 unfolding handleDetail finish
-linked-after (packet p time shelf) w l = packet-links p time (withShelf shelf w) l
-linked-after (event kind code time) w l = event-links kind code time w l
-linked-after (detail a number r kind m) w l = detail-links (deviceFor a w) number r kind m w l
-linked-after finishing w l = end-links (w .slot) false false (lastStamped w) refl l
+linked-after high (packet p time shelf) w l = packet-links high p time (withShelf shelf w) l
+linked-after high (event kind code time) w l = event-links kind code time w l
+linked-after high (detail a number r kind m) w l = detail-links (deviceFor a w) number r kind m w l
+linked-after high finishing w l = end-links (w .slot) false false (lastStamped w) refl l
 
 -- and so of every world that calls leave
 fresh-linked : Linked Decoder.fresh
 unfolding fresh
 fresh-linked = tt
 
-pub linked-always : {js : List Row} {w : World} → Reach js w → Linked w
+pub linked-always : {high : Bool} {js : List Row} {w : World} → Reach high js w → Linked w
 linked-always reached = fresh-linked
-linked-always (next {js} {w} k r) = linked-after k (withJournal [] w) (linked-always r)
+linked-always {high} (next {js} {w} k r) = linked-after high k (withJournal [] w) (linked-always r)

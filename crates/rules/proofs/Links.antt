@@ -179,8 +179,8 @@ module _ {js : List Row} {w : World} (s : Sound js w) where
 
 -- ---- after every sequence of calls
 
-pub on-links : {js : List Row} {w : World} → Reach js w → (e : ℕ) → ¬ (e ≡ 0) → OnLinks e js
+pub on-links : {high : Bool} {js : List Row} {w : World} → Reach high js w → (e : ℕ) → ¬ (e ≡ 0) → OnLinks e js
 on-links r = links-of (always r)
 
-pub event-endpoint : {js : List Row} {w : World} → Reach js w → Quiet js w
+pub event-endpoint : {high : Bool} {js : List Row} {w : World} → Reach high js w → Quiet js w
 event-endpoint r = event-of (always r)

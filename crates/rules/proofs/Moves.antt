@@ -266,41 +266,41 @@ module _ (base : List Row) where
 
   -- ---- transaction_update
 
-  module _ (c y : ℕ) (f : y < c) (t : 3 ≤ c) (n pid : ℕ) (p : List ℕ) where
+  module _ (high : Bool) (c y : ℕ) (f : y < c) (t : 3 ≤ c) (n pid : ℕ) (p : List ℕ) where
     appended-ended : (s k : Bool) (w : World) → Keeps base 0 c y w → Moves c y w (transactionEnd s k (transactionAppend pid p w))
     appended-ended s k w z =
         let m : Moves c y w (transactionAppend pid p w) = appended c y f t pid p w z in
         then m (ending (m .c′) (m .y′) (m .fits) (m .three) s k (transactionAppend pid p w))
 
-    abbrev pub bringing : (w : World) → Moves c y w (brought pid p w)
+    abbrev pub bringing : (w : World) → Moves c y w (brought high pid p w)
     bringing w =
-        stays c y f t w (brought pid p w) (λ e l. record { facts = l .facts; inside = l .inside; unused = l .unused; quiet = l .quiet; special = l .special; size = l .size; target = extract-keeps (w .transaction) pid (length p) (setupDataOf p) .endpoint ∙ l .target })
+        stays c y f t w (brought high pid p w) (λ e l. record { facts = l .facts; inside = l .inside; unused = l .unused; quiet = l .quiet; special = l .special; size = l .size; target = extract-keeps high (w .transaction) pid (length p) (setupDataOf p) .endpoint ∙ l .target })
 
     -- the shelf is not spoken of
-    abbrev pub extracting : (w : World) → Moves c y w (extracted pid p w)
-    extracting w = stays c y f t w (extracted pid p w) (λ e l. bringing (keepPayload pid p w) .keeps e l)
+    abbrev pub extracting : (w : World) → Moves c y w (extracted high pid p w)
+    extracting w = stays c y f t w (extracted high pid p w) (λ e l. bringing (keepPayload high pid p w) .keeps e l)
 
-    updating : (s : Status) (k : Bool) (w : World) → Keeps base 0 c y w → Moves c y w (updateAt s n pid p k w)
+    updating : (s : Status) (k : Bool) (w : World) → Keeps base 0 c y w → Moves c y w (updateAt high s n pid p k w)
     updating New k w z =
         then (bringing w) (then m (then a (appending (a .c′) (a .y′) (a .fits) (a .three) (transactionStart n pid p v))))
       where
         v : World
-        v = transactionEnd false false (brought pid p w)
+        v = transactionEnd false false (brought high pid p w)
 
-        m : Moves c y (brought pid p w) v
-        m = ending c y f t false false (brought pid p w)
+        m : Moves c y (brought high pid p w) v
+        m = ending c y f t false false (brought high pid p w)
 
         a : Moves (m .c′) (m .y′) v (transactionStart n pid p v)
         a = starting (m .c′) (m .y′) (m .fits) (m .three) n pid p v (m .keeps 0 (bringing w .keeps 0 z))
     updating Continue k w z =
-        then (extracting w) (then m (appending (m .c′) (m .y′) (m .fits) (m .three) (transactionAppend pid p (extracted pid p w))))
+        then (extracting w) (then m (appending (m .c′) (m .y′) (m .fits) (m .three) (transactionAppend pid p (extracted high pid p w))))
       where
-        m : Moves c y (extracted pid p w) (transactionAppend pid p (extracted pid p w))
-        m = appended c y f t pid p (extracted pid p w) (extracting w .keeps 0 z)
-    updating Retry k w z = then (extracting w) (appended-ended true k (extracted pid p w) (extracting w .keeps 0 z))
-    updating Done k w z = then (extracting w) (appended-ended true k (extracted pid p w) (extracting w .keeps 0 z))
-    updating Fail k w z = then (extracting w) (appended-ended false k (extracted pid p w) (extracting w .keeps 0 z))
-    updating Ambiguous k w z = then (extracting w) (appended c y f t pid p (extracted pid p w) (extracting w .keeps 0 z))
+        m : Moves c y (extracted high pid p w) (transactionAppend pid p (extracted high pid p w))
+        m = appended c y f t pid p (extracted high pid p w) (extracting w .keeps 0 z)
+    updating Retry k w z = then (extracting w) (appended-ended true k (extracted high pid p w) (extracting w .keeps 0 z))
+    updating Done k w z = then (extracting w) (appended-ended true k (extracted high pid p w) (extracting w .keeps 0 z))
+    updating Fail k w z = then (extracting w) (appended-ended false k (extracted high pid p w) (extracting w .keeps 0 z))
+    updating Ambiguous k w z = then (extracting w) (appended c y f t pid p (extracted high pid p w) (extracting w .keeps 0 z))
     updating Invalid k w z =
         then a (ending (a .c′) (a .y′) (a .fits) (a .three) false false (transactionStart n pid p w))
       where
@@ -310,9 +310,9 @@ module _ (base : List Row) where
   -- ---- the calls
 
   module _ (c y : ℕ) (f : y < c) (t : 3 ≤ c) where
-    transacting : (n : ℕ) (p : List ℕ) (w : World) → Keeps base 0 c y w → Moves c y w (transactionUpdate n p w)
+    transacting : (high : Bool) (n : ℕ) (p : List ℕ) (w : World) → Keeps base 0 c y w → Moves c y w (transactionUpdate high n p w)
     unfolding transactionUpdate
-    transacting n p w z = by (isDropped (w .slot) (w .transaction))
+    transacting high n p w z = by (isDropped (w .slot) (w .transaction))
       where
         u : World
         u = resumeAt (w .slot) n w
@@ -321,16 +321,16 @@ module _ (base : List Row) where
         m = resuming c y f t (w .slot) n w
 
         j : Judged
-        j = transactionStatus (stateAt (u .slot) (u .transaction)) p
+        j = transactionStatus high (stateAt (u .slot) (u .transaction)) p
 
-        by : (b : Bool) → Moves c y w (pick b (withSlot Empty w) (updateFrom n p u))
+        by : (b : Bool) → Moves c y w (pick b (withSlot Empty w) (updateFrom high n p u))
         by true = stays c y f t w (withSlot Empty w) (λ e l. l)
         by false =
-            then m (updating (m .c′) (m .y′) (m .fits) (m .three) n (j .pid) p (j .status) (completes (stateAt (u .slot) (u .transaction) .style) (j .status)) u (m .keeps 0 z))
+            then m (updating high (m .c′) (m .y′) (m .fits) (m .three) n (j .pid) p (j .status) (completes (stateAt (u .slot) (u .transaction) .style) (j .status)) u (m .keeps 0 z))
 
-    packets : (p : List ℕ) (time : ℕ) (w : World) → Keeps base 0 c y w → Moves c y w (handleRawPacket p time w)
+    packets : (high : Bool) (p : List ℕ) (time : ℕ) (w : World) → Keeps base 0 c y w → Moves c y w (handleRawPacket high p time w)
     unfolding handleRawPacket
-    packets p time w z = then (stays c y f t w v (λ e l. passed (passed l))) (transacting (w .packets) p v (passed (passed z)))
+    packets high p time w z = then (stays c y f t w v (λ e l. passed (passed l))) (transacting high (w .packets) p v (passed (passed z)))
       where
         v : World
         v = pushPacket (w .bytes) time (appendBytes p (withEventState Idle (stamped time (reasonOf p) w)))
@@ -413,10 +413,10 @@ module _ (base : List Row) where
     details (At i) number direction kind max w = stays c y f t w _ (λ e l. l)
     details Nothing number direction kind max w = stays c y f t w w (λ e l. l)
 
-    pub calls : (k : Call) (w : World) → Keeps base 0 c y w → Moves c y w (call k w)
+    pub calls : (high : Bool) (k : Call) (w : World) → Keeps base 0 c y w → Moves c y w (call high k w)
     unfolding handleDetail finish
-    calls (packet p time shelf) w z =
-        let m = packets c y f t p time (withShelf shelf w) z in record { c′ = m .c′; y′ = m .y′; fits = m .fits; three = m .three; keeps = m .keeps }
-    calls (event kind code time) w z = events kind code time w
-    calls (detail a number r kind m) w z = details (deviceFor a w) number r kind m w
-    calls finishing w z = then (stays c y f t w (lastStamped w) (λ e l. l)) (ending c y f t false false (lastStamped w))
+    calls high (packet p time shelf) w z =
+        let m = packets c y f t high p time (withShelf shelf w) z in record { c′ = m .c′; y′ = m .y′; fits = m .fits; three = m .three; keeps = m .keeps }
+    calls high (event kind code time) w z = events kind code time w
+    calls high (detail a number r kind m) w z = details (deviceFor a w) number r kind m w
+    calls high finishing w z = then (stays c y f t w (lastStamped w) (λ e l. l)) (ending c y f t false false (lastStamped w))

@@ -1,4 +1,5 @@
 -- A run of calls from a fresh decoder, computed; what it leaves in each log (proofs/Oracle.antt).
+use mathlib.Core.Bool.{Bool, false}
 use mathlib.Core.Path.{_≡_}
 use mathlib.Core.List.{List, [], _∷_}
 use Prim.Native.Nat.{ℕ, zero, suc}
@@ -36,13 +37,21 @@ detail address number direction kind max shelf = demand.detail address number di
 abbrev pub finishing : Lent
 finishing shelf = demand.finishing
 
+abbrev pub runsIn : Bool → List Lent → World → World
+runsIn high [] w = w
+runsIn high (k ∷ ks) w = runsIn high ks (settle (call high (k (w .shelf)) w))
+
+-- without the mode of 02, 6
 abbrev pub runs : List Lent → World → World
-runs [] w = w
-runs (k ∷ ks) w = runs ks (settle (call (k (w .shelf)) w))
+runs calls w = runsIn false calls w
 
 -- each log of a world, in the order of their numbers
 abbrev pub logs : World → List (List ℕ)
 logs w = below 12 (λ k. log k (w .journal)) []
 
+-- what a run leaves, in a mode and without it
+abbrev pub LeavesIn : Bool → List Lent → List (List ℕ) → Type 0
+LeavesIn high calls words = logs (runsIn high calls fresh) ≡ words
+
 abbrev pub Leaves : List Lent → List (List ℕ) → Type 0
-Leaves calls words = logs (runs calls fresh) ≡ words
+Leaves calls words = LeavesIn false calls words

@@ -77,5 +77,5 @@ append-seen w = by (eqb (w .transaction .endpoint) 0 || undecided (w .endpoints 
     by true = refl
     by false = once-seen (w .transaction .linked) (w .transaction .endpoint) w
 
-pub extract-seen : (pid : ℕ) (p : List ℕ) (w : World) → seen (extracted pid p w) ≡ seen w
-extract-seen pid p w = let k = extract-keeps (w .transaction) pid (length p) (setupDataOf p) in rw (k .style, k .endpoint)
+pub extract-seen : (high : Bool) (pid : ℕ) (p : List ℕ) (w : World) → seen (extracted high pid p w) ≡ seen w
+extract-seen high pid p w = let k = extract-keeps high (w .transaction) pid (length p) (setupDataOf p) in rw (k .style, k .endpoint)

@@ -92,29 +92,29 @@ module _ (pid : ℕ) (p : List ℕ) where
 
   -- ---- transaction_update
 
-  appended : (w : World) → Stands w → Tokened w → Tokened (transactionAppend pid p (extracted pid p w))
-  appended w s h = token (extracted pid p w .transaction .style) (extracted pid p w) s (carried (extract-seen pid p w) h)
+  appended : (high : Bool) (w : World) → Stands w → Tokened w → Tokened (transactionAppend pid p (extracted high pid p w))
+  appended high w s h = token (extracted high pid p w .transaction .style) (extracted high pid p w) s (carried (extract-seen high pid p w) h)
 
-  updates : (s : Status) (n : ℕ) (k : Bool) (w : World) → Stands w → Tokened w → Tokened (updateAt s n pid p k w)
-  updates New n k w s h = carried (append-seen (transactionStart n pid p v)) (starts n v (end-stands false false (brought pid p w) s))
+  updates : (high : Bool) (s : Status) (n : ℕ) (k : Bool) (w : World) → Stands w → Tokened w → Tokened (updateAt high s n pid p k w)
+  updates high New n k w s h = carried (append-seen (transactionStart n pid p v)) (starts n v (end-stands false false (brought high pid p w) s))
     where
       v : World
-      v = transactionEnd false false (brought pid p w)
-  updates Continue n k w s h = carried (append-seen (transactionAppend pid p (extracted pid p w))) (appended w s h)
-  updates Retry n k w s h = ends true k (transactionAppend pid p (extracted pid p w)) (appended w s h)
-  updates Done n k w s h = ends true k (transactionAppend pid p (extracted pid p w)) (appended w s h)
-  updates Fail n k w s h = ends false k (transactionAppend pid p (extracted pid p w)) (appended w s h)
-  updates Ambiguous n k w s h = appended w s h
-  updates Invalid n k w s h = ends false false (transactionStart n pid p w) (starts n w s)
+      v = transactionEnd false false (brought high pid p w)
+  updates high Continue n k w s h = carried (append-seen (transactionAppend pid p (extracted high pid p w))) (appended high w s h)
+  updates high Retry n k w s h = ends true k (transactionAppend pid p (extracted high pid p w)) (appended high w s h)
+  updates high Done n k w s h = ends true k (transactionAppend pid p (extracted high pid p w)) (appended high w s h)
+  updates high Fail n k w s h = ends false k (transactionAppend pid p (extracted high pid p w)) (appended high w s h)
+  updates high Ambiguous n k w s h = appended high w s h
+  updates high Invalid n k w s h = ends false false (transactionStart n pid p w) (starts n w s)
 
 pub resumes : (s : Slot) (n : ℕ) (w : World) → w .slot ≡ s → Tokened w → Tokened (resumeAt s n w)
 resumes Empty n w q h = h
 resumes Current n w q h = h
 resumes Suspended n w q h = rw q at h
 
-packets : (p : List ℕ) (time : ℕ) (w : World) → Stands w → Tokened w → Tokened (handleRawPacket p time w)
+packets : (high : Bool) (p : List ℕ) (time : ℕ) (w : World) → Stands w → Tokened w → Tokened (handleRawPacket high p time w)
 unfolding handleRawPacket transactionUpdate
-packets p time w s h = by (isDropped (w .slot) (w .transaction))
+packets high p time w s h = by (isDropped (w .slot) (w .transaction))
   where
     v : World
     v = pushPacket (w .bytes) time (appendBytes p (withEventState Idle (stamped time (reasonOf p) w)))
@@ -123,12 +123,12 @@ packets p time w s h = by (isDropped (w .slot) (w .transaction))
     u = resumeAt (w .slot) (w .packets) v
 
     j : Judged
-    j = transactionStatus (stateAt (u .slot) (u .transaction)) p
+    j = transactionStatus high (stateAt (u .slot) (u .transaction)) p
 
-    by : (b : Bool) → Tokened (pick b (withSlot Empty v) (updateFrom (w .packets) p u))
+    by : (b : Bool) → Tokened (pick b (withSlot Empty v) (updateFrom high (w .packets) p u))
     by true = tt
     by false =
-        updates (j .pid) p (j .status) (w .packets) (completes (stateAt (u .slot) (u .transaction) .style) (j .status)) u (resume-stands (w .slot) (w .packets) v s) (resumes (w .slot) (w .packets) v refl h)
+        updates (j .pid) p high (j .status) (w .packets) (completes (stateAt (u .slot) (u .transaction) .style) (j .status)) u (resume-stands (w .slot) (w .packets) v s) (resumes (w .slot) (w .packets) v refl h)
 
 -- ---- events, details
 
@@ -162,21 +162,21 @@ details Nothing number direction kind max w h = h
 
 -- ---- every call, on every world where the special endpoints stand
 
-pub tokened-after : (k : Call) (w : World) → Stands w → Tokened w → Tokened (call k w)
+pub tokened-after : (high : Bool) (k : Call) (w : World) → Stands w → Tokened w → Tokened (call high k w)
 unfolding handleDetail finish
-tokened-after (packet p time shelf) w s h = packets p time (withShelf shelf w) s h
-tokened-after (event kind code time) w s h = events kind code time w h
-tokened-after (detail a number r kind m) w s h = details (deviceFor a w) number r kind m w h
-tokened-after finishing w s h = ends false false (lastStamped w) h
+tokened-after high (packet p time shelf) w s h = packets high p time (withShelf shelf w) s h
+tokened-after high (event kind code time) w s h = events kind code time w h
+tokened-after high (detail a number r kind m) w s h = details (deviceFor a w) number r kind m w h
+tokened-after high finishing w s h = ends false false (lastStamped w) h
 
 -- and so of every world that calls leave
 fresh-tokened : Tokened Decoder.fresh
 unfolding fresh
 fresh-tokened = tt
 
-pub tokened-always : {js : List Row} {w : World} → Reach js w → Tokened w
+pub tokened-always : {high : Bool} {js : List Row} {w : World} → Reach high js w → Tokened w
 tokened-always reached = fresh-tokened
-tokened-always (next {js} {w} k r) =
+tokened-always {high} (next {js} {w} k r) =
     let s : Sound js w = always r in
     let q = s .keeps 0 .size in
-    tokened-after k (withJournal [] w) (omega (arith, s .three), s .keeps 0 .special refl) (tokened-always r)
+    tokened-after high k (withJournal [] w) (omega (arith, s .three), s .keeps 0 .special refl) (tokened-always r)

@@ -1,6 +1,6 @@
 -- To be believed: the public functions of decoder.rs, and the detail call of 01. handle_metadata is left out.
 -- Hold it to: Decoder::new, handle_raw_packet, handle_event and finish of decoder.rs; 01, "Modules in port order", 3: "A detail call sets both"; 02, 9: "rows written by finish hold the last packet's number and time"
-use mathlib.Core.Bool.{false}
+use mathlib.Core.Bool.{Bool, false}
 use mathlib.Core.List.{List, [], _∷_}
 use Prim.Native.Nat.{ℕ, zero, suc, pred, _+_}
 use lib.Dec.{eqb}
@@ -43,13 +43,13 @@ appendBytes packet w = w ▷ push (BytesRow packet) ▷ withBytes (w .bytes + le
 abbrev pub pushPacket : ℕ → ℕ → World → World
 pushPacket start time w = w ▷ push (PacketRow start time) ▷ withPackets (suc (w .packets))
 
-unfoldable pub handleRawPacket : List ℕ → ℕ → World → World
-handleRawPacket packet time w =
+unfoldable pub handleRawPacket : Bool → List ℕ → ℕ → World → World
+handleRawPacket high packet time w =
     w ▷ stamped time (reasonOf packet)
     ▷ withEventState Idle
     ▷ appendBytes packet
     ▷ pushPacket (w .bytes) time
-    ▷ transactionUpdate (w .packets) packet
+    ▷ transactionUpdate high (w .packets) packet
 
 -- ---- fn handle_event
 

@@ -1,7 +1,7 @@
 -- To be believed: demand 3 of one endpoint: what is claimed, of its marks and of its rows in the link log (proofs/Demand.antt and proofs/Links.antt prove it).
 -- Hold it to: demand 3, sentence by sentence (docs/PROVED.md)
 use mathlib.Core.Path.{_≡_}
-use mathlib.Core.Bool.{_&&_}
+use mathlib.Core.Bool.{Bool, _&&_}
 use mathlib.Core.List.{List, [], _∷_, _++_}
 use Prim.Native.Nat.{ℕ, zero, suc, _<_}
 use lib.Dec.{eqb}
@@ -20,11 +20,11 @@ pub data Call : Type 0 where
   detail : ℕ → ℕ → ℕ → ℕ → ℕ → Call
   finishing : Call
 
-abbrev pub call : Call → World → World
-call (packet p time shelf) w = handleRawPacket p time (withShelf shelf w)
-call (event kind code time) w = handleEvent kind code time w
-call (detail a n r k m) w = handleDetail a n r k m w
-call finishing w = finish w
+abbrev pub call : Bool → Call → World → World
+call high (packet p time shelf) w = handleRawPacket high p time (withShelf shelf w)
+call high (event kind code time) w = handleEvent kind code time w
+call high (detail a n r k m) w = handleDetail a n r k m w
+call high finishing w = finish w
 
 -- the groups started number those closed, or one more; that one is open (it has not ended), or it has ended and waits
 pub data Standing (started ended closed : ℕ) : Type 0 where

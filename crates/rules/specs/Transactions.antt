@@ -6,12 +6,12 @@ use Prim.Native.Nat.{ℕ, suc, _*_}
 use lib.Dec.{eqb, ltb}
 use lib.ListN.{length}
 use Rattle.usb.specs.Packet.{payloadOf}
-use Rattle.usb.specs.Pid.{DATA0, DATA1, SPLIT, MALFORMED}
+use Rattle.usb.specs.Pid.{DATA0, SPLIT, MALFORMED}
 use Rattle.usb.specs.Types.{Complete}
 use Rattle.usb.specs.Fields.{splitOf, setupDataOf}
-use Rattle.transaction.specs.Table.{pick, only, _or_}
+use Rattle.transaction.specs.Table.{pick}
 use Rattle.transaction.specs.Status.{transactionStatus}
-use Rattle.transaction.specs.Payload.{takesSetup, extractPayload}
+use Rattle.transaction.specs.Payload.{takesSetup, yields, extractPayload}
 use Rattle.transaction.specs.declared.Transaction.{Transaction}
 use Rattle.transaction.specs.declared.Style.{Style}
 use Rattle.transaction.specs.declared.Style.the-variants.{Nothing, Simple, Split, Token}
@@ -127,45 +127,45 @@ completes (Split sc kind) s = eqb sc Complete && not (isRetry s)
 completes (Token sc kind token) s = eqb sc Complete && not (isRetry s)
 
 -- whether a packet brings a payload that is no setup data, as extract_payload tells it (transaction, Payload)
-abbrev pub isPayload : Style → ℕ → Bool
-isPayload style pid = (DATA0 or only DATA1) pid && not (eqb pid DATA0 && takesSetup style)
+abbrev pub isPayload : Bool → Style → ℕ → Bool
+isPayload high style pid = yields high pid && not (eqb pid DATA0 && takesSetup style)
 
 -- 02, 2: "Control payloads are now kept": of an endpoint whose setup data are a read (descriptors, Laid); a split without its token has no endpoint yet
-abbrev pub isKept : Transaction → Endpoint → ℕ → Bool
-isKept t e pid = isPayload (t .style) pid && (not (eqb (t .endpoint) 0) && isLaid (kindOf (e .setup)))
+abbrev pub isKept : Bool → Transaction → Endpoint → ℕ → Bool
+isKept high t e pid = isPayload high (t .style) pid && (not (eqb (t .endpoint) 0) && isLaid (kindOf (e .setup)))
 
 -- behind the bytes of the request that count so far; it counts where the transaction's end counts it
 abbrev pub shelfWith : Bool → Endpoint → List ℕ → List ℕ → List ℕ
 shelfWith keeps e packet shelf = pick keeps (laid (e .device * 8192) (e .payload) (payloadOf packet) shelf) shelf
 
-abbrev pub keepPayload : ℕ → List ℕ → World → World
-keepPayload pid packet w =
+abbrev pub keepPayload : Bool → ℕ → List ℕ → World → World
+keepPayload high pid packet w =
     let e = w .endpoints (w .transaction .endpoint) in
-    withShelf (shelfWith (isKept (w .transaction) e pid) e packet (w .shelf)) w
+    withShelf (shelfWith (isKept high (w .transaction) e pid) e packet (w .shelf)) w
 
 -- state.extract_payload(pid, packet)
-abbrev pub brought : ℕ → List ℕ → World → World
-brought pid packet w = withTransaction (extractPayload (w .transaction) pid (length packet) (setupDataOf packet)) w
+abbrev pub brought : Bool → ℕ → List ℕ → World → World
+brought high pid packet w = withTransaction (extractPayload high (w .transaction) pid (length packet) (setupDataOf packet)) w
 
 -- the same of a packet that the transaction goes on with: the Rust's payload: Vec<u8>, whose bytes a packet alone has
-abbrev pub extracted : ℕ → List ℕ → World → World
-extracted pid packet w = w ▷ keepPayload pid packet ▷ brought pid packet
+abbrev pub extracted : Bool → ℕ → List ℕ → World → World
+extracted high pid packet w = w ▷ keepPayload high pid packet ▷ brought high pid packet
 
-abbrev pub updateAt : Status → ℕ → ℕ → List ℕ → Bool → World → World
-updateAt New id pid packet complete w =
-    w ▷ brought pid packet ▷ transactionEnd false false ▷ transactionStart id pid packet ▷ groupEarlyAppend
-updateAt Continue id pid packet complete w = w ▷ extracted pid packet ▷ transactionAppend pid packet ▷ groupEarlyAppend
-updateAt Retry id pid packet complete w = w ▷ extracted pid packet ▷ transactionAppend pid packet ▷ transactionEnd true complete
-updateAt Done id pid packet complete w = w ▷ extracted pid packet ▷ transactionAppend pid packet ▷ transactionEnd true complete
-updateAt Fail id pid packet complete w = w ▷ extracted pid packet ▷ transactionAppend pid packet ▷ transactionEnd false complete
-updateAt Ambiguous id pid packet complete w = w ▷ extracted pid packet ▷ transactionAppend pid packet
-updateAt Invalid id pid packet complete w = w ▷ transactionStart id pid packet ▷ transactionEnd false false
+abbrev pub updateAt : Bool → Status → ℕ → ℕ → List ℕ → Bool → World → World
+updateAt high New id pid packet complete w =
+    w ▷ brought high pid packet ▷ transactionEnd false false ▷ transactionStart id pid packet ▷ groupEarlyAppend
+updateAt high Continue id pid packet complete w = w ▷ extracted high pid packet ▷ transactionAppend pid packet ▷ groupEarlyAppend
+updateAt high Retry id pid packet complete w = w ▷ extracted high pid packet ▷ transactionAppend pid packet ▷ transactionEnd true complete
+updateAt high Done id pid packet complete w = w ▷ extracted high pid packet ▷ transactionAppend pid packet ▷ transactionEnd true complete
+updateAt high Fail id pid packet complete w = w ▷ extracted high pid packet ▷ transactionAppend pid packet ▷ transactionEnd false complete
+updateAt high Ambiguous id pid packet complete w = w ▷ extracted high pid packet ▷ transactionAppend pid packet
+updateAt high Invalid id pid packet complete w = w ▷ transactionStart id pid packet ▷ transactionEnd false false
 
-abbrev pub updateFrom : ℕ → List ℕ → World → World
-updateFrom id packet w =
+abbrev pub updateFrom : Bool → ℕ → List ℕ → World → World
+updateFrom high id packet w =
     let t = stateAt (w .slot) (w .transaction) in
-    let j = transactionStatus t packet in
-    updateAt (j .status) id (j .pid) packet (completes (t .style) (j .status)) w
+    let j = transactionStatus high t packet in
+    updateAt high (j .status) id (j .pid) packet (completes (t .style) (j .status)) w
 
 -- the suspended transaction has no endpoint: the Rust's only error, and 01's answer 8
 abbrev pub isDropped : Slot → Transaction → Bool
@@ -173,8 +173,8 @@ isDropped Empty t = false
 isDropped Current t = false
 isDropped Suspended t = eqb (t .endpoint) 0
 
-unfoldable pub transactionUpdate : ℕ → List ℕ → World → World
-transactionUpdate id packet w =
+unfoldable pub transactionUpdate : Bool → ℕ → List ℕ → World → World
+transactionUpdate high id packet w =
     pick (isDropped (w .slot) (w .transaction))
     (withSlot Empty w)
-    (w ▷ resumeAt (w .slot) id ▷ updateFrom id packet)
+    (w ▷ resumeAt (w .slot) id ▷ updateFrom high id packet)

@@ -1,6 +1,6 @@
 -- The laws of a run: its records as one block from behind the header on, finish behind them, and the header and `fresh` before them.
 use Prim.Native.Nat.{ℕ}
-use mathlib.Core.Bool.{true}
+use mathlib.Core.Bool.{Bool, true}
 use mathlib.Core.List.{List, replicate}
 use mathlib.Core.Path.{_≡_, sym, ap, subst, _∙_}
 use lib.ListN.{length}
@@ -40,25 +40,25 @@ module _ {trace : List ℕ} {at n e b p : ℕ} {c c′ : Clock} {s s′ : Stand}
 answered : (trace : List ℕ) {h : Header} {a : ℕ} → h ≡ headerOf trace → a ≡ headerAnswer h → a ≡ headerAnswer (headerOf trace)
 answered trace f k = k ∙ ap headerAnswer f
 
-module _ {trace t : List ℕ} {l : Logs} {shelf : List ℕ} {d : Device} {h : Header} {a : ℕ} (e : d ≡ fresh 0) (f : h ≡ headerOf trace) (k : a ≡ headerAnswer h) where
-  pub ran-wrong : {p : ℕ} {r : Decoder} → (a ≡ 0 → ⊥) → r ≡ refusedDecoder → p ≡ headerPlace h → Ran trace t l shelf a p (stand (state r (replicate 64 d) t l) shelf)
+module _ {high : Bool} {trace t : List ℕ} {l : Logs} {shelf : List ℕ} {d : Device} {h : Header} {a : ℕ} (e : d ≡ fresh 0) (f : h ≡ headerOf trace) (k : a ≡ headerAnswer h) where
+  pub ran-wrong : {p : ℕ} {r : Decoder} → (a ≡ 0 → ⊥) → r ≡ refusedDecoder → p ≡ headerPlace h → Ran high trace t l shelf a p (stand (state r (replicate 64 d) t l) shelf)
   unfolding unmade
   ran-wrong {p} {r} n u v =
       let g = answered trace f k in
       let left : state r (replicate 64 d) t l ≡ unmade noDevices t l = λ i. state (u i) (replicate 64 (e i)) t l in
-      subst (λ (x : ℕ). Ran trace t l shelf x p (stand (state r (replicate 64 d) t l) shelf)) (sym g)
-      (subst (λ (x : ℕ). Ran trace t l shelf (headerAnswer (headerOf trace)) x (stand (state r (replicate 64 d) t l) shelf)) (sym (v ∙ ap headerPlace f))
-      (subst (λ (x : State). Ran trace t l shelf (headerAnswer (headerOf trace)) (headerPlace (headerOf trace)) (stand x shelf)) (sym left) (wrong (λ z. n (g ∙ z)))))
+      subst (λ (x : ℕ). Ran high trace t l shelf x p (stand (state r (replicate 64 d) t l) shelf)) (sym g)
+      (subst (λ (x : ℕ). Ran high trace t l shelf (headerAnswer (headerOf trace)) x (stand (state r (replicate 64 d) t l) shelf)) (sym (v ∙ ap headerPlace f))
+      (subst (λ (x : State). Ran high trace t l shelf (headerAnswer (headerOf trace)) (headerPlace (headerOf trace)) (stand x shelf)) (sym left) (wrong (λ z. n (g ∙ z)))))
 
   pub ran-refused : {b : ℕ} {d′ : Decoder} {v : List Device} {t′ : List ℕ} {l′ : Logs} {r : Done}
-      → Makes (replicate 64 d) t l b (state d′ v t′ l′)
+      → Makes high (replicate 64 d) t l b (state d′ v t′ l′)
       → a ≡ 0
       → (b ≡ 0 → ⊥)
       → r ≡ notMade b d′ v
-      → Ran trace t l shelf (r .answer) (r .place) (stand (state (r .decoder) (r .devices) t′ l′) shelf)
+      → Ran high trace t l shelf (r .answer) (r .place) (stand (state (r .decoder) (r .devices) t′ l′) shelf)
   ran-refused {t′ = t′} {l′} m z n q =
-      subst (λ (r : Done). Ran trace t l shelf (r .answer) (r .place) (stand (state (r .decoder) (r .devices) t′ l′) shelf)) (sym q)
+      subst (λ (r : Done). Ran high trace t l shelf (r .answer) (r .place) (stand (state (r .decoder) (r .devices) t′ l′) shelf)) (sym q)
       (refused (sym (answered trace f k) ∙ z) (made-on e m) n)
 
-  pub ran-made : {b j p : ℕ} {s : State} {s′ : Stand} → Makes (replicate 64 d) t l b s → a ≡ 0 → b ≡ 0 → Runs trace 5 stopped (stand s shelf) j p s′ → Ran trace t l shelf j p s′
-  ran-made {s = s} m z y r = runs (sym (answered trace f k) ∙ z) (subst (λ (x : ℕ). Makes noDevices t l x s) y (made-on e m)) r
+  pub ran-made : {b j p : ℕ} {s : State} {s′ : Stand} → Makes high (replicate 64 d) t l b s → a ≡ 0 → b ≡ 0 → Runs trace 5 stopped (stand s shelf) j p s′ → Ran high trace t l shelf j p s′
+  ran-made {s = s} m z y r = runs (sym (answered trace f k) ∙ z) (subst (λ (x : ℕ). Makes high noDevices t l x s) y (made-on e m)) r

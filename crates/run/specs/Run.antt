@@ -1,7 +1,7 @@
 -- To be believed: a whole trace through the calls (01, "Trace and listing"): what its records give as one block. Words in quotation marks are those of 01.
 -- Hold it to: 01, "Trace and listing": "Records are taken one at a time .."
 use Prim.Native.Nat.{ℕ}
-use mathlib.Core.Bool.{true}
+use mathlib.Core.Bool.{Bool, true}
 use mathlib.Core.List.{List}
 use mathlib.Core.Path.{_≡_}
 use lib.ListN.{length}
@@ -27,14 +27,14 @@ pub data Runs (trace : List ℕ) : ℕ → Clock → Stand → ℕ → ℕ → S
 
 -- ---- the whole trace
 
--- a trace on this table, these logs and the shelf h: the answer (0: finished), the place, and what is left. A wrong header leaves what a refused decoder leaves; a
+-- a trace on this table, these logs and the shelf h, by a decoder in this mode (02, 6): the answer (0: finished), the place, and what is left. A wrong header leaves what a refused decoder leaves; a
 -- decoder that can't be made is refused at 0 (docs/DECISIONS.md, 2); records start behind the header
-pub data Ran (trace t : List ℕ) (l : Logs) (h : List ℕ) : ℕ → ℕ → Stand → Type 0 where
+pub data Ran (high : Bool) (trace t : List ℕ) (l : Logs) (h : List ℕ) : ℕ → ℕ → Stand → Type 0 where
   wrong : (headerAnswer (headerOf trace) ≡ 0 → ⊥)
-      → Ran trace t l h (headerAnswer (headerOf trace)) (headerPlace (headerOf trace)) (stand (unmade noDevices t l) h)
-  refused : {a : ℕ} {s : State} → headerAnswer (headerOf trace) ≡ 0 → Makes noDevices t l a s → (a ≡ 0 → ⊥) → Ran trace t l h a 0 (stand s h)
+      → Ran high trace t l h (headerAnswer (headerOf trace)) (headerPlace (headerOf trace)) (stand (unmade noDevices t l) h)
+  refused : {a : ℕ} {s : State} → headerAnswer (headerOf trace) ≡ 0 → Makes high noDevices t l a s → (a ≡ 0 → ⊥) → Ran high trace t l h a 0 (stand s h)
   runs : {a p : ℕ} {s : State} {s′ : Stand}
       → headerAnswer (headerOf trace) ≡ 0
-      → Makes noDevices t l 0 s
+      → Makes high noDevices t l 0 s
       → Runs trace 5 stopped (stand s h) a p s′
-      → Ran trace t l h a p s′
+      → Ran high trace t l h a p s′

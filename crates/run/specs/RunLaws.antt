@@ -1,5 +1,6 @@
 -- Laws (proved): what the contract of `run` rules out: any two outcomes coincide.
 use Prim.Native.Nat.{ℕ}
+use mathlib.Core.Bool.{Bool}
 use mathlib.Core.List.{List}
 use mathlib.Core.Path.{_≡_, refl, sym, subst}
 use Rattle.trace.specs.declared.clock.Clock.{Clock}
@@ -30,7 +31,7 @@ same-run (stops x h) (ends y g) = absurd (h (block-unique x y .answer))
 same-run (stops x h) (stops y k) = let u = block-unique x y in record { answer = u .answer; place = u .place; final = u .final }
 
 -- 01: "any two permitted outcomes coincide"
-pub run-unique : {trace t : List ℕ} {l : Logs} {h : List ℕ} {a b p q : ℕ} {s s′ : Stand} → Ran trace t l h a p s → Ran trace t l h b q s′ → Same a b p q s s′
+pub run-unique : {high : Bool} {trace t : List ℕ} {l : Logs} {h : List ℕ} {a b p q : ℕ} {s s′ : Stand} → Ran high trace t l h a p s → Ran high trace t l h b q s′ → Same a b p q s s′
 run-unique (wrong h) (wrong k) = record { answer = refl; place = refl; final = refl }
 run-unique (wrong h) (refused k m n) = absurd (h k)
 run-unique (wrong h) (runs k m r) = absurd (h k)

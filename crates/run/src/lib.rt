@@ -122,8 +122,9 @@ fn not_made(answer: u8, decoder: Decoder, devices: [Device; 64]) -> Done
     }
 }
 
-// The trace on the lent table, logs and shelf: 10 or 11 for its header, what a decoder that can't be made answers, or what its records come to.
+// The trace on the lent table, logs and shelf, by a decoder in this mode: 10 or 11 for its header, what a decoder that can't be made answers, or what its records come to.
 pub fn run(
+    high: bool,
     trace: &[u8],
     table: &mut Table,
     bytes: &mut [u8],
@@ -140,7 +141,7 @@ pub fn run(
     requests: &mut [u64],
     shelf: &mut Shelf,
 ) -> Done
-    ensures { λ r. ⌜ Ran (now (trace .entry)) (now (table .entry)) (logs (now (bytes .entry)) (now («device_rows» .entry)) (now («endpoint_rows» .entry)) (now (packets .entry)) (now (events .entry)) (now (transactions .entry)) (now (groups .entry)) (now (statebytes .entry)) (now (states .entry)) (now (items .entry)) (now (links .entry)) (now (requests .entry))) (now (shelf .entry)) (r .answer) (r .place) (stand (state (r .decoder) (r .devices) (now (table .exit)) (logs (now (bytes .exit)) (now («device_rows» .exit)) (now («endpoint_rows» .exit)) (now (packets .exit)) (now (events .exit)) (now (transactions .exit)) (now (groups .exit)) (now (statebytes .exit)) (now (states .exit)) (now (items .exit)) (now (links .exit)) (now (requests .exit)))) (now (shelf .exit))) ⌝ }
+    ensures { λ r. ⌜ Ran high (now (trace .entry)) (now (table .entry)) (logs (now (bytes .entry)) (now («device_rows» .entry)) (now («endpoint_rows» .entry)) (now (packets .entry)) (now (events .entry)) (now (transactions .entry)) (now (groups .entry)) (now (statebytes .entry)) (now (states .entry)) (now (items .entry)) (now (links .entry)) (now (requests .entry))) (now (shelf .entry)) (r .answer) (r .place) (stand (state (r .decoder) (r .devices) (now (table .exit)) (logs (now (bytes .exit)) (now («device_rows» .exit)) (now («endpoint_rows» .exit)) (now (packets .exit)) (now (events .exit)) (now (transactions .exit)) (now (groups .exit)) (now (statebytes .exit)) (now (states .exit)) (now (items .exit)) (now (links .exit)) (now (requests .exit)))) (now (shelf .exit))) ⌝ }
 {
     let blank = fresh_device(0);
     let devices = [blank; 64];
@@ -156,6 +157,7 @@ pub fn run(
         };
     }
     let made = fresh(
+        high,
         devices,
         table,
         bytes,

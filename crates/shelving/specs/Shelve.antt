@@ -25,11 +25,11 @@ abbrev pub isAsked : Plan → Bool
 isAsked p = p .closes && asks (p .close .effect)
 
 -- by the entry of the old transaction's endpoint, and by the one that the packet's own transaction ends with
-abbrev pub readingOf : Plan → Reading
-readingOf p =
+abbrev pub readingOf : Bool → Plan → Reading
+readingOf high p =
     record {
-      keeps = keeps p;
-      device = pick (keeps p) (p .end .entry .device) 0;
+      keeps = keeps high p;
+      device = pick (keeps high p) (p .end .entry .device) 0;
       count = p .end .entry .payload;
       asks = isAsked p;
       endpoint = p .begin .transaction .endpoint;

@@ -14,8 +14,8 @@ use rows::width;
 use transaction::Style;
 use transaction::Transaction;
 use transaction::payload::takes_setup;
+use transaction::payload::yields;
 use usb::pid::DATA0;
-use usb::pid::DATA1;
 ghost use mathlib.Core.Path.{_≡_};
 ghost use Prim.Native.Nat.{_<_, _≤_};
 ghost use lib.ListN.{length};
@@ -58,32 +58,33 @@ pub struct Shelved {
     pub row: Device,
 }
 
-// Whether a packet brings a payload that is no setup data.
-fn is_payload(style: Style, pid: u8) -> bool
-    ensures { λ r. ⌜ r ≡ isPayload style pid ⌝ }
+// Whether a packet brings a payload that is no setup data; high is the decoder's mode.
+fn is_payload(high: bool, style: Style, pid: u8) -> bool
+    ensures { λ r. ⌜ r ≡ isPayload high style pid ⌝ }
 {
     let setup = takes_setup(style);
-    ((pid == DATA0) | (pid == DATA1)) & !((pid == DATA0) & setup)
+    let payload = yields(high, pid);
+    payload & !((pid == DATA0) & setup)
 }
 
 // Whether it is laid by: where the setup data of its endpoint are a read.
-pub fn is_kept(t: Transaction, e: Endpoint, pid: u8) -> bool
-    ensures { λ r. ⌜ r ≡ isKept t e pid ⌝ }
+pub fn is_kept(high: bool, t: Transaction, e: Endpoint, pid: u8) -> bool
+    ensures { λ r. ⌜ r ≡ isKept high t e pid ⌝ }
 {
     let style = t.style;
-    let payload = is_payload(style, pid);
+    let payload = is_payload(high, style, pid);
     let read = is_laid(kind_of(e.setup));
     payload & (!(t.endpoint == 0) & read)
 }
 
 // Whether a packet with this plan has its payload laid by.
-fn keeps_payload(p: Plan) -> bool
-    ensures { λ r. ⌜ r ≡ keeps p ⌝ }
+fn keeps_payload(high: bool, p: Plan) -> bool
+    ensures { λ r. ⌜ r ≡ keeps high p ⌝ }
 {
     let begin = p.begin;
     let end = p.end;
     let t = begin.transaction;
-    let kept = is_kept(p.brought, end.entry, t.last);
+    let kept = is_kept(high, p.brought, end.entry, t.last);
     !begin.row & kept
 }
 
@@ -147,8 +148,8 @@ pub fn no_reading() -> Reading
 }
 
 // What a packet with this plan does.
-pub fn reading_of(p: Plan) -> Reading
-    ensures { λ r. ⌜ r ≡ readingOf p ⌝ }
+pub fn reading_of(high: bool, p: Plan) -> Reading
+    ensures { λ r. ⌜ r ≡ readingOf high p ⌝ }
 {
     let begin = p.begin;
     let t = begin.transaction;
@@ -157,7 +158,7 @@ pub fn reading_of(p: Plan) -> Reading
     let close = p.close;
     let e = close.entry;
     let effect = close.effect;
-    let keeps = keeps_payload(p);
+    let keeps = keeps_payload(high, p);
     let asks = is_asked(p);
     let device = device_if(keeps, old.device);
     let place = device_if(asks, e.device);

@@ -178,17 +178,17 @@ module _ (n : ℕ) where
       v : World
       v = begin (withId (w .transactions) (w .transaction)) (pushTransaction id w)
 
-  module _ (pid : ℕ) (p : List ℕ) where
-    extract-fits : (w : World) → Fits n w → Fits n (extracted pid p w)
+  module _ (high : Bool) (pid : ℕ) (p : List ℕ) where
+    extract-fits : (w : World) → Fits n w → Fits n (extracted high pid p w)
     extract-fits w f =
-        let k = extract-keeps (w .transaction) pid (length p) (setupDataOf p) in
+        let k = extract-keeps high (w .transaction) pid (length p) (setupDataOf p) in
         carries (λ q. held-as (k .endpoint) (omega (arith, f .held q .id)) (k .linked) (k .link) (f .held q)) refl f
 
-    extract-tokened : (w : World) → Tokened w → Tokened (extracted pid p w)
-    extract-tokened w t = let k = extract-keeps (w .transaction) pid (length p) (setupDataOf p) in rw (k .style, k .endpoint) t
+    extract-tokened : (w : World) → Tokened w → Tokened (extracted high pid p w)
+    extract-tokened w t = let k = extract-keeps high (w .transaction) pid (length p) (setupDataOf p) in rw (k .style, k .endpoint) t
 
-    appended-fits : (w : World) → Tokened w → Fits n w → Fits n (transactionAppend pid p (extracted pid p w))
-    appended-fits w t f = append-fits pid p (extracted pid p w) (extract-tokened w t) (extract-fits w f)
+    appended-fits : (w : World) → Tokened w → Fits n w → Fits n (transactionAppend pid p (extracted high pid p w))
+    appended-fits w t f = append-fits pid p (extracted high pid p w) (extract-tokened w t) (extract-fits w f)
 
     -- a token that comes here is not OUT
     prompt-token : (st : Style) (w : World) → linkedAt (w .transaction) (w .endpoints) ≡ true → ((sc kind : ℕ) → st ≡ Split sc kind → ¬ (pid ≡ OUT)) → Prompt true (withTransaction (withPid pid (appendToken st pid p w .transaction)) (appendToken st pid p w))
@@ -200,37 +200,37 @@ module _ (n : ℕ) where
     abbrev NotOut : World → Type 0
     NotOut w = w .slot ≡ Current → (sc kind : ℕ) → w .transaction .style ≡ Split sc kind → ¬ (pid ≡ OUT)
 
-    closed-fits : (k : Bool) (w : World) → Tokened w → Linked w → NotOut w → Fits n w → Fits n (transactionEnd true k (transactionAppend pid p (extracted pid p w)))
+    closed-fits : (k : Bool) (w : World) → Tokened w → Linked w → NotOut w → Fits n w → Fits n (transactionEnd true k (transactionAppend pid p (extracted high pid p w)))
     closed-fits k w t l d f = end-fits true k (transactionAppend pid p e) prompt (appended-fits w t f)
       where
         e : World
-        e = extracted pid p w
+        e = extracted high pid p w
 
         prompt : transactionAppend pid p e .slot ≡ Current → Prompt true (transactionAppend pid p e)
         prompt q =
             let h : w .slot ≡ Current = sym (token-slot (e .transaction .style) pid p e) ∙ q in
-            prompt-token (e .transaction .style) e (rw h at (extract-links pid p (w .slot) (w .transaction) (w .endpoints) l)) (λ sc kind g. d h sc kind (sym (extract-keeps (w .transaction) pid (length p) (setupDataOf p) .style) ∙ g))
+            prompt-token (e .transaction .style) e (rw h at (extract-links high pid p (w .slot) (w .transaction) (w .endpoints) l)) (λ sc kind g. d h sc kind (sym (extract-keeps high (w .transaction) pid (length p) (setupDataOf p) .style) ∙ g))
 
-    updates : (s : Status) (id : ℕ) (k : Bool) (w : World) → Tokened w → Linked w → (closing s ≡ true → NotOut w) → Fits n w → Fits n (updateAt s id pid p k w)
-    updates New id k w t l d f = early-fits (transactionStart id pid p v) (start-fits id pid p v (fail-fits false (brought pid p w) (extract-fits w f)))
+    updates : (s : Status) (id : ℕ) (k : Bool) (w : World) → Tokened w → Linked w → (closing s ≡ true → NotOut w) → Fits n w → Fits n (updateAt high s id pid p k w)
+    updates New id k w t l d f = early-fits (transactionStart id pid p v) (start-fits id pid p v (fail-fits false (brought high pid p w) (extract-fits w f)))
       where
         v : World
-        v = transactionEnd false false (brought pid p w)
-    updates Continue id k w t l d f = early-fits (transactionAppend pid p (extracted pid p w)) (appended-fits w t f)
+        v = transactionEnd false false (brought high pid p w)
+    updates Continue id k w t l d f = early-fits (transactionAppend pid p (extracted high pid p w)) (appended-fits w t f)
     updates Retry id k w t l d f = closed-fits k w t l (d refl) f
     updates Done id k w t l d f = closed-fits k w t l (d refl) f
-    updates Fail id k w t l d f = fail-fits k (transactionAppend pid p (extracted pid p w)) (appended-fits w t f)
+    updates Fail id k w t l d f = fail-fits k (transactionAppend pid p (extracted high pid p w)) (appended-fits w t f)
     updates Ambiguous id k w t l d f = appended-fits w t f
     updates Invalid id k w t l d f = fail-fits false (transactionStart id pid p w) (start-fits id pid p w f)
 
-  not-out : (z : Slot) (t : Transaction) (p : List ℕ) → closing (transactionStatus (stateAt z t) p .status) ≡ true → z ≡ Current → (sc kind : ℕ) → t .style ≡ Split sc kind → ¬ (transactionStatus (stateAt z t) p .pid ≡ OUT)
-  not-out Empty t p h q = let o : _≡_ {A = ℕ} 0 1 = cc in absurd (omega arith)
-  not-out Current t p h q = λ sc kind g. split-on t sc kind p g h
-  not-out Suspended t p h q = let o : _≡_ {A = ℕ} 0 1 = cc in absurd (omega arith)
+  not-out : (high : Bool) (z : Slot) (t : Transaction) (p : List ℕ) → closing (transactionStatus high (stateAt z t) p .status) ≡ true → z ≡ Current → (sc kind : ℕ) → t .style ≡ Split sc kind → ¬ (transactionStatus high (stateAt z t) p .pid ≡ OUT)
+  not-out high Empty t p h q = let o : _≡_ {A = ℕ} 0 1 = cc in absurd (omega arith)
+  not-out high Current t p h q = λ sc kind g. split-on high t sc kind p g h
+  not-out high Suspended t p h q = let o : _≡_ {A = ℕ} 0 1 = cc in absurd (omega arith)
 
-  packet-fits : (p : List ℕ) (time : ℕ) (w : World) → Tokened w → Linked w → Fits n w → Fits n (handleRawPacket p time w)
+  packet-fits : (high : Bool) (p : List ℕ) (time : ℕ) (w : World) → Tokened w → Linked w → Fits n w → Fits n (handleRawPacket high p time w)
   unfolding handleRawPacket transactionUpdate
-  packet-fits p time w t l f = by (isDropped (w .slot) (w .transaction)) refl
+  packet-fits high p time w t l f = by (isDropped (w .slot) (w .transaction)) refl
     where
       v : World
       v = pushPacket (w .bytes) time (appendBytes p (withEventState Idle (stamped time (reasonOf p) w)))
@@ -242,12 +242,12 @@ module _ (n : ℕ) where
       u = resumeAt (w .slot) (w .packets) v
 
       j : Judged
-      j = transactionStatus (stateAt (u .slot) (u .transaction)) p
+      j = transactionStatus high (stateAt (u .slot) (u .transaction)) p
 
-      by : (b : Bool) → isDropped (w .slot) (w .transaction) ≡ b → Fits n (pick b (withSlot Empty v) (updateFrom (w .packets) p u))
+      by : (b : Bool) → isDropped (w .slot) (w .transaction) ≡ b → Fits n (pick b (withSlot Empty v) (updateFrom high (w .packets) p u))
       by true q = dropped (holds (w .slot)) (w .transaction .endpoint) v g
       by false q =
-          updates (j .pid) p (j .status) (w .packets) (completes (stateAt (u .slot) (u .transaction) .style) (j .status)) u (resumes (w .slot) (w .packets) v refl t) (resume-links (w .slot) (w .packets) v refl l) (not-out (u .slot) (u .transaction) p) (resume-fits (w .slot) (w .packets) v refl q g)
+          updates high (j .pid) p (j .status) (w .packets) (completes (stateAt (u .slot) (u .transaction) .style) (j .status)) u (resumes (w .slot) (w .packets) v refl t) (resume-links (w .slot) (w .packets) v refl l) (not-out high (u .slot) (u .transaction) p) (resume-fits (w .slot) (w .packets) v refl q g)
 
   -- ---- events
 
@@ -335,12 +335,12 @@ module _ (n : ℕ) where
   detail-fits (At i) number direction kind max w f = changed-device n (holds (w .slot)) (w .transaction .endpoint) i (detailed number direction kind max) w (λ e. detail-kept e number direction kind max .address) f
   detail-fits Nothing number direction kind max w f = f
 
-  call-fits : (k : Call) (w : World) → Tokened w → Linked w → Fits n w → Fits n (call k w)
+  call-fits : (high : Bool) (k : Call) (w : World) → Tokened w → Linked w → Fits n w → Fits n (call high k w)
   unfolding handleDetail finish
-  call-fits (packet p time shelf) w t l f = packet-fits p time (withShelf shelf w) t l f
-  call-fits (event kind code time) w t l f = event-fits kind code time w f
-  call-fits (detail a number r kind m) w t l f = detail-fits (deviceFor a w) number r kind m w f
-  call-fits finishing w t l f = fail-fits false (lastStamped w) f
+  call-fits high (packet p time shelf) w t l f = packet-fits high p time (withShelf shelf w) t l f
+  call-fits high (event kind code time) w t l f = event-fits kind code time w f
+  call-fits high (detail a number r kind m) w t l f = detail-fits (deviceFor a w) number r kind m w f
+  call-fits high finishing w t l f = fail-fits false (lastStamped w) f
 
-pub fit-after : (k : Call) (n : ℕ) (w : World) → Fit n w → Tokened w → Linked w → Fit n (call k w)
-fit-after k n w f t l = done n (holds (call k w .slot)) (call k w .transaction .endpoint) (call k w) (λ q. q) (call-fits n k w t l (begun n w f))
+pub fit-after : (high : Bool) (k : Call) (n : ℕ) (w : World) → Fit n w → Tokened w → Linked w → Fit n (call high k w)
+fit-after high k n w f t l = done n (holds (call high k w .slot)) (call high k w .transaction .endpoint) (call high k w) (λ q. q) (call-fits n high k w t l (begun n w f))

@@ -173,10 +173,10 @@ none-of (r ∷ rs) k s l pid h = by (fits (r .tests) (k ∷ s ∷ l ∷ pid ∷ 
         shut true t u v = absurd (true≢false (sym v ∙ u))
         shut false t u v = refl
 
-split-goes-on : (t : Transaction) (sc kind : ℕ) → t .style ≡ Split sc kind → (c : Checked) (n : ℕ) → closing (judgedOf t c n .status) ≡ true → ¬ (judgedOf t c n .pid ≡ OUT)
-split-goes-on t sc kind q (Malformed reason) n h = absurd (true≢false (sym h))
-split-goes-on t sc kind q (Valid pid) n h = λ z. absurd (true≢false (sym (rw (q, z) at h) ∙ none-of (splitRows n) kind sc (t .last) OUT refl))
+split-goes-on : (high : Bool) (t : Transaction) (sc kind : ℕ) → t .style ≡ Split sc kind → (c : Checked) (n : ℕ) → closing (judgedOf high t c n .status) ≡ true → ¬ (judgedOf high t c n .pid ≡ OUT)
+split-goes-on high t sc kind q (Malformed reason) n h = absurd (true≢false (sym h))
+split-goes-on high t sc kind q (Valid pid) n h = λ z. absurd (true≢false (sym (rw (q, z) at h) ∙ none-of (splitRows n) kind sc (t .last) OUT refl))
 
-pub split-on : (t : Transaction) (sc kind : ℕ) (p : List ℕ) → t .style ≡ Split sc kind → closing (transactionStatus t p .status) ≡ true → ¬ (transactionStatus t p .pid ≡ OUT)
+pub split-on : (high : Bool) (t : Transaction) (sc kind : ℕ) (p : List ℕ) → t .style ≡ Split sc kind → closing (transactionStatus high t p .status) ≡ true → ¬ (transactionStatus high t p .pid ≡ OUT)
 unfolding transactionStatus
-split-on t sc kind p q = split-goes-on t sc kind q (checkedOf p) (length p)
+split-on high t sc kind p q = split-goes-on high t sc kind q (checkedOf p) (length p)

@@ -110,16 +110,16 @@ agreed w v a p i u =
     let b = a .bytes in
     rw (e, z, t, b) (p i h)
 
-pub sound-fresh : (v : List Device) (t : List ℕ) (l : Logs) (s : State) → Makes v t l 0 s → length t ≡ word.table → 0 < length v → isSound s ≡ true
-sound-fresh v t l s m ht hv =
+pub sound-fresh : (high : Bool) (v : List Device) (t : List ℕ) (l : Logs) (s : State) → Makes high v t l 0 s → length t ≡ word.table → 0 < length v → isSound s ≡ true
+sound-fresh high v t l s m ht hv =
     let g = sound s (fresh-well m ht hv) in
     sound-is s (g .1) (g .0) (agreed (worldAt s) rules.fresh (fresh-stands m ht hv) fresh-paid)
 
 -- ---- every call
 
 -- one that is accepted leaves what the rules leave, and any other leaves all as it was
-keeps : (k : Call) (s : State) (q : Tests) (f : Bool) (a : ℕ) (s′ : State) → (Passed q → Roomy (s .table) (countsAfter (s .decoder .counts) (call k (worldAt s))) (roomOf (s .logs)))
-    → Answers q (call k (worldAt s)) f s a s′ → isSound s ≡ true → isSound s′ ≡ true
+keeps : (k : Call) (s : State) (q : Tests) (f : Bool) (a : ℕ) (s′ : State) → (Passed q → Roomy (s .table) (countsAfter (s .decoder .counts) (call (s .decoder .high) k (worldAt s))) (roomOf (s .logs)))
+    → Answers q (call (s .decoder .high) k (worldAt s)) f s a s′ → isSound s ≡ true → isSound s′ ≡ true
 keeps k s q f a s′ room x h = by (accepts (firstOf q)) refl
   where
     fits : Fit (s .decoder .counts .links) (worldAt s)
@@ -133,18 +133,18 @@ keeps k s q f a s′ room x h = by (accepts (firstOf q)) refl
 
     by : (b : Bool) → accepts (firstOf q) ≡ b → isSound s′ ≡ true
     by true e =
-        left-sound s s′ (call k (worldAt s)) f (x .left e) (fit-after k _ (worldAt s) fits tokened (linked-of s h)) (paid-after k (worldAt s) some tokened (paid-of s h))
-        (sound s (sound-well s h) .1) (room (passed q e)) (tokened-after k (worldAt s) (fits .three, fits .event .address) tokened) (linked-after k (worldAt s) (linked-of s h))
+        left-sound s s′ (call (s .decoder .high) k (worldAt s)) f (x .left e) (fit-after (s .decoder .high) k _ (worldAt s) fits tokened (linked-of s h)) (paid-after (s .decoder .high) k (worldAt s) some tokened (paid-of s h))
+        (sound s (sound-well s h) .1) (room (passed q e)) (tokened-after (s .decoder .high) k (worldAt s) (fits .three, fits .event .address) tokened) (linked-after (s .decoder .high) k (worldAt s) (linked-of s h))
     by false e = ap isSound (x .kept e) ∙ h
 
 pub sound-packet : (bytes : List ℕ) (time : ℕ) (shelf shelf′ : List ℕ) → Keeps (λ s a s′. PacketCall bytes time s shelf a s′ shelf′)
 sound-packet bytes time shelf shelf′ s a s′ x h = keeps (packet bytes time shelf) s (testsOf bytes time s shelf) (s .decoder .finished) a s′ (λ p. room-left s _ (p .full)) (x .answers) h
 
 pub sound-event : (kind code time : ℕ) → Keeps (EventCall kind code time)
-sound-event kind code time s a s′ x h = keeps (event kind code time) s (eventTestsOf kind (call (event kind code time) (worldAt s)) s) (s .decoder .finished) a s′ (λ p. room-left s _ (p .full)) x h
+sound-event kind code time s a s′ x h = keeps (event kind code time) s (eventTestsOf kind (call (s .decoder .high) (event kind code time) (worldAt s)) s) (s .decoder .finished) a s′ (λ p. room-left s _ (p .full)) x h
 
 pub sound-finish : Keeps FinishCall
-sound-finish s a s′ x h = keeps finishing s (finishTestsOf (call finishing (worldAt s)) s) true a s′ (λ p. room-left s _ (p .full)) x h
+sound-finish s a s′ x h = keeps finishing s (finishTestsOf (call (s .decoder .high) finishing (worldAt s)) s) true a s′ (λ p. room-left s _ (p .full)) x h
 
 pub sound-detail : (address number direction kind max : ℕ) → Keeps (Details address number direction kind max)
 unfolding Details

@@ -9,11 +9,11 @@ use borrow.Author.Tests.{eqb-false}
 use lib.Dec.{eqb}
 use lib.ListN.{length}
 use Rattle.usb.specs.Packet.{reasonOf}
-use Rattle.usb.specs.Pid.{DATA0, DATA1, SPLIT, MALFORMED}
+use Rattle.usb.specs.Pid.{DATA0, SPLIT, MALFORMED}
 use Rattle.usb.specs.Fields.{setupDataOf}
-use Rattle.transaction.specs.Payload.{takesSetup, withSetup, withPayload, extractPayload}
+use Rattle.transaction.specs.Payload.{takesSetup, yields, withSetup, withPayload, extractPayload}
 use Rattle.transaction.specs.Status.{transactionStatus}
-use Rattle.transaction.specs.Table.{pick, only, _or_}
+use Rattle.transaction.specs.Table.{pick}
 use Rattle.transaction.specs.declared.Judged.{Judged}
 use Rattle.transaction.specs.declared.Status.{Status}
 use Rattle.transaction.specs.declared.Status.the-variants.{New, Continue, Retry, Done, Fail, Ambiguous, Invalid}
@@ -130,10 +130,10 @@ append-pays pid p w l h paid = token-pays (w .transaction .style) pid p w l h pa
 
 -- ---- transaction_update: a packet's bytes are to spare until its payload is taken
 
-module _ (pid : ℕ) (p : List ℕ) where
-  extract-le : (s : Slot) (t : Transaction) (i : ℕ) → brings s (extractPayload t pid (length p) (setupDataOf p)) i ≤ brings s t i + length p
+module _ (high : Bool) (pid : ℕ) (p : List ℕ) where
+  extract-le : (s : Slot) (t : Transaction) (i : ℕ) → brings s (extractPayload high t pid (length p) (setupDataOf p)) i ≤ brings s t i + length p
   unfolding extractPayload
-  extract-le s t i = by (eqb pid DATA0 && takesSetup (t .style)) ((DATA0 or only DATA1) pid)
+  extract-le s t i = by (eqb pid DATA0 && takesSetup (t .style)) (yields high pid)
     where
       within : (b : Bool) → pick b (length p - 3) 0 ≤ length p
       within true = omega arith
@@ -144,22 +144,22 @@ module _ (pid : ℕ) (p : List ℕ) where
       by false true = omega (arith, within (holds s && (eqb (t .endpoint) 0 || eqb (t .endpoint) i)))
       by false false = omega arith
 
-  extract-pays : (w : World) → Spare (length p) (purse w) → Paid (extracted pid p w)
+  extract-pays : (w : World) → Spare (length p) (purse w) → Paid (extracted high pid p w)
   extract-pays w s i h = omega (arith, extract-le (w .slot) (w .transaction) i, s i h)
 
-  update-pays : (s : Status) (n : ℕ) (k : Bool) (w : World) → 0 < w .count → Tokened w → Spare (length p) (purse w) → Paid (updateAt s n pid p k w)
+  update-pays : (s : Status) (n : ℕ) (k : Bool) (w : World) → 0 < w .count → Tokened w → Spare (length p) (purse w) → Paid (updateAt high s n pid p k w)
   update-pays s n k w l h spare = by s
     where
       v : World
-      v = extracted pid p w
+      v = extracted high pid p w
 
       went : Paid (transactionAppend pid p v)
-      went = append-pays pid p v l (carried (extract-seen pid p w) h) (extract-pays w spare)
+      went = append-pays pid p v l (carried (extract-seen high pid p w) h) (extract-pays w spare)
 
-      by : (s : Status) → Paid (updateAt s n pid p k w)
+      by : (s : Status) → Paid (updateAt high s n pid p k w)
       by New =
-          let u = transactionEnd false false (brought pid p w) in
-          let e = end-pays false false (brought pid p w) (extract-pays w spare) in
+          let u = transactionEnd false false (brought high pid p w) in
+          let e = end-pays false false (brought high pid p w) (extract-pays w spare) in
           paid-less (append-spares (transactionStart n pid p u)) (start-pays n pid p u (λ i g. (omega (arith, e i g))))
       by Continue = paid-less (append-spares (transactionAppend pid p v)) went
       by Retry = end-pays true k (transactionAppend pid p v) went
@@ -179,9 +179,9 @@ resume-less Suspended n w q = then begun (link-spares (w .transaction .endpoint)
     begun : Less (purse w) (purse v)
     begun = record { count = refl; bytes = refl; hand = λ i. le-refl _; brought = λ i. rw q (le-refl _) }
 
-packet-pays : (p : List ℕ) (time : ℕ) (w : World) → 0 < w .count → Tokened w → Paid w → Paid (handleRawPacket p time w)
+packet-pays : (high : Bool) (p : List ℕ) (time : ℕ) (w : World) → 0 < w .count → Tokened w → Paid w → Paid (handleRawPacket high p time w)
 unfolding handleRawPacket transactionUpdate
-packet-pays p time w l h paid = by (isDropped (w .slot) (w .transaction))
+packet-pays high p time w l h paid = by (isDropped (w .slot) (w .transaction))
   where
     v : World
     v = pushPacket (w .bytes) time (appendBytes p (withEventState Idle (stamped time (reasonOf p) w)))
@@ -196,12 +196,12 @@ packet-pays p time w l h paid = by (isDropped (w .slot) (w .transaction))
     spare i g = omega (arith, paid i g)
 
     j : Judged
-    j = transactionStatus (stateAt (u .slot) (u .transaction)) p
+    j = transactionStatus high (stateAt (u .slot) (u .transaction)) p
 
-    by : (b : Bool) → Paid (pick b (withSlot Empty v) (updateFrom (w .packets) p u))
+    by : (b : Bool) → Paid (pick b (withSlot Empty v) (updateFrom high (w .packets) p u))
     by true = λ i g. (omega (arith, paid i g))
     by false =
-        update-pays (j .pid) p (j .status) (w .packets) (completes (stateAt (u .slot) (u .transaction) .style) (j .status)) u (omega (arith, less .count)) (resumes (w .slot) (w .packets) v refl h) (spared (length p) less spare)
+        update-pays high (j .pid) p (j .status) (w .packets) (completes (stateAt (u .slot) (u .transaction) .style) (j .status)) u (omega (arith, less .count)) (resumes (w .slot) (w .packets) v refl h) (spared (length p) less spare)
 
 -- ---- events
 
@@ -248,9 +248,9 @@ detail-pays (At d) number direction kind max w p = p
 detail-pays Nothing number direction kind max w p = p
 
 -- on a world with an endpoint, as every decoder has three
-pub paid-after : (k : Call) (w : World) → 0 < w .count → Tokened w → Paid w → Paid (call k w)
+pub paid-after : (high : Bool) (k : Call) (w : World) → 0 < w .count → Tokened w → Paid w → Paid (call high k w)
 unfolding handleDetail finish
-paid-after (packet p time shelf) w l h paid = packet-pays p time (withShelf shelf w) l h paid
-paid-after (event kind code time) w l h paid = event-pays kind code time w paid
-paid-after (detail a number r kind m) w l h paid = detail-pays (deviceFor a w) number r kind m w paid
-paid-after finishing w l h paid = end-pays false false (lastStamped w) paid
+paid-after high (packet p time shelf) w l h paid = packet-pays high p time (withShelf shelf w) l h paid
+paid-after high (event kind code time) w l h paid = event-pays kind code time w paid
+paid-after high (detail a number r kind m) w l h paid = detail-pays (deviceFor a w) number r kind m w paid
+paid-after high finishing w l h paid = end-pays false false (lastStamped w) paid

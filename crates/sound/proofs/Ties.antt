@@ -219,7 +219,7 @@ module _ (s s′ : State) (w : World) (f : Bool) (left : Left w f s s′) (fit :
   entries : (i : ℕ) → i < w .count → entryAt (s′ .table) i ≡ w .endpoints i
   entries = left .table .entries
 
-  formed : (room : Counts) → Tokened w → Linked w → Roomy (s .table) (countsAfter (s .decoder .counts) w) room → WellFormed (decoderOf (s .decoder .counts) f w) (s′ .devices) (s′ .table) room
+  formed : (room : Counts) → Tokened w → Linked w → Roomy (s .table) (countsAfter (s .decoder .counts) w) room → WellFormed (decoderOf (s .decoder) f w) (s′ .devices) (s′ .table) room
   unfolding decoderOf countsAfter
   formed room token link roomy =
       let three = fit .three in
@@ -249,7 +249,7 @@ module _ (s s′ : State) (w : World) (f : Bool) (left : Left w f s s′) (fit :
 
   -- the state, with its record as the world gives it
   abbrev there : State
-  there = state (decoderOf (s .decoder .counts) f w) (s′ .devices) (s′ .table) (s′ .logs)
+  there = state (decoderOf (s .decoder) f w) (s′ .devices) (s′ .table) (s′ .logs)
 
   paid-there : Paid (worldAt there)
   unfolding decoderOf countsAfter

@@ -145,22 +145,22 @@ close-passes true m last success complete h =
     ap (λ (b : Bool). passes (closeOf m last b complete .effect) (closeOf m last b complete .entry .total)) h
     ∙ ap (λ (f : Effect). passes f (closeOf m last false complete .entry .total)) (close-quiet m last complete)
 
-quiet-by : (j : Judged) (x0 : ℕ) (e : Endpoint) (t : Transaction) (p : List ℕ) (w : World) → succeeds (j .status) ≡ false → planPasses (planBy j x0 e t p w) ≡ false
+quiet-by : (high : Bool) (j : Judged) (x0 : ℕ) (e : Endpoint) (t : Transaction) (p : List ℕ) (w : World) → succeeds (j .status) ≡ false → planPasses (planBy high j x0 e t p w) ≡ false
 unfolding planPasses planBy
-quiet-by j x0 e t p w h =
+quiet-by high j x0 e t p w h =
     let s = j .status in
-    let b = extractPayload t (j .pid) (length p) (setupDataOf p) in
+    let b = extractPayload high t (j .pid) (length p) (setupDataOf p) in
     let end = endOf x0 e b (detailOf x0 w) (w .lastItem) false false in
     let ends = isNew s && not (eqb x0 0) in
     let m = middleOf s x0 (entryEnded ends end (startPid (b .style)) e) (j .pid) p (w .transactions + one (resumes (w .slot))) b w in
     close-passes (isLast s && not (eqb (m .begin .transaction .endpoint) 0)) m (lastEnded ends end x0 (w .lastItem)) (succeeds s) (completesBy s (t .style)) h
 
-quiet-plan : (p : List ℕ) (w : World) → w .slot ≡ Empty → planPasses (planOf p w) ≡ false
+quiet-plan : (high : Bool) (p : List ℕ) (w : World) → w .slot ≡ Empty → planPasses (planOf high p w) ≡ false
 unfolding planOf
-quiet-plan p w h =
-    quiet-by _ _ _ _ p w
-    (subst (λ (x : Slot). succeeds (transactionStatus (stateAt (slotThen x) (transactionThen x (w .transactions) (w .endpoints (oldEndpoint x (w .transaction))) (w .transaction))) p .status) ≡ false) (sym h)
-    (no-transaction (λ z. succeeds z ≡ false) refl refl (newTransaction Nothing 0 0 0 Unknown) refl p))
+quiet-plan high p w h =
+    quiet-by high _ _ _ _ p w
+    (subst (λ (x : Slot). succeeds (transactionStatus high (stateAt (slotThen x) (transactionThen x (w .transactions) (w .endpoints (oldEndpoint x (w .transaction))) (w .transaction))) p .status) ≡ false) (sym h)
+    (no-transaction high (λ z. succeeds z ≡ false) refl refl (newTransaction Nothing 0 0 0 Unknown) refl p))
 
 module _ (s : State) (g : Good s) where
   not-ill : isIll s ≡ false
@@ -172,7 +172,7 @@ module _ (s : State) (g : Good s) where
     lent = withShelf h (worldAt s)
 
     abbrev laden : World
-    laden = laid (planOf p lent) p lent
+    laden = laid (s .decoder .high) (planOf (s .decoder .high) p lent) p lent
 
     -- none is suspended, and none is current
     module _ (empty : s .decoder .slot ≡ Empty) where
@@ -180,7 +180,7 @@ module _ (s : State) (g : Good s) where
       live = ap (λ (z : Slot). isDropped z (s .decoder .transaction)) empty
 
       still : isOver (after p time s h) ≡ false
-      still = ap isOver (packet-laden p time lent live) ∙ (packet-over-is p time (laden .shelf) s (roomOf (s .logs)) (sound s not-ill .0) (g .totals) ∙ quiet-plan p laden empty)
+      still = ap isOver (packet-laden (s .decoder .high) p time lent live) ∙ (packet-over-is (s .decoder .high) p time (laden .shelf) s (roomOf (s .logs)) (sound s not-ill .0) (g .totals) ∙ quiet-plan (s .decoder .high) p laden empty)
 
       pub plain-answer : a ≡ cond (isFull s (after p time s h)) 7 0
       plain-answer = x .answers .answer ∙ packet-answer _ _ (isFull s (after p time s h)) _ _ (length p) false not-ill (g .going) short still live
@@ -191,16 +191,16 @@ module _ (s : State) (g : Good s) where
       drops = ap (λ (z : Slot). isDropped z (s .decoder .transaction)) suspended ∙ ap (λ (n : ℕ). eqb n 0) tokenless
 
       unmoved : isOver (after p time s h) ≡ false
-      unmoved = ap isOver (dropped-is p time lent drops) ∙ totalled-over _ (g .totals)
+      unmoved = ap isOver (dropped-is (s .decoder .high) p time lent drops) ∙ totalled-over _ (g .totals)
 
       pub dropped-answer : a ≡ cond (isFull s (after p time s h)) 7 8
       dropped-answer = x .answers .answer ∙ packet-answer _ _ (isFull s (after p time s h)) _ _ (length p) true not-ill (g .going) short unmoved drops
 
 -- a SPLIT where there is no transaction begins one, which has no endpoint yet
-split-world : (p : List ℕ) (time : ℕ) (w : World) → checkedOf p ≡ Valid SPLIT → w .slot ≡ Empty
-    → (handleRawPacket p time w .slot ≡ Current) × (handleRawPacket p time w .transaction .endpoint ≡ 0)
+split-world : (high : Bool) (p : List ℕ) (time : ℕ) (w : World) → checkedOf p ≡ Valid SPLIT → w .slot ≡ Empty
+    → (handleRawPacket high p time w .slot ≡ Current) × (handleRawPacket high p time w .transaction .endpoint ≡ 0)
 unfolding handleRawPacket transactionUpdate transactionStatus groupEarlyAppend
-split-world p time w h e = rw (e, h) (refl, refl)
+split-world high p time w h e = rw (e, h) (refl, refl)
 
 pub split-short : (p : List ℕ) → checkedOf p ≡ Valid SPLIT → length p ≤ 4096
 unfolding formatOf
@@ -281,7 +281,7 @@ fresh-totals (suc zero) l = omega arith
 fresh-totals (suc (suc zero)) l = omega arith
 fresh-totals (suc (suc (suc i))) l = absurd (omega arith)
 
-module _ {v : List Device} {t : List ℕ} {l : Logs} {s : State} (hv : length v ≡ 64) (ht : length t ≡ word.table) (m : Makes v t l 0 s) where
+module _ {high : Bool} {v : List Device} {t : List ℕ} {l : Logs} {s : State} (hv : length v ≡ 64) (ht : length t ≡ word.table) (m : Makes high v t l 0 s) where
   stands : Agrees (worldAt s) fresh
   stands = fresh-stands m ht (omega arith)
 
@@ -289,7 +289,7 @@ module _ {v : List Device} {t : List ℕ} {l : Logs} {s : State} (hv : length v 
   unfolding made
   good-fresh =
       record {
-        sound = kept .fresh v t l s m ht (omega arith);
+        sound = kept .fresh high v t l s m ht (omega arith);
         going = ap (λ (x : State). x .decoder .finished) (m .accepted refl);
         totals = λ i h.
             let g : i < fresh .count = subst (λ (n : ℕ). i < n) (stands .count) h in
@@ -312,7 +312,7 @@ pub after-split : (p : List ℕ) (time : ℕ) (s : State) (h : List ℕ) {a : �
     → s .decoder .slot ≡ Empty → Waiting Current s′
 after-split p time s h v x ok g e =
     let k = packet-left p time s h x (ap accepts ok) in
-    let w = split-world p time (withShelf h (worldAt s)) v e in
+    let w = split-world (s .decoder .high) p time (withShelf h (worldAt s)) v e in
     record {
       good = packet-good p time s h x (ap accepts ok) g;
       slot = slot-left k ∙ w .0;

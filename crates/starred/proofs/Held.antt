@@ -1,19 +1,24 @@
 -- 01's starred cases hold (specs/Starred.antt).
 use Prim.Native.Nat.{ℕ}
 use mathlib.Core.Path.{_≡_, refl, ap, _∙_}
-use mathlib.Core.Bool.{true}
+use mathlib.Core.Bool.{Bool, true, false, _&&_, _||_}
 use mathlib.Core.List.{List, [], _∷_}
 use borrow.Author.Tests.{eqb-true}
+use lib.Dec.{eqb}
 use lib.ListN.{length}
 use Rattle.crc.specs.Crc as crc
 use Rattle.usb.specs.Bits.{after}
-use Rattle.usb.specs.Pid.{OUT, SETUP, DATA0}
+use Rattle.usb.specs.Pid.{IN, OUT, SETUP, DATA0}
 use Rattle.usb.specs.Types.{Isochronous, Bulk}
 use Rattle.usb.specs.Packet.{formatOf, formatOk, formatReason, reasonOf, checkedOf}
 use Rattle.usb.specs.declared.Checked.the-variants.{Valid}
 use Rattle.details.specs.Kind.{Unknown}
 use Rattle.endpoints.specs.declared.Endpoint.{Endpoint}
-use Rattle.transaction.specs.Simple.{simpleStatus}
+use Rattle.transaction.specs.Table.{pick}
+use Rattle.transaction.specs.Simple.{simpleStatusIn}
+use Rattle.transaction.specs.High.{simpleStatus, isHigh}
+use Rattle.transaction.specs.HighLaws.{status-in}
+use Rattle.transaction.specs.declared.Status.the-variants.{Done}
 use Rattle.transaction.specs.Status.{transactionStatus}
 use Rattle.transaction.specs.declared.Transaction.{Transaction}
 use Rattle.group.specs.Data.{repeatGroup, otherGroup}
@@ -27,16 +32,33 @@ use Rattle.starred.proofs.Calls.{Good, good-fresh, empty-fresh, split-s
 
 -- ---- DATA0
 
+-- a DATA0 is the same in both modes
+same-mode : (high : Bool) (pid kind len : ℕ) → simpleStatusIn high pid pid DATA0 kind len ≡ simpleStatus pid pid DATA0 kind len
+same-mode high pid kind len = status-in high pid pid DATA0 kind len ∙ ap (λ (b : Bool). pick b Done (simpleStatus pid pid DATA0 kind len)) (off high)
+  where
+    off : (h : Bool) → (h && isHigh pid DATA0 kind) ≡ false
+    off true = by (eqb pid IN) (eqb pid OUT)
+      where
+        by : (i o : Bool) → (((i && false) || (o && false)) && eqb kind Isochronous) ≡ false
+        by true true = refl
+        by true false = refl
+        by false true = refl
+        by false false = refl
+    off false = refl
+
 -- the status of a DATA0 after one token
-data0-is : (pid : ℕ) (t : Transaction) (q : List ℕ) → Began pid t → checkedOf q ≡ Valid DATA0 → transactionStatus t q .status ≡ simpleStatus pid pid DATA0 (t .kind) (length q)
+mode-is : (high : Bool) (pid : ℕ) (t : Transaction) (q : List ℕ) → Began pid t → checkedOf q ≡ Valid DATA0 → transactionStatus high t q .status ≡ simpleStatusIn high pid pid DATA0 (t .kind) (length q)
 unfolding transactionStatus
-data0-is pid t q b v = rw (v, b .style, b .last)
+mode-is high pid t q b v = rw (v, b .style, b .last)
 
-setup-data0 : (n : ℕ) (t : Transaction) (q : List ℕ) → Began SETUP t → checkedOf q ≡ Valid DATA0 → length q ≡ n → transactionStatus t q .status ≡ simpleStatus SETUP SETUP DATA0 (t .kind) n
-setup-data0 n t q b v e = data0-is SETUP t q b v ∙ ap (simpleStatus SETUP SETUP DATA0 (t .kind)) e
+data0-is : (high : Bool) (pid : ℕ) (t : Transaction) (q : List ℕ) → Began pid t → checkedOf q ≡ Valid DATA0 → transactionStatus high t q .status ≡ simpleStatus pid pid DATA0 (t .kind) (length q)
+data0-is high pid t q b v = mode-is high pid t q b v ∙ same-mode high pid (t .kind) (length q)
 
-out-data0 : (type : ℕ) (t : Transaction) (q : List ℕ) → Began OUT t → t .kind ≡ type → checkedOf q ≡ Valid DATA0 → transactionStatus t q .status ≡ simpleStatus OUT OUT DATA0 type (length q)
-out-data0 type t q b e v = data0-is OUT t q b v ∙ ap (λ (k : ℕ). simpleStatus OUT OUT DATA0 k (length q)) e
+setup-data0 : (high : Bool) (n : ℕ) (t : Transaction) (q : List ℕ) → Began SETUP t → checkedOf q ≡ Valid DATA0 → length q ≡ n → transactionStatus high t q .status ≡ simpleStatus SETUP SETUP DATA0 (t .kind) n
+setup-data0 high n t q b v e = data0-is high SETUP t q b v ∙ ap (simpleStatus SETUP SETUP DATA0 (t .kind)) e
+
+out-data0 : (high : Bool) (type : ℕ) (t : Transaction) (q : List ℕ) → Began OUT t → t .kind ≡ type → checkedOf q ≡ Valid DATA0 → transactionStatus high t q .status ≡ simpleStatus OUT OUT DATA0 type (length q)
+out-data0 high type t q b e v = data0-is high OUT t q b v ∙ ap (λ (k : ℕ). simpleStatus OUT OUT DATA0 k (length q)) e
 
 -- ---- calls
 
@@ -103,11 +125,11 @@ starred =
     and refl
     and refl
     and refl
-    and ((refl, refl), λ t q b k v l. setup-data0 11 t q b v (eqb-true _ _ l))
-    and ((refl, refl), λ t q b k v l. setup-data0 10 t q b v (eqb-true _ _ l))
-    and ((refl, refl), λ t q b k v l. out-data0 Unknown t q b (eqb-true _ _ k) v)
-    and ((refl, refl), λ t q b k v l. out-data0 Isochronous t q b (eqb-true _ _ k) v)
-    and ((refl, refl), λ t q b k v l. out-data0 Bulk t q b (eqb-true _ _ k) v)
+    and ((refl, refl), λ h t q b k v l. setup-data0 h 11 t q b v (eqb-true _ _ l))
+    and ((refl, refl), λ h t q b k v l. setup-data0 h 10 t q b v (eqb-true _ _ l))
+    and ((refl, refl), λ h t q b k v l. out-data0 h Unknown t q b (eqb-true _ _ k) v)
+    and ((refl, refl), λ h t q b k v l. out-data0 h Isochronous t q b (eqb-true _ _ k) v)
+    and ((refl, refl), λ h t q b k v l. out-data0 h Bulk t q b (eqb-true _ _ k) v)
     and (λ e t type success complete b. short-is 63 64 e t b)
     and (λ e t type success complete b. short-is 64 64 e t b)
     and (λ e t type success complete b. short-is 0 0 e t b)
@@ -115,6 +137,6 @@ starred =
     and refl
     and refl
     and refl
-    and (λ v t l s hv ht m. three-calls s (good-fresh hv ht m) (empty-fresh hv ht m))
-    and (λ v t l s hv ht m. two-keepalives s (good-fresh hv ht m) (empty-fresh hv ht m))
+    and (λ high v t l s hv ht m. three-calls s (good-fresh hv ht m) (empty-fresh hv ht m))
+    and (λ high v t l s hv ht m. two-keepalives s (good-fresh hv ht m) (empty-fresh hv ht m))
     and tt

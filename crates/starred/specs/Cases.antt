@@ -160,11 +160,11 @@ Goes (k ∷ ks) s =
 
 -- ---- what each case says
 
--- to every transaction that began with pid, of these types, every DATA0 of these lengths has the status a
+-- to every transaction that began with pid, of these types, every DATA0 of these lengths has the status a, in either mode
 abbrev pub Judged : ℕ → (ℕ → Bool) → (ℕ → Bool) → Status → Type 0
 Judged pid types lengths a =
-    (t : Transaction) (q : List ℕ) → Began pid t → types (t .kind) ≡ true → checkedOf q ≡ Valid DATA0 → lengths (length q) ≡ true
-    → transactionStatus t q .status ≡ a
+    (high : Bool) (t : Transaction) (q : List ℕ) → Began pid t → types (t .kind) ≡ true → checkedOf q ≡ Valid DATA0 → lengths (length q) ≡ true
+    → transactionStatus high t q .status ≡ a
 
 abbrev pub Holds : Case → Type 0
 Holds (check p a) = checkedOf p ≡ a
@@ -178,7 +178,7 @@ Holds (short len max a) =
     (e : Endpoint) (t : Transaction) (type : ℕ) (success complete : Bool) → Brings len t → stepOf e t (detail type max) success complete .short ≡ a
 Holds (group type len max a) = groupStatus going (read type len) (detail type max) true true .status ≡ a
 Holds (calls ks) =
-    (v : List Device) (t : List ℕ) (l : Logs) (s : State) → length v ≡ 64 → length t ≡ word.table → Makes v t l 0 s → Goes ks s
+    (high : Bool) (v : List Device) (t : List ℕ) (l : Logs) (s : State) → length v ≡ 64 → length t ≡ word.table → Makes high v t l 0 s → Goes ks s
 
 abbrev pub All : List Case → Type 0
 All [] = Unit {0}

@@ -46,14 +46,14 @@ roomy l h =
     let e = w .endpoints in
     (omega arith, omega arith)
 
-module _ (v : List Device) (t : List ℕ) (l : Logs) (a : ℕ) (e : a ≡ freshAnswer (roomOf l)) where
-  pub refuses : {d : Decoder} → (a ≡ 0 → ⊥) → d ≡ refusedDecoder → Makes v t l a (state d v t l)
+module _ (high : Bool) (v : List Device) (t : List ℕ) (l : Logs) (a : ℕ) (e : a ≡ freshAnswer (roomOf l)) where
+  pub refuses : {d : Decoder} → (a ≡ 0 → ⊥) → d ≡ refusedDecoder → Makes high v t l a (state d v t l)
   unfolding unmade
   refuses n h = record { answer = e; accepted = λ z. absurd (n z); refused = λ z. ap (λ (x : Decoder). state x v t l) h }
 
-  pub makes : {d : Decoder} {x : Device} {t′ m n : List ℕ} → a ≡ 0 → d ≡ freshDecoder → x ≡ details.fresh 0 → t′ ≡ freshTable t
+  pub makes : {d : Decoder} {x : Device} {t′ m n : List ℕ} → a ≡ 0 → d ≡ freshDecoder high → x ≡ details.fresh 0 → t′ ≡ freshTable t
       → m ≡ sets (l .devices) 0 (log 1 (fresh .journal)) → n ≡ sets (l .endpoints) 0 (log 2 (fresh .journal))
-      → Makes v t l a (state d (set v 0 x) t′ (logs (l .bytes) m n (l .packets) (l .events) (l .transactions) (l .groups) (l .statebytes) (l .states) (l .items) (l .links) (l .requests)))
+      → Makes high v t l a (state d (set v 0 x) t′ (logs (l .bytes) m n (l .packets) (l .events) (l .transactions) (l .groups) (l .statebytes) (l .states) (l .items) (l .links) (l .requests)))
   unfolding made
   makes z h g k p q =
       record {

@@ -1,7 +1,7 @@
 -- To be believed: making a fresh decoder (fn new of decoder.rs); words in quotation marks are those of 01, "Answer numbers".
--- Hold it to: 01, "Answer numbers": "Making a fresh decoder .."; Decoder::new of decoder.rs
+-- Hold it to: 01, "Answer numbers": "Making a fresh decoder .."; Decoder::new of decoder.rs; 02, 6: "a mode, chosen at the fresh decoder"
 use Prim.Native.Nat.{ℕ}
-use mathlib.Core.Bool.{cond}
+use mathlib.Core.Bool.{Bool, cond}
 use mathlib.Core.List.{List, replicate}
 use mathlib.Core.Path.{_≡_}
 use lib.Seq.{sets}
@@ -24,17 +24,17 @@ madeLogs l =
     logs (l .bytes) (sets (l .devices) 0 (log 1 (fresh .journal))) (sets (l .endpoints) 0 (log 2 (fresh .journal))) (l .packets) (l .events) (l .transactions)
     (l .groups) (l .statebytes) (l .states) (l .items) (l .links) (l .requests)
 
-unfoldable pub made : List Device → List ℕ → Logs → State
-made v t l = state freshDecoder (freshDevices v) (freshTable t) (madeLogs l)
+unfoldable pub made : Bool → List Device → List ℕ → Logs → State
+made high v t l = state (freshDecoder high) (freshDevices v) (freshTable t) (madeLogs l)
 
 -- "refused, it writes nothing and returns a record that every call answers 1"
 unfoldable pub unmade : List Device → List ℕ → Logs → State
 unmade v t l = state refusedDecoder v t l
 
--- on these devices, this table and these logs a fresh decoder is made with answer a, and leaves s′
-pub record Makes (v : List Device) (t : List ℕ) (l : Logs) (a : ℕ) (s′ : State) : Type 0 where
+-- on these devices, this table and these logs a fresh decoder is made in this mode with answer a, and leaves s′
+pub record Makes (high : Bool) (v : List Device) (t : List ℕ) (l : Logs) (a : ℕ) (s′ : State) : Type 0 where
   pub answer : a ≡ freshAnswer (roomOf l)
-  pub accepted : a ≡ 0 → s′ ≡ made v t l
+  pub accepted : a ≡ 0 → s′ ≡ made high v t l
   pub refused : (a ≡ 0 → ⊥) → s′ ≡ unmade v t l
 
 -- the devices that a run makes its decoder on: none is there yet

@@ -24,8 +24,8 @@ use Rattle.call.specs.State.{Logs, State, state, roomOf}
 use Rattle.start.specs.Fresh.{freshAnswer, madeLogs, made, unmade, Makes, noDevices}
 
 -- 01: "any two permitted outcomes coincide"
-pub fresh-unique : {v : List Device} {t : List ℕ} {l : Logs} {a b : ℕ} {s′ s″ : State} → Makes v t l a s′ → Makes v t l b s″ → (a ≡ b) × (s′ ≡ s″)
-fresh-unique {v} {t} {l} {a} {b} {s′} {s″} x y = (same, pick (eqb a 0) refl)
+pub fresh-unique : {high : Bool} {v : List Device} {t : List ℕ} {l : Logs} {a b : ℕ} {s′ s″ : State} → Makes high v t l a s′ → Makes high v t l b s″ → (a ≡ b) × (s′ ≡ s″)
+fresh-unique {high} {v} {t} {l} {a} {b} {s′} {s″} x y = (same, pick (eqb a 0) refl)
   where
     same : a ≡ b
     same = x .answer ∙ sym (y .answer)
@@ -48,20 +48,20 @@ fitted room h = passes (long room) (fitting (countsOf 1 3) room) h
 same-room : (l : Logs) → roomOf (madeLogs l) ≡ roomOf l
 same-room l = rw (length-sets, length-sets)
 
-module _ {v : List Device} {t : List ℕ} {l : Logs} {s′ : State} (m : Makes v t l 0 s′) (ht : length t ≡ word.table) (hv : 0 < length v) where
-  well-made : isIll (made v t l) ≡ false
+module _ {high : Bool} {v : List Device} {t : List ℕ} {l : Logs} {s′ : State} (m : Makes high v t l 0 s′) (ht : length t ≡ word.table) (hv : 0 < length v) where
+  well-made : isIll (made high v t l) ≡ false
   unfolding isIll made
   well-made =
       let h = fitted (roomOf l) (sym (m .answer)) in
-      rw (same-room l) (nor (long (roomOf l)) _ (h .0) (ap not (fresh-formed t ht v (roomOf l) hv (within _ _ (h .1)))))
+      rw (same-room l) (nor (long (roomOf l)) _ (h .0) (ap not (fresh-formed t ht high v (roomOf l) hv (within _ _ (h .1)))))
 
   -- "a fresh decoder answered 0 .. is well formed on its logs"
   pub fresh-well : isIll s′ ≡ false
   fresh-well = ap isIll (m .accepted refl) ∙ well-made
 
-  stands-made : Agrees (worldAt (made v t l)) fresh
+  stands-made : Agrees (worldAt (made high v t l)) fresh
   unfolding made
-  stands-made = fresh-world t ht v hv
+  stands-made = fresh-world t ht high v hv
 
   -- it stands for the world that the rules begin with
   pub fresh-stands : Agrees (worldAt s′) fresh
@@ -72,11 +72,11 @@ unfolding isIll
 refused-any v t l = or-right (long (roomOf l)) _ (ap not (refused-ill v t (roomOf l)))
 
 -- "refused, it .. returns a record that every call answers 1", on any devices, table and logs
-pub fresh-refused : {v : List Device} {t : List ℕ} {l : Logs} {a : ℕ} {s′ : State} → Makes v t l a s′ → (a ≡ 0 → ⊥)
+pub fresh-refused : {high : Bool} {v : List Device} {t : List ℕ} {l : Logs} {a : ℕ} {s′ : State} → Makes high v t l a s′ → (a ≡ 0 → ⊥)
     → (v′ : List Device) (t′ : List ℕ) (l′ : Logs) → isIll (state (s′ .decoder) v′ t′ l′) ≡ true
 unfolding unmade
 fresh-refused m n v′ t′ l′ = ap (λ (s : State). isIll (state (s .decoder) v′ t′ l′)) (m .refused n) ∙ refused-any v′ t′ l′
 
 -- on rows of which nothing is known
-pub made-on : {t : List ℕ} {l : Logs} {d : Device} {s : State} {a : ℕ} → d ≡ freshDevice 0 → Makes (replicate 64 d) t l a s → Makes noDevices t l a s
-made-on {t} {l} {s = s} {a} e m = subst (λ (x : Device). Makes (replicate 64 x) t l a s) e m
+pub made-on : {high : Bool} {t : List ℕ} {l : Logs} {d : Device} {s : State} {a : ℕ} → d ≡ freshDevice 0 → Makes high (replicate 64 d) t l a s → Makes high noDevices t l a s
+made-on {high} {t} {l} {s = s} {a} e m = subst (λ (x : Device). Makes high (replicate 64 x) t l a s) e m

@@ -33,7 +33,7 @@ fn fresh_answer(room: Counts) -> u8
     if too_long(room) {
         return 1;
     }
-    let decoder = fresh_decoder();
+    let decoder = fresh_decoder(false);
     let counts = decoder.counts;
     if fits(counts, room) {
         return 0;
@@ -84,8 +84,9 @@ fn put_specials(endpoint_rows: &mut [u64])
     rows::put3(endpoint_rows, 6, 0, FRAMING_EP_NUM as u64, 0);
 }
 
-// A fresh decoder on the lent table and logs, of which it writes the first rows of two.
+// A fresh decoder on the lent table and logs, of which it writes the first rows of two; high is the mode for high-bandwidth isochronous data.
 pub fn fresh(
+    high: bool,
     devices: [Device; 64],
     table: &mut Table,
     bytes: &[u8],
@@ -101,7 +102,7 @@ pub fn fresh(
     links: &[u64],
     requests: &[u64],
 ) -> Called
-    ensures { λ r. ⌜ Makes devices (now (table .entry)) (logs (now (bytes .entry)) (now («device_rows» .entry)) (now («endpoint_rows» .entry)) (now (packets .entry)) (now (events .entry)) (now (transactions .entry)) (now (groups .entry)) (now (statebytes .entry)) (now (states .entry)) (now (items .entry)) (now (links .entry)) (now (requests .entry))) (r .answer) (state (r .decoder) (r .devices) (now (table .exit)) (logs (now (bytes .exit)) (now («device_rows» .exit)) (now («endpoint_rows» .exit)) (now (packets .exit)) (now (events .exit)) (now (transactions .exit)) (now (groups .exit)) (now (statebytes .exit)) (now (states .exit)) (now (items .exit)) (now (links .exit)) (now (requests .exit)))) ⌝ }
+    ensures { λ r. ⌜ Makes high devices (now (table .entry)) (logs (now (bytes .entry)) (now («device_rows» .entry)) (now («endpoint_rows» .entry)) (now (packets .entry)) (now (events .entry)) (now (transactions .entry)) (now (groups .entry)) (now (statebytes .entry)) (now (states .entry)) (now (items .entry)) (now (links .entry)) (now (requests .entry))) (r .answer) (state (r .decoder) (r .devices) (now (table .exit)) (logs (now (bytes .exit)) (now («device_rows» .exit)) (now («endpoint_rows» .exit)) (now (packets .exit)) (now (events .exit)) (now (transactions .exit)) (now (groups .exit)) (now (statebytes .exit)) (now (states .exit)) (now (items .exit)) (now (links .exit)) (now (requests .exit)))) ⌝ }
 {
     let room = room_of(
         bytes.len(),
@@ -131,7 +132,7 @@ pub fn fresh(
     store_specials(table);
     let mut devices = devices;
     devices[0] = fresh_device(0);
-    let decoder = fresh_decoder();
+    let decoder = fresh_decoder(high);
     Called {
         answer,
         decoder,

@@ -171,15 +171,15 @@ module _ (b : ℕ) where
   packet-row : (start time : ℕ) → Keeps (pushPacket start time)
   packet-row start time w h = other (PacketRow start time) refl refl h
 
-  packet-keeps : (bytes : List ℕ) (time : ℕ) → Keeps (handleRawPacket bytes time)
-  packet-keeps bytes time w h = by (isDropped (w .slot) (w .transaction)) refl
+  packet-keeps : (high : Bool) (bytes : List ℕ) (time : ℕ) → Keeps (handleRawPacket high bytes time)
+  packet-keeps high bytes time w h = by (isDropped (w .slot) (w .transaction)) refl
     where
       rowed : In (world1 bytes time w)
       rowed = packet-row (w .bytes) time (appendBytes bytes (withEventState Idle (stamped time (reasonOf bytes) w))) (other (BytesRow bytes) refl refl h)
 
-      by : (c : Bool) → isDropped (w .slot) (w .transaction) ≡ c → In (handleRawPacket bytes time w)
-      by true q = subst In (sym (dropped-is bytes time w q)) rowed
-      by false q = subst In (sym (packet-is bytes time w q)) (played-keeps (planOf bytes w) bytes time (kept (planOf bytes w) bytes w) rowed)
+      by : (c : Bool) → isDropped (w .slot) (w .transaction) ≡ c → In (handleRawPacket high bytes time w)
+      by true q = subst In (sym (dropped-is high bytes time w q)) rowed
+      by false q = subst In (sym (packet-is high bytes time w q)) (played-keeps (planOf high bytes w) bytes time (kept high (planOf high bytes w) bytes w) rowed)
 
   -- ---- an event
 
@@ -227,9 +227,9 @@ module _ (b : ℕ) where
   detail-keeps (At d) number direction kind max w h = h
   detail-keeps Nothing number direction kind max w h = h
 
-  pub call-keeps : (k : Call) → Keeps (call k)
+  pub call-keeps : (high : Bool) (k : Call) → Keeps (call high k)
   unfolding handleDetail finish
-  call-keeps (packet bytes time shelf) w h = packet-keeps bytes time (withShelf shelf w) h
-  call-keeps (event kind code time) w h = event-keeps kind code time w h
-  call-keeps (detail a number r kind m) w h = detail-keeps (deviceFor a w) number r kind m w h
-  call-keeps finishing w h = end-keeps (lastStamped w) h
+  call-keeps high (packet bytes time shelf) w h = packet-keeps high bytes time (withShelf shelf w) h
+  call-keeps high (event kind code time) w h = event-keeps kind code time w h
+  call-keeps high (detail a number r kind m) w h = detail-keeps (deviceFor a w) number r kind m w h
+  call-keeps high finishing w h = end-keeps (lastStamped w) h

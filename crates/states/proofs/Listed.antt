@@ -1,6 +1,7 @@
 -- What specs/Whole.antt claims: of every sequence of calls, and of every run, since its calls are such a sequence.
 use Prim.Native.Nat.{ℕ, _*_}
 use native.Mathlib.Omega.{arith}
+use mathlib.Core.Bool.{Bool}
 use mathlib.Core.List.{List, _∷_, _++_, []}
 use mathlib.Core.Path.{_≡_, refl, sym, ap, subst}
 use lib.ListN.{length, take}
@@ -59,7 +60,7 @@ records : {trace : List ℕ} {at a p : ℕ} {c : Clock} {s s′ : Stand} → Com
 records q (ends x f) = let b = block-sequence (q .sequence) x in record { history = _; sequence = then finishing _ _ (b .sequence) f }
 records q (stops x h) = let b = block-sequence (q .sequence) x in record { history = _; sequence = b .sequence }
 
-pub comes : {trace t : List ℕ} {l : Logs} {h : List ℕ} {a p : ℕ} {s : Stand} → length t ≡ word.table → Ran trace t l h a p s → a ≡ 0 → Comes (s .state)
+pub comes : {high : Bool} {trace t : List ℕ} {l : Logs} {h : List ℕ} {a p : ℕ} {s : Stand} → length t ≡ word.table → Ran high trace t l h a p s → a ≡ 0 → Comes (s .state)
 comes ht (wrong h) e = absurd (h e)
 comes ht (refused h m n) e = absurd (n e)
 comes ht (runs h m r) e = records (record { history = _; sequence = made refl ht m }) r

@@ -31,21 +31,21 @@ fresh-tiled = other _ refl refl (other _ refl refl (other _ refl refl (other _ r
 
 module _ {k : Call} {s s′ : State} (m : Moved k s s′) {js : List Row} (h : TiledBy js (s .decoder .counts)) where
   abbrev after : World
-  after = call k (worldAt s)
+  after = call (s .decoder .high) k (worldAt s)
 
   -- endpoints are added, and none is taken away
   more : s .decoder .counts .endpoints ≤ after .count
-  more = let c : Counted (worldAt s) after = counts (worldAt s) k (worldAt s) (began s) in let e = c .endpoints-are in omega arith
+  more = let c : Counted (worldAt s) after = counts (worldAt s) (s .decoder .high) k (worldAt s) (began s) in let e = c .endpoints-are in omega arith
 
   tiled-then : TiledBy (after .journal ++ js) (s′ .decoder .counts)
   unfolding countsAfter
-  tiled-then = rw (counts-left m) (behind (wider more h) (call-keeps (s .decoder .counts .statebytes) k (worldAt s) none))
+  tiled-then = rw (counts-left m) (behind (wider more h) (call-keeps (s .decoder .counts .statebytes) (s .decoder .high) k (worldAt s) none))
 
 pub tiled : {js : List Row} {s : State} → Sequence js s → TiledBy js (s .decoder .counts)
 unfolding madeState
 tiled (made hv ht m) = rw (m .accepted refl) fresh-tiled
 tiled (then {js} {s} k a s′ q d) = by (accepts a) refl (tiled q)
   where
-    by : (b : Bool) → accepts a ≡ b → TiledBy js (s .decoder .counts) → TiledBy (pick b (call k (worldAt s) .journal) [] ++ js) (s′ .decoder .counts)
+    by : (b : Bool) → accepts a ≡ b → TiledBy js (s .decoder .counts) → TiledBy (pick b (call (s .decoder .high) k (worldAt s) .journal) [] ++ js) (s′ .decoder .counts)
     by true e h = tiled-then (moved k s a s′ d e) h
     by false e h = rw (stayed k s a s′ d e) h

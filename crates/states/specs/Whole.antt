@@ -1,7 +1,7 @@
 -- Laws (proved): state rows are listed whole. `list` does not believe the numbers in a lent log, and cuts a state row by them (lines, specs/Listing.antt:
 -- `startOf`, `sizeOf`). The claim is that no sequence of calls, and no run, comes to these limits: `listed-whole : ListedWhole` (proofs/Listed.antt).
 use Prim.Native.Nat.{ℕ, _+_, _≤_, _<_}
-use mathlib.Core.Bool.{cond}
+use mathlib.Core.Bool.{Bool, cond}
 use mathlib.Core.List.{List}
 use mathlib.Core.Path.{_≡_}
 use lib.Dec.{ltb}
@@ -61,5 +61,5 @@ pub record Comes (s : State) : Type 0 where
 pub record ListedWhole : Type 0 where
   pub sequence : {js : List Row} {s : State} → Sequence js s → Whole s
   -- a run that finished is such a sequence, so what is listed of it is whole; the table has its 2,704 words, as the program's has
-  pub comes : {trace t : List ℕ} {l : Logs} {h : List ℕ} {a p : ℕ} {s : Stand} → length t ≡ word.table → Ran trace t l h a p s → a ≡ 0 → Comes (s .state)
-  pub run : {trace t : List ℕ} {l : Logs} {h : List ℕ} {a p : ℕ} {s : Stand} → length t ≡ word.table → Ran trace t l h a p s → a ≡ 0 → Whole (s .state)
+  pub comes : {high : Bool} {trace t : List ℕ} {l : Logs} {h : List ℕ} {a p : ℕ} {s : Stand} → length t ≡ word.table → Ran high trace t l h a p s → a ≡ 0 → Comes (s .state)
+  pub run : {high : Bool} {trace t : List ℕ} {l : Logs} {h : List ℕ} {a p : ℕ} {s : Stand} → length t ≡ word.table → Ran high trace t l h a p s → a ≡ 0 → Whole (s .state)

@@ -76,21 +76,21 @@ module _ {d : Decoder} {devices : List Device} {table : List ℕ} {room : Counts
   waiting-few = let c = count-few (inPhase word.Ended table) (d .counts .endpoints) 0 in let f = h .counts .fewEndpoints in let e = h .waiting in omega (arith, c, f, e)
 
 -- answer 7 of a packet, by the record's count of those that wait, whatever the shelf holds
-pub packet-full-is : (packet : List ℕ) (time : ℕ) (shelf : List ℕ) (s : State) (room : Counts) → WellFormed (s .decoder) (s .devices) (s .table) room
-    → (let w = withShelf shelf (worldAt s) in isFull s (played (planOf packet w) packet time w)
-    ≡ not (roomFor (heldAt s) (s .decoder .counts) (tallyPlan (planOf packet w) (length packet) (s .decoder .counts .endpoints) (s .decoder .waiting)) (roomOf (s .logs))))
-packet-full-is packet time shelf s room h =
+pub packet-full-is : (high : Bool) (packet : List ℕ) (time : ℕ) (shelf : List ℕ) (s : State) (room : Counts) → WellFormed (s .decoder) (s .devices) (s .table) room
+    → (let w = withShelf shelf (worldAt s) in isFull s (played (planOf high packet w) packet time w)
+    ≡ not (roomFor (heldAt s) (s .decoder .counts) (tallyPlan (planOf high packet w) (length packet) (s .decoder .counts .endpoints) (s .decoder .waiting)) (roomOf (s .logs))))
+packet-full-is high packet time shelf s room h =
     let w = withShelf shelf (worldAt s) in
-    let p = planOf packet w in
-    played-full p packet time shelf s (h .begun) (plan-suits packet time w (three h) (old-stands h))
+    let p = planOf high packet w in
+    played-full p packet time shelf s (h .begun) (plan-suits high packet time w (three h) (old-stands h))
     ∙ ap (λ (m : ℕ). not (roomFor (heldAt s) (s .decoder .counts) (tallyPlan p (length packet) (s .decoder .counts .endpoints) m) (roomOf (s .logs)))) (waiting-is h)
 
 -- answer 9 of a packet
-pub packet-over-is : (packet : List ℕ) (time : ℕ) (shelf : List ℕ) (s : State) (room : Counts) → WellFormed (s .decoder) (s .devices) (s .table) room → Totalled (withShelf shelf (worldAt s))
-    → (let w = withShelf shelf (worldAt s) in isOver (played (planOf packet w) packet time w) ≡ planPasses (planOf packet w))
-packet-over-is packet time shelf s room h t =
+pub packet-over-is : (high : Bool) (packet : List ℕ) (time : ℕ) (shelf : List ℕ) (s : State) (room : Counts) → WellFormed (s .decoder) (s .devices) (s .table) room → Totalled (withShelf shelf (worldAt s))
+    → (let w = withShelf shelf (worldAt s) in isOver (played (planOf high packet w) packet time w) ≡ planPasses (planOf high packet w))
+packet-over-is high packet time shelf s room h t =
     let w = withShelf shelf (worldAt s) in
-    played-over (planOf packet w) packet time w (plan-totals packet time w (three h) (old-stands h)) t
+    played-over (planOf high packet w) packet time w (plan-totals high packet time w (three h) (old-stands h)) t
 
 -- answer 7 of finish
 pub finish-full-is : (c : Stamp) (s : State) (room : Counts) → WellFormed (s .decoder) (s .devices) (s .table) room

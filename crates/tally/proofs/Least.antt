@@ -224,9 +224,9 @@ rows-counted =
     more false t = omega arith
 
 -- that of a transaction that is resumed, and that of one that begins
-pub plan-rows : (packet : List ℕ) (w : World) (len n m : ℕ) → one (resumes (w .slot)) + one (planOf packet w .begin .row) ≤ tallyPlan (planOf packet w) len n m .transactions
+pub plan-rows : (high : Bool) (packet : List ℕ) (w : World) (len n m : ℕ) → one (resumes (w .slot)) + one (planOf high packet w .begin .row) ≤ tallyPlan (planOf high packet w) len n m .transactions
 unfolding planOf planBy
-plan-rows packet w len n m = let h = least-plan rows-counted (planOf packet w) len n m in let r = by (resumes (w .slot)) in omega (arith, h, r)
+plan-rows high packet w len n m = let h = least-plan rows-counted (planOf high packet w) len n m in let r = by (resumes (w .slot)) in omega (arith, h, r)
   where
     by : (b : Bool) → pick b (one true) 0 ≡ one b
     by true = refl

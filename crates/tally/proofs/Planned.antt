@@ -313,14 +313,14 @@ module _ (s : Status) (pid x0 : ℕ) (e : Endpoint) (b : Transaction) (packet : 
 
 -- ---- what is decided of a packet
 
-pub plan-by-suits : (j : Judged) (x0 : ℕ) (e : Endpoint) (t : Transaction) (packet : List ℕ) (time : ℕ) (w : World) → 2 < w .count → x0 < w .count → (resumes (w .slot) ≡ true → w .transaction .endpoint < w .count) → e .phase ≡ phase x0 w → (starts (j .status) ≡ false → t .endpoint ≡ x0)
-    → PlanSuits (planBy j x0 e t packet w) packet time w
+pub plan-by-suits : (high : Bool) (j : Judged) (x0 : ℕ) (e : Endpoint) (t : Transaction) (packet : List ℕ) (time : ℕ) (w : World) → 2 < w .count → x0 < w .count → (resumes (w .slot) ≡ true → w .transaction .endpoint < w .count) → e .phase ≡ phase x0 w → (starts (j .status) ≡ false → t .endpoint ≡ x0)
+    → PlanSuits (planBy high j x0 e t packet w) packet time w
 unfolding planBy
-plan-by-suits j x0 e t packet time w three there held same old =
+plan-by-suits high j x0 e t packet time w three there held same old =
     record {
       still = refl;
       resume = λ r. record { there = let c = opened-count (w .packets) (resume′) (world1 packet time w) in let l = held r in omega (arith, c, l); suits = suits-links true _ };
-      end = λ r. subst (λ (z : Bool). EndSuits x0 (endIf z end′ e) (withTransaction b (world2 (planBy j x0 e t packet w) packet time w))) (sym r) (ended-suits s pid x0 e b packet time w three there same);
+      end = λ r. subst (λ (z : Bool). EndSuits x0 (endIf z end′ e) (withTransaction b (world2 (planBy high j x0 e t packet w) packet time w))) (sym r) (ended-suits s pid x0 e b packet time w three there same);
       begin = begin-suits s pid x0 e b packet time w three there same ends m good;
       close = closing;
     }
@@ -332,7 +332,7 @@ plan-by-suits j x0 e t packet time w three there held same old =
     pid = j .pid
 
     b : Transaction
-    b = extractPayload t pid (length packet) (setupDataOf packet)
+    b = extractPayload high t pid (length packet) (setupDataOf packet)
 
     end′ : End
     end′ = end s pid x0 e b packet time w three there same
@@ -347,22 +347,22 @@ plan-by-suits j x0 e t packet time w three there held same old =
     m = middleOf s x0 (e0 s pid x0 e b packet time w three there same ends) pid packet (w .transactions + one (resumes (w .slot))) b w
 
     good : Good x0 (e0 s pid x0 e b packet time w three there same ends) w m
-    good = middle-good s x0 _ pid packet _ b w three there (λ h. extract-keeps t pid (length packet) (setupDataOf packet) .endpoint ∙ old h)
+    good = middle-good s x0 _ pid packet _ b w three there (λ h. extract-keeps high t pid (length packet) (setupDataOf packet) .endpoint ∙ old h)
 
     close′ : End
     close′ = closeOf m (lastEnded ends end′ x0 (w .lastItem)) (succeeds s) (completesBy s (t .style))
 
-    closing : planBy j x0 e t packet w .closes ≡ true → EndSuits (m .begin .transaction .endpoint) (planBy j x0 e t packet w .close) (world4 (planBy j x0 e t packet w) packet time w)
+    closing : planBy high j x0 e t packet w .closes ≡ true → EndSuits (m .begin .transaction .endpoint) (planBy high j x0 e t packet w .close) (world4 (planBy high j x0 e t packet w) packet time w)
     closing h =
         let q = both (isLast s) _ h in
-        subst (λ (z : Bool). EndSuits (m .begin .transaction .endpoint) (endIf z close′ (m .entry)) (world4 (planBy j x0 e t packet w) packet time w)) (sym h)
+        subst (λ (z : Bool). EndSuits (m .begin .transaction .endpoint) (endIf z close′ (m .entry)) (world4 (planBy high j x0 e t packet w) packet time w)) (sym h)
         (closing-suits s pid x0 e b packet time w three there same ends (ap (λ (y : Bool). y && not (eqb x0 0)) (last-not-new s (q .0))) m _ (succeeds s) _ good (not-zero (m .begin .transaction .endpoint) (q .1)))
 
 -- with no transaction a packet starts one, or is invalid
-pub held-endpoint : (s : Slot) (id : ℕ) (e : Endpoint) (t : Transaction) (packet : List ℕ) → starts (transactionStatus (stateAt (slotThen s) (transactionThen s id e t)) packet .status) ≡ false → transactionThen s id e t .endpoint ≡ oldEndpoint s t
-held-endpoint Empty id e t packet h = absurd (true≢false (sym (no-transaction (λ s. starts s ≡ true) refl refl (stateAt Empty t) refl packet) ∙ h))
-held-endpoint Current id e t packet h = refl
-held-endpoint Suspended id e t packet h = refl
+pub held-endpoint : (high : Bool) (s : Slot) (id : ℕ) (e : Endpoint) (t : Transaction) (packet : List ℕ) → starts (transactionStatus high (stateAt (slotThen s) (transactionThen s id e t)) packet .status) ≡ false → transactionThen s id e t .endpoint ≡ oldEndpoint s t
+held-endpoint high Empty id e t packet h = absurd (true≢false (sym (no-transaction high (λ s. starts s ≡ true) refl refl (stateAt Empty t) refl packet) ∙ h))
+held-endpoint high Current id e t packet h = refl
+held-endpoint high Suspended id e t packet h = refl
 
 then-phase : (s : Slot) (e : Endpoint) → entryThen s e .phase ≡ e .phase
 then-phase Empty e = refl
@@ -370,13 +370,13 @@ then-phase Current e = refl
 then-phase Suspended e = refl
 
 -- where the special endpoints and that of the old transaction are there
-pub plan-suits : (packet : List ℕ) (time : ℕ) (w : World) → 2 < w .count → oldEndpoint (w .slot) (w .transaction) < w .count → PlanSuits (planOf packet w) packet time w
+pub plan-suits : (high : Bool) (packet : List ℕ) (time : ℕ) (w : World) → 2 < w .count → oldEndpoint (w .slot) (w .transaction) < w .count → PlanSuits (planOf high packet w) packet time w
 unfolding planOf
-plan-suits packet time w three there =
+plan-suits high packet time w three there =
     let x0 = oldEndpoint (w .slot) (w .transaction) in
     let e = w .endpoints x0 in
     let t = transactionThen (w .slot) (w .transactions) e (w .transaction) in
-    plan-by-suits (transactionStatus (stateAt (slotThen (w .slot)) t) packet) x0 (entryThen (w .slot) e) t packet time w three there (then-resumed (w .slot) (w .count) (w .transaction) there) (then-phase (w .slot) e) (held-endpoint (w .slot) (w .transactions) e (w .transaction) packet)
+    plan-by-suits high (transactionStatus high (stateAt (slotThen (w .slot)) t) packet) x0 (entryThen (w .slot) e) t packet time w three there (then-resumed (w .slot) (w .count) (w .transaction) there) (then-phase (w .slot) e) (held-endpoint high (w .slot) (w .transactions) e (w .transaction) packet)
 
 -- ---- what is decided of the end of the current transaction
 

@@ -91,13 +91,13 @@ closing-total : (z : Bool) → z ≡ false → (x0 : ℕ) (e : Endpoint) (old : 
 closing-total true q x0 e old pid m last success complete id w v f h g ne c same = absurd (true≢false q)
 closing-total false q x0 e old pid m last success complete id w v f h g ne c same = close-total m last success complete ∙ middle-total x0 e m id w v h g ne c same
 
-plan-by-totals : (j : Judged) (x0 : ℕ) (e : Endpoint) (t : Transaction) (packet : List ℕ) (time : ℕ) (w : World) → 2 < w .count → x0 < w .count → e .total ≡ w .endpoints x0 .total → (starts (j .status) ≡ false → t .endpoint ≡ x0)
-    → PlanSuits (planBy j x0 e t packet w) packet time w → PlanTotals (planBy j x0 e t packet w) packet time w
+plan-by-totals : (high : Bool) (j : Judged) (x0 : ℕ) (e : Endpoint) (t : Transaction) (packet : List ℕ) (time : ℕ) (w : World) → 2 < w .count → x0 < w .count → e .total ≡ w .endpoints x0 .total → (starts (j .status) ≡ false → t .endpoint ≡ x0)
+    → PlanSuits (planBy high j x0 e t packet w) packet time w → PlanTotals (planBy high j x0 e t packet w) packet time w
 unfolding planBy
-plan-by-totals j x0 e t packet time w three there same old suits =
+plan-by-totals high j x0 e t packet time w three there same old suits =
     record {
       quiet = λ r. subst (λ (z : Bool). endIf z end′ e .effect ≡ NoEffect) (sym r) (end-quiet x0 e b _ (w .lastItem) false);
-      end = λ r. subst (λ (z : Bool). endIf z end′ e .entry .total ≡ world2 (planBy j x0 e t packet w) packet time w .endpoints x0 .total) (sym r) (end-total x0 e b _ (w .lastItem) false false ∙ (same ∙ sym (total2 x0)));
+      end = λ r. subst (λ (z : Bool). endIf z end′ e .entry .total ≡ world2 (planBy high j x0 e t packet w) packet time w .endpoints x0 .total) (sym r) (end-total x0 e b _ (w .lastItem) false false ∙ (same ∙ sym (total2 x0)));
       there = λ r. suits .close r .there;
       close = closing;
     }
@@ -109,7 +109,7 @@ plan-by-totals j x0 e t packet time w three there same old suits =
     pid = j .pid
 
     b : Transaction
-    b = extractPayload t pid (length packet) (setupDataOf packet)
+    b = extractPayload high t pid (length packet) (setupDataOf packet)
 
     end′ : End
     end′ = endOf x0 e b (detailOf x0 w) (w .lastItem) false false
@@ -123,18 +123,18 @@ plan-by-totals j x0 e t packet time w three there same old suits =
     close′ : End
     close′ = closeOf m (lastEnded ends end′ x0 (w .lastItem)) (succeeds s) (completesBy s (t .style))
 
-    total2 : (i : ℕ) → world2 (planBy j x0 e t packet w) packet time w .endpoints i .total ≡ w .endpoints i .total
+    total2 : (i : ℕ) → world2 (planBy high j x0 e t packet w) packet time w .endpoints i .total ≡ w .endpoints i .total
     total2 i = resumed-total (resumes (w .slot)) (w .packets) (withId (w .transactions) (w .transaction)) i (world1 packet time w)
 
-    closing : planBy j x0 e t packet w .closes ≡ true → planBy j x0 e t packet w .close .entry .total ≡ world4 (planBy j x0 e t packet w) packet time w .endpoints (m .begin .transaction .endpoint) .total
+    closing : planBy high j x0 e t packet w .closes ≡ true → planBy high j x0 e t packet w .close .entry .total ≡ world4 (planBy high j x0 e t packet w) packet time w .endpoints (m .begin .transaction .endpoint) .total
     closing h =
         let q = both (isLast s) _ h in
         let x = m .begin .transaction .endpoint in
-        subst (λ (z : Bool). endIf z close′ (m .entry) .entry .total ≡ world4 (planBy j x0 e t packet w) packet time w .endpoints x .total) (sym h)
-        (closing-total ends (ap (λ (y : Bool). y && not (eqb x0 0)) (last-not-new s (q .0))) x0 e end′ (startPid (b .style)) m _ (succeeds s) _ (w .packets) w (world2 (planBy j x0 e t packet w) packet time w) _ same
-        (middle-good s x0 _ pid packet _ b w three there (λ h. extract-keeps t pid (length packet) (setupDataOf packet) .endpoint ∙ old h))
+        subst (λ (z : Bool). endIf z close′ (m .entry) .entry .total ≡ world4 (planBy high j x0 e t packet w) packet time w .endpoints x .total) (sym h)
+        (closing-total ends (ap (λ (y : Bool). y && not (eqb x0 0)) (last-not-new s (q .0))) x0 e end′ (startPid (b .style)) m _ (succeeds s) _ (w .packets) w (world2 (planBy high j x0 e t packet w) packet time w) _ same
+        (middle-good s x0 _ pid packet _ b w three there (λ h. extract-keeps high t pid (length packet) (setupDataOf packet) .endpoint ∙ old h))
         (not-zero (m .begin .transaction .endpoint) (q .1))
-        (count2 (planBy j x0 e t packet w) packet time w refl)
+        (count2 (planBy high j x0 e t packet w) packet time w refl)
         total2)
 
 then-total : (s : Slot) (e : Endpoint) → entryThen s e .total ≡ e .total
@@ -142,13 +142,13 @@ then-total Empty e = refl
 then-total Current e = refl
 then-total Suspended e = refl
 
-pub plan-totals : (packet : List ℕ) (time : ℕ) (w : World) → 2 < w .count → oldEndpoint (w .slot) (w .transaction) < w .count → PlanTotals (planOf packet w) packet time w
+pub plan-totals : (high : Bool) (packet : List ℕ) (time : ℕ) (w : World) → 2 < w .count → oldEndpoint (w .slot) (w .transaction) < w .count → PlanTotals (planOf high packet w) packet time w
 unfolding planOf
-plan-totals packet time w three there =
+plan-totals high packet time w three there =
     let x0 = oldEndpoint (w .slot) (w .transaction) in
     let e = w .endpoints x0 in
     let t = transactionThen (w .slot) (w .transactions) e (w .transaction) in
-    plan-by-totals (transactionStatus (stateAt (slotThen (w .slot)) t) packet) x0 (entryThen (w .slot) e) t packet time w three there (then-total (w .slot) e) (held-endpoint (w .slot) (w .transactions) e (w .transaction) packet) (plan-suits packet time w three there)
+    plan-by-totals high (transactionStatus high (stateAt (slotThen (w .slot)) t) packet) x0 (entryThen (w .slot) e) t packet time w three there (then-total (w .slot) e) (held-endpoint high (w .slot) (w .transactions) e (w .transaction) packet) (plan-suits high packet time w three there)
 
 -- ---- what is decided of the end of the current transaction
 

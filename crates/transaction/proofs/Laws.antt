@@ -3,10 +3,10 @@ use mathlib.Core.Bool.{Bool, true, false, _&&_}
 use mathlib.Core.Path.{_≡_, refl}
 use Prim.Native.Nat.{ℕ, _-_}
 use lib.Dec.{eqb}
-use Rattle.usb.specs.Pid.{DATA0, DATA1}
+use Rattle.usb.specs.Pid.{DATA0}
 use Rattle.transaction.specs.declared.Transaction.{Transaction}
-use Rattle.transaction.specs.Table.{pick, only, _or_}
-use Rattle.transaction.specs.Payload.{takesSetup, changed, withSetup, withPayload, extractPayload}
+use Rattle.transaction.specs.Table.{pick}
+use Rattle.transaction.specs.Payload.{takesSetup, yields, changed, withSetup, withPayload, extractPayload}
 
 pub record Kept (t u : Transaction) : Type 0 where
   pub style : u .style ≡ t .style
@@ -25,6 +25,6 @@ by-tests true b t s n = changed-kept t true s (t .filled) (t .payload)
 by-tests false true t s n = changed-kept t (t .ready) (t .setup) true n
 by-tests false false t s n = changed-kept t (t .ready) (t .setup) (t .filled) (t .payload)
 
-pub extract-keeps : (t : Transaction) (pid len setup : ℕ) → Kept t (extractPayload t pid len setup)
+pub extract-keeps : (high : Bool) (t : Transaction) (pid len setup : ℕ) → Kept t (extractPayload high t pid len setup)
 unfolding extractPayload
-extract-keeps t pid len setup = by-tests (eqb pid DATA0 && takesSetup (t .style)) ((DATA0 or only DATA1) pid) t setup (len - 3)
+extract-keeps high t pid len setup = by-tests (eqb pid DATA0 && takesSetup (t .style)) (yields high pid) t setup (len - 3)

@@ -4,3 +4,5 @@ pub mod Split
 pub mod Status
 pub mod Payload
 pub mod StatusLaws
+pub mod High
+pub mod HighLaws

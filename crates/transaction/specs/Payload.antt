@@ -1,9 +1,9 @@
 -- To be believed: Document 000, start_pid and extract_payload: the token of a transaction, and what a data packet brings to it.
--- Hold it to: start_pid and extract_payload of decoder.rs; 01, "Packets": "A payload is the part .."
+-- Hold it to: start_pid and extract_payload of decoder.rs; 01, "Packets": "A payload is the part .."; 02, 6 (`yields` in the mode)
 use mathlib.Core.Bool.{Bool, true, false, _&&_}
 use Prim.Native.Nat.{ℕ, _-_}
 use lib.Dec.{eqb}
-use Rattle.usb.specs.Pid.{SETUP, DATA0, DATA1}
+use Rattle.usb.specs.Pid.{SETUP, DATA0, DATA1, DATA2, MDATA}
 use Rattle.usb.specs.Types.{Control, Start}
 use Rattle.transaction.specs.declared.Style.{Style}
 use Rattle.transaction.specs.declared.Style.the-variants.{Nothing, Simple, Split, Token}
@@ -54,10 +54,14 @@ withSetup t s = changed t true s (t .filled) (t .payload)
 abbrev pub withPayload : Transaction → ℕ → Transaction
 withPayload t n = changed t (t .ready) (t .setup) true n
 
+-- "DATA0 and DATA1 alone yield payloads" (01, Rules of a group); in the mode of 02, 6 DATA2 and MDATA yield theirs as well
+abbrev pub yields : Bool → ℕ → Bool
+yields high pid = pick high ((DATA0 or DATA1 or DATA2 or only MDATA) pid) ((DATA0 or only DATA1) pid)
+
 -- A payload is the part from byte 1 up to two before the end (01, Packets; USB 2.0, 8.4.4). The PID is tested before the style,
 -- which the Rust matches together: a test on the left decides at once.
-unfoldable pub extractPayload : Transaction → ℕ → ℕ → ℕ → Transaction
-extractPayload t pid len setup =
+unfoldable pub extractPayload : Bool → Transaction → ℕ → ℕ → ℕ → Transaction
+extractPayload high t pid len setup =
     pick (eqb pid DATA0 && takesSetup (t .style))
     (withSetup t setup)
-    (pick ((DATA0 or only DATA1) pid) (withPayload t (len - 3)) t)
+    (pick (yields high pid) (withPayload t (len - 3)) t)

@@ -1,14 +1,15 @@
 -- To be believed: Document 000, transaction_status: the rows where there is no transaction, or a plain one, in the Rust's order. As there, those for
 -- MALFORMED are never reached: such a packet is Invalid before any row is looked at.
--- Hold it to: transaction_status of decoder.rs, with no transaction or a plain one (scripts/rows compares the rows); 01, "Rules of a transaction"
-use mathlib.Core.List.{List, [], _∷_}
+-- Hold it to: transaction_status of decoder.rs, with no transaction or a plain one (scripts/rows compares the rows); 01, "Rules of a transaction"; 02, 6 (`highRows`)
+use mathlib.Core.Bool.{Bool}
+use mathlib.Core.List.{List, [], _∷_, _++_}
 use Prim.Native.Nat.{ℕ}
 use lib.Dec.{eqb}
-use Rattle.usb.specs.Pid.{OUT, IN, SOF, PING, MALFORMED, SETUP, SPLIT, DATA0, DATA1, ACK, NAK, NYET, STALL}
+use Rattle.usb.specs.Pid.{OUT, IN, SOF, PING, MALFORMED, SETUP, SPLIT, DATA0, DATA1, DATA2, MDATA, ACK, NAK, NYET, STALL}
 use Rattle.usb.specs.Types.{Control, Isochronous, Bulk, Interrupt}
 use Rattle.transaction.specs.declared.Status.{Status}
 use Rattle.transaction.specs.declared.Status.the-variants.{New, Continue, Done, Fail, Ambiguous, Invalid}
-use Rattle.transaction.specs.Table.{Row, _gives_, _when_, any, only, _or_, look}
+use Rattle.transaction.specs.Table.{Row, _gives_, _when_, pick, any, only, _or_, look}
 
 -- no transaction: by the next PID
 abbrev pub startRows : List (Row Status)
@@ -47,5 +48,16 @@ simpleRows kind len =
     ∷ (any ∷ only PING ∷ NAK or only STALL ∷ []) gives Fail
     ∷ []
 
-abbrev pub simpleStatus : ℕ → ℕ → ℕ → ℕ → ℕ → Status
-simpleStatus first last next kind len = look (simpleRows kind len) Invalid (first ∷ last ∷ next ∷ [])
+-- 02, 6, before these in the mode: "on an endpoint known as isochronous, IN then DATA2, and OUT then DATA2 or MDATA, are Done"
+abbrev pub highRows : ℕ → List (Row Status)
+highRows kind =
+    (any ∷ only IN ∷ only DATA2 ∷ []) gives Done when eqb kind Isochronous
+    ∷ (any ∷ only OUT ∷ DATA2 or only MDATA ∷ []) gives Done when eqb kind Isochronous
+    ∷ []
+
+-- high is the mode of 02, 6; "without the mode nothing changes"
+abbrev pub simpleRowsIn : Bool → ℕ → ℕ → List (Row Status)
+simpleRowsIn high kind len = pick high (highRows kind ++ simpleRows kind len) (simpleRows kind len)
+
+abbrev pub simpleStatusIn : Bool → ℕ → ℕ → ℕ → ℕ → ℕ → Status
+simpleStatusIn high first last next kind len = look (simpleRowsIn high kind len) Invalid (first ∷ last ∷ next ∷ [])

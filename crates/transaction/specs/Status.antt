@@ -1,5 +1,6 @@
 -- To be believed: Document 000, transaction_status: what a packet is to a transaction.
--- Hold it to: transaction_status of decoder.rs: its first lines
+-- Hold it to: transaction_status of decoder.rs: its first lines; high is the mode of 02, 6
+use mathlib.Core.Bool.{Bool}
 use mathlib.Core.List.{List}
 use Prim.Native.Nat.{ℕ}
 use lib.ListN.{length}
@@ -13,14 +14,14 @@ use Rattle.transaction.specs.declared.Style.{Style}
 use Rattle.transaction.specs.declared.Style.the-variants.{Nothing, Simple, Split, Token}
 use Rattle.transaction.specs.declared.Transaction.{Transaction}
 use Rattle.transaction.specs.declared.Judged.{Judged}
-use Rattle.transaction.specs.Simple.{startStatus, simpleStatus}
+use Rattle.transaction.specs.Simple.{startStatus, simpleStatusIn}
 use Rattle.transaction.specs.Split.{splitStatus}
 
-abbrev pub statusOf : Style → Transaction → ℕ → ℕ → Status
-statusOf Nothing t next len = startStatus next
-statusOf (Simple first) t next len = simpleStatus first (t .last) next (t .kind) len
-statusOf (Split sc kind) t next len = splitStatus kind sc (t .last) next len
-statusOf (Token sc kind pid) t next len = splitStatus kind sc (t .last) next len
+abbrev pub statusOf : Bool → Style → Transaction → ℕ → ℕ → Status
+statusOf high Nothing t next len = startStatus next
+statusOf high (Simple first) t next len = simpleStatusIn high first (t .last) next (t .kind) len
+statusOf high (Split sc kind) t next len = splitStatus kind sc (t .last) next len
+statusOf high (Token sc kind pid) t next len = splitStatus kind sc (t .last) next len
 
 -- of a valid packet, and of a malformed one, whose reason goes on upward (02, 1)
 abbrev pub judged : ℕ → Status → Judged
@@ -30,9 +31,9 @@ abbrev pub malformed : ℕ → Judged
 malformed reason = record { pid = MALFORMED; status = Invalid; reason = reason }
 
 -- a malformed packet is Invalid whatever the transaction is
-abbrev pub judgedOf : Transaction → Checked → ℕ → Judged
-judgedOf t (Malformed reason) len = malformed reason
-judgedOf t (Valid next) len = judged next (statusOf (t .style) t next len)
+abbrev pub judgedOf : Bool → Transaction → Checked → ℕ → Judged
+judgedOf high t (Malformed reason) len = malformed reason
+judgedOf high t (Valid next) len = judged next (statusOf high (t .style) t next len)
 
-unfoldable pub transactionStatus : Transaction → List ℕ → Judged
-transactionStatus t packet = judgedOf t (checkedOf packet) (length packet)
+unfoldable pub transactionStatus : Bool → Transaction → List ℕ → Judged
+transactionStatus high t packet = judgedOf high t (checkedOf packet) (length packet)

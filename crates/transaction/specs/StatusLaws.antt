@@ -1,4 +1,5 @@
 -- Laws (proved): what transaction_status says of a packet's reason.
+use mathlib.Core.Bool.{Bool}
 use mathlib.Core.List.{List}
 use mathlib.Core.Path.{_≡_, refl, sym, ap, subst, _∙_}
 use Prim.Native.Nat.{ℕ}
@@ -14,11 +15,11 @@ use Rattle.transaction.specs.declared.Judged.{Judged}
 use Rattle.transaction.specs.Status.{judged, judgedOf, transactionStatus}
 
 -- it is that of the bytes
-pub status-reason : (t : Transaction) (packet : List ℕ) → transactionStatus t packet .reason ≡ reasonOf packet
+pub status-reason : (high : Bool) (t : Transaction) (packet : List ℕ) → transactionStatus high t packet .reason ≡ reasonOf packet
 unfolding transactionStatus
-status-reason t packet = by (checkedOf packet) ∙ why-is packet
+status-reason high t packet = by (checkedOf packet) ∙ why-is packet
   where
-    by : (c : Checked) → judgedOf t c (length packet) .reason ≡ whyOf c
+    by : (c : Checked) → judgedOf high t c (length packet) .reason ≡ whyOf c
     by (Valid next) = refl
     by (Malformed reason) = refl
 
@@ -32,13 +33,13 @@ Taken Fail = Unit {0}
 Taken Ambiguous = Unit {0}
 Taken Invalid = ⊥
 
-taken-judged : (t : Transaction) (packet : List ℕ) → Taken (transactionStatus t packet .status) → transactionStatus t packet ≡ judged (transactionStatus t packet .pid) (transactionStatus t packet .status)
+taken-judged : (high : Bool) (t : Transaction) (packet : List ℕ) → Taken (transactionStatus high t packet .status) → transactionStatus high t packet ≡ judged (transactionStatus high t packet .pid) (transactionStatus high t packet .status)
 unfolding transactionStatus
-taken-judged t packet = by (checkedOf packet)
+taken-judged high t packet = by (checkedOf packet)
   where
-    by : (c : Checked) → Taken (judgedOf t c (length packet) .status) → judgedOf t c (length packet) ≡ judged (judgedOf t c (length packet) .pid) (judgedOf t c (length packet) .status)
+    by : (c : Checked) → Taken (judgedOf high t c (length packet) .status) → judgedOf high t c (length packet) ≡ judged (judgedOf high t c (length packet) .pid) (judgedOf high t c (length packet) .status)
     by (Valid next) h = refl
     by (Malformed reason) h = absurd h
 
-pub judged-is : (t : Transaction) (packet : List ℕ) {j : Judged} → j ≡ transactionStatus t packet → Taken (j .status) → j ≡ judged (j .pid) (j .status)
-judged-is t packet e = subst (λ (x : Judged). Taken (x .status) → x ≡ judged (x .pid) (x .status)) (sym e) (taken-judged t packet)
+pub judged-is : (high : Bool) (t : Transaction) (packet : List ℕ) {j : Judged} → j ≡ transactionStatus high t packet → Taken (j .status) → j ≡ judged (j .pid) (j .status)
+judged-is high t packet e = subst (λ (x : Judged). Taken (x .status) → x ≡ judged (x .pid) (x .status)) (sym e) (taken-judged high t packet)

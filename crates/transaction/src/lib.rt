@@ -62,27 +62,27 @@ pub struct Judged {
     pub reason: u8,
 }
 
-// The status of a valid packet with the PID next and of len bytes.
-fn status_of(t: Transaction, next: u8, len: usize) -> Status
-    ensures { λ r. ⌜ r ≡ statusOf (t .style) t next len ⌝ }
+// The status of a valid packet with the PID next and of len bytes; high is the mode for high-bandwidth isochronous data.
+fn status_of(high: bool, t: Transaction, next: u8, len: usize) -> Status
+    ensures { λ r. ⌜ r ≡ statusOf high (t .style) t next len ⌝ }
 {
     let style = t.style;
     let last = t.last;
     match style {
         Style::Nothing => simple::start_status(next),
-        Style::Simple(first) => simple::simple_status(first, last, next, t.kind, len),
+        Style::Simple(first) => simple::status_in(high, first, last, next, t.kind, len),
         Style::Split(sc, kind) => split::split_status(kind, sc, last, next, len),
         Style::Token(sc, kind, _) => split::split_status(kind, sc, last, next, len),
     }
 }
 
 // The status of the next packet, which was checked and has len bytes.
-pub fn status_by(t: Transaction, checked: Checked, len: usize) -> Judged
-    ensures { λ r. ⌜ r ≡ judgedOf t checked len ⌝ }
+pub fn status_by(high: bool, t: Transaction, checked: Checked, len: usize) -> Judged
+    ensures { λ r. ⌜ r ≡ judgedOf high t checked len ⌝ }
 {
     match checked {
         Checked::Valid(next) => {
-            let status = status_of(t, next, len);
+            let status = status_of(high, t, next, len);
             Judged {
                 pid: next,
                 status,
@@ -98,9 +98,9 @@ pub fn status_by(t: Transaction, checked: Checked, len: usize) -> Judged
 }
 
 // The same of a packet, which is checked here.
-pub fn transaction_status(t: Transaction, packet: &[u8]) -> Judged
-    ensures { λ r. ⌜ r ≡ transactionStatus t (now (packet .entry)) ⌝ }
+pub fn transaction_status(high: bool, t: Transaction, packet: &[u8]) -> Judged
+    ensures { λ r. ⌜ r ≡ transactionStatus high t (now (packet .entry)) ⌝ }
 {
     let checked = usb::check(packet);
-    status_by(t, checked, packet.len())
+    status_by(high, t, checked, packet.len())
 }

@@ -3,12 +3,14 @@ use crate::Style;
 use crate::Transaction;
 use usb::pid::DATA0;
 use usb::pid::DATA1;
+use usb::pid::DATA2;
+use usb::pid::MDATA;
 use usb::pid::SETUP;
 use usb::types::CONTROL;
 use usb::types::START;
 ghost use mathlib.Core.Path.{_≡_};
 ghost use Prim.Native.Nat.{_-_};
-ghost use Rattle.transaction.specs.Payload.{startPid, splitSetup, takesSetup, extractPayload};
+ghost use Rattle.transaction.specs.Payload.{startPid, splitSetup, takesSetup, yields, extractPayload};
 
 // The PID of the token that began the transaction; 0 where there is none, which the Rust refuses.
 pub fn start_pid(style: Style) -> u8
@@ -55,29 +57,31 @@ fn payload_len(len: usize) -> u64
     (len - 3) as u64
 }
 
+// Whether a packet with this PID brings a payload: DATA2 and MDATA do in the mode alone.
+pub fn yields(high: bool, pid: u8) -> bool
+    ensures { λ r. ⌜ r ≡ yields high pid ⌝ }
+{
+    if high {
+        return (pid == DATA0) | (pid == DATA1) | (pid == DATA2) | (pid == MDATA);
+    }
+    (pid == DATA0) | (pid == DATA1)
+}
+
 // The transaction after a packet with this PID and of len bytes; setup is what the packet holds as setup bytes.
-pub fn extract_payload(t: Transaction, pid: u8, len: usize, setup: u64) -> Transaction
-    ensures { λ r. ⌜ r ≡ extractPayload t pid len setup ⌝ }
+pub fn extract_payload(high: bool, t: Transaction, pid: u8, len: usize, setup: u64) -> Transaction
+    ensures { λ r. ⌜ r ≡ extractPayload high t pid len setup ⌝ }
 {
     let mut t = t;
-    match pid {
-        DATA0 => {
-            let style = t.style;
-            if takes_setup(style) {
-                t.ready = true;
-                t.setup = setup;
-                t
-            } else {
-                t.filled = true;
-                t.payload = payload_len(len);
-                t
-            }
-        }
-        DATA1 => {
-            t.filled = true;
-            t.payload = payload_len(len);
-            t
-        }
-        _ => t,
+    let style = t.style;
+    if (pid == DATA0) & takes_setup(style) {
+        t.ready = true;
+        t.setup = setup;
+        return t;
     }
+    if yields(high, pid) {
+        t.filled = true;
+        t.payload = payload_len(len);
+        return t;
+    }
+    t
 }

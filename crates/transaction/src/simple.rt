@@ -3,8 +3,10 @@ use crate::Status;
 use usb::pid::ACK;
 use usb::pid::DATA0;
 use usb::pid::DATA1;
+use usb::pid::DATA2;
 use usb::pid::IN;
 use usb::pid::MALFORMED;
+use usb::pid::MDATA;
 use usb::pid::NAK;
 use usb::pid::NYET;
 use usb::pid::OUT;
@@ -19,7 +21,8 @@ use usb::types::INTERRUPT;
 use usb::types::ISOCHRONOUS;
 ghost use mathlib.Core.Path.{_≡_};
 ghost use Rattle.usb.specs.Pid.{ACK, DATA0, DATA1, NAK, NYET};
-ghost use Rattle.transaction.specs.Simple.{startStatus, byKind, simpleStatus};
+ghost use Rattle.transaction.specs.Simple.{startStatus, byKind, simpleStatusIn};
+ghost use Rattle.transaction.specs.High.{simpleStatus, isHigh};
 
 pub fn start_status(next: u8) -> Status
     ensures { λ r. ⌜ r ≡ startStatus next ⌝ }
@@ -112,7 +115,7 @@ fn after_nak(first: u8, last: u8) -> Status
     }
 }
 
-pub fn simple_status(first: u8, last: u8, next: u8, kind: u8, len: usize) -> Status
+fn simple_status(first: u8, last: u8, next: u8, kind: u8, len: usize) -> Status
     ensures { λ r. ⌜ r ≡ simpleStatus first last next kind len ⌝ }
 {
     match next {
@@ -132,4 +135,22 @@ pub fn simple_status(first: u8, last: u8, next: u8, kind: u8, len: usize) -> Sta
         NAK | STALL => after_nak(first, last),
         _ => Status::Invalid,
     }
+}
+
+// Data that only the mode takes for done: DATA2 after IN, DATA2 or MDATA after OUT, on an endpoint that was known as isochronous.
+fn is_high(last: u8, next: u8, kind: u8) -> bool
+    ensures { λ r. ⌜ r ≡ isHigh last next kind ⌝ }
+{
+    (((last == IN) & (next == DATA2)) | ((last == OUT) & ((next == DATA2) | (next == MDATA))))
+        & (kind == ISOCHRONOUS)
+}
+
+// The same in either mode.
+pub fn status_in(high: bool, first: u8, last: u8, next: u8, kind: u8, len: usize) -> Status
+    ensures { λ r. ⌜ r ≡ simpleStatusIn high first last next kind len ⌝ }
+{
+    if high & is_high(last, next, kind) {
+        return Status::Done;
+    }
+    simple_status(first, last, next, kind, len)
 }

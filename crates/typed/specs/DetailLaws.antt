@@ -69,7 +69,7 @@ module _ (number direction kind max : ℕ) where
 -- ---- what is left where only devices change
 
 -- no row is appended, so the record is as it was
-same-decoder : (s : State) (f : ℕ → Device) → isIll s ≡ false → s .decoder ≡ decoderOf (s .decoder .counts) (s .decoder .finished) (withDevices f (worldAt s))
+same-decoder : (s : State) (f : ℕ → Device) → isIll s ≡ false → s .decoder ≡ decoderOf (s .decoder) (s .decoder .finished) (withDevices f (worldAt s))
 unfolding decoderOf countsAfter
 same-decoder s f h =
     let d = s .decoder in
@@ -96,6 +96,7 @@ same-decoder s f h =
       keepalive = d .keepalive;
       waiting = (sound s h .0 .waiting ∙ waiting-entries (s .table) (n .endpoints)) i;
       finished = d .finished;
+      high = d .high;
       time = d .time;
     }
   where

@@ -133,7 +133,7 @@ left-alike {s = s} {s′ = s′} w l q =
 
 -- ---- a fresh decoder
 
-module _ (h g : List ℕ) (long : length h ≡ length g) {v : List Device} {t : List ℕ} {l : Logs} {s : State} (hv : length v ≡ 64) (ht : length t ≡ word.table) (m : Makes v t l 0 s) where
+module _ (h g : List ℕ) (long : length h ≡ length g) {high : Bool} {v : List Device} {t : List ℕ} {l : Logs} {s : State} (hv : length v ≡ 64) (ht : length t ≡ word.table) (m : Makes high v t l 0 s) where
   a : Agrees (worldAt s) fresh
   a = fresh-stands m ht (omega arith)
 
@@ -211,7 +211,7 @@ record Same (a b : ℕ) (s₁ s₂ : State) (h g : List ℕ) : Type 0 where
 module _ {js : List Row} {s : State} (q : Sequence js s) (h g : List ℕ) (k : Kin h g (view (worldAt s))) where
   module _ (bytes : List ℕ) (time : ℕ) {a b : ℕ} {s₁ s₂ : State} {h₁ g₁ : List ℕ} (x : PacketCall bytes time s h a s₁ h₁) (y : PacketCall bytes time s g b s₂ g₁) where
     both-worlds : Beside Kin (after bytes time s h) (after bytes time s g)
-    both-worlds = packet-beside bytes time (worldAt s) h g k
+    both-worlds = packet-beside (s .decoder .high) bytes time (worldAt s) h g k
 
     one-answer : (a ≡ b) × (s₁ ≡ s₂)
     one-answer = twins-answer bytes time s h g (record { shelf = both-worlds .g; same = both-worlds .other }) a b s₁ s₂ h₁ g₁ x y
@@ -244,7 +244,7 @@ module _ {js : List Row} {s : State} (q : Sequence js s) (h g : List ℕ) (k : K
             (subst (λ (z : List ℕ). Kin h z (view (worldAt s₁))) (sym (told false e)) (subst (λ (z : State). Kin h g (view (worldAt z))) (sym stay) k))
 
   -- a call that is lent no shelf
-  module _ (c : Call) (step : Kin h g (view (call c (worldAt s)))) {a b : ℕ} {s₁ s₂ : State} {h₁ g₁ : List ℕ} (x : demands.Does c s a s₁) (mine : h₁ ≡ h) (y : demands.Does c s b s₂) (other : g₁ ≡ g) where
+  module _ (c : Call) (step : Kin h g (view (call (s .decoder .high) c (worldAt s)))) {a b : ℕ} {s₁ s₂ : State} {h₁ g₁ : List ℕ} (x : demands.Does c s a s₁) (mine : h₁ ≡ h) (y : demands.Does c s b s₂) (other : g₁ ≡ g) where
     plain-same : Same a b s₁ s₂ h₁ g₁
     plain-same =
         let u = unique (answers c s a s₁ x) (answers c s b s₂ y) in
@@ -257,7 +257,7 @@ module _ {js : List Row} {s : State} (q : Sequence js s) (h g : List ℕ) (k : K
         }
       where
         by : (d : Bool) → accepts a ≡ d → Kin h g (view (worldAt s₁))
-        by true e = kin-alike h g (left-alike (call c (worldAt s)) (moved c s a s₁ x e .left) (then c a s₁ q x)) step
+        by true e = kin-alike h g (left-alike (call (s .decoder .high) c (worldAt s)) (moved c s a s₁ x e .left) (then c a s₁ q x)) step
         by false e = subst (λ (z : State). Kin h g (view (worldAt z))) (sym (stayed c s a s₁ x e)) k
 
   call-same : (m : Ask) {a b : ℕ} {s₁ s₂ : State} {h₁ g₁ : List ℕ} → Does m s h a s₁ h₁ → Does m s g b s₂ g₁ → Same a b s₁ s₂ h₁ g₁
@@ -299,4 +299,4 @@ all-same (m ∷ ks) q h g k {s″ = s″} {g′ = g′} x y =
     (p .whole ∙ ((λ i. e i ∷ f i) ∙ sym (r .whole)), rest .1)
 
 pub calls-unread : Unread
-calls-unread v t l s hv ht m ks h g long one other s′ s″ h′ g′ x y = all-same ks (made hv ht m) h g (fresh-kin h g long hv ht m) x y
+calls-unread high v t l s hv ht m ks h g long one other s′ s″ h′ g′ x y = all-same ks (made hv ht m) h g (fresh-kin h g long hv ht m) x y

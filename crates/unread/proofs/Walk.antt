@@ -11,11 +11,11 @@ use lib.Dec.{eqb}
 use lib.ListN.{length, take, drop, length-take, length-drop}
 use Rattle.usb.specs.Fields.{splitOf, setupDataOf}
 use Rattle.usb.specs.Packet.{payloadOf, reasonOf}
-use Rattle.usb.specs.Pid.{SETUP, IN, OUT, DATA0, DATA1, SPLIT, MALFORMED}
+use Rattle.usb.specs.Pid.{SETUP, IN, OUT, DATA0, SPLIT, MALFORMED}
 use Rattle.usb.specs.Types.{Start, Control}
-use Rattle.transaction.specs.Payload.{startPid, takesSetup, withSetup, withPayload, extractPayload}
+use Rattle.transaction.specs.Payload.{startPid, takesSetup, yields, withSetup, withPayload, extractPayload}
 use Rattle.transaction.specs.Status.{transactionStatus}
-use Rattle.transaction.specs.Table.{pick, only, _or_}
+use Rattle.transaction.specs.Table.{pick}
 use Rattle.transaction.specs.declared.Judged.{Judged}
 use Rattle.transaction.specs.declared.Status.{Status}
 use Rattle.transaction.specs.declared.Status.the-variants.{New, Continue, Retry, Done, Fail, Ambiguous, Invalid}
@@ -197,7 +197,7 @@ in-unset (Token sc kind pid) q = by (eqb sc Start) (eqb kind Control)
     by true false = refl
     by false b = refl
 
-module _ (pid : ℕ) (p : List ℕ) (w : World) where
+module _ (high : Bool) (pid : ℕ) (p : List ℕ) (w : World) where
   abbrev t : Transaction
   t = w .transaction
 
@@ -205,21 +205,21 @@ module _ (pid : ℕ) (p : List ℕ) (w : World) where
   e = w .endpoints (t .endpoint)
 
   abbrev got : Transaction
-  got = extractPayload t pid (length p) (setupDataOf p)
+  got = extractPayload high t pid (length p) (setupDataOf p)
 
   abbrev with : List ℕ → List ℕ
-  with z = shelfWith (isKept t e pid) e p z
+  with z = shelfWith (isKept high t e pid) e p z
 
   module _ (h g : List ℕ) (k : Kin h g (view w)) where
     with-agree : (at n : ℕ) → Agree at n h g → Agree at n (with h) (with g)
-    with-agree at n a = by (isKept t e pid)
+    with-agree at n a = by (isKept high t e pid)
       where
         by : (b : Bool) → Agree at n (shelfWith b e p h) (shelfWith b e p g)
         by true = laid-agree (e .device * 8192) (e .payload) (payloadOf p) h g (k .still .long) at n a
         by false = a
 
     with-long : length (with h) ≡ length (with g)
-    with-long = by (isKept t e pid)
+    with-long = by (isKept high t e pid)
       where
         by : (b : Bool) → length (shelfWith b e p h) ≡ length (shelfWith b e p g)
         by true = laid-long (e .device * 8192) (e .payload) (payloadOf p) h g (k .still .long)
@@ -250,7 +250,7 @@ module _ (pid : ℕ) (p : List ℕ) (w : World) where
       size : length (payloadOf p) ≡ length p - 3
       size = let a = length-take (length p - 3) (drop 1 p) in let c = length-drop 1 p in omega arith
 
-      kept : (DATA0 or only DATA1) pid ≡ true → isKept t e pid ≡ true
+      kept : yields high pid ≡ true → isKept high t e pid ≡ true
       kept d =
           let o : (eqb pid DATA0 && takesSetup (t .style)) ≡ false = unset (eqb pid DATA0) in
           λ j. (d j && not (o j)) && (not (real j) && l j)
@@ -261,13 +261,13 @@ module _ (pid : ℕ) (p : List ℕ) (w : World) where
 
       bytes : got .filled ≡ true → Agree (e .device * 8192) (min (e .payload + got .payload) 4096) (with h) (with g)
       unfolding extractPayload
-      bytes f = by (eqb pid DATA0 && takesSetup (t .style)) ((DATA0 or only DATA1) pid) (unset (eqb pid DATA0)) refl f
+      bytes f = by (eqb pid DATA0 && takesSetup (t .style)) (yields high pid) (unset (eqb pid DATA0)) refl f
         where
           unset : (c : Bool) → (c && takesSetup (t .style)) ≡ false
           unset true = in-unset (t .style) i
           unset false = refl
 
-          by : (a c : Bool) → a ≡ false → (DATA0 or only DATA1) pid ≡ c → pick a (withSetup t (setupDataOf p)) (pick c (withPayload t (length p - 3)) t) .filled ≡ true
+          by : (a c : Bool) → a ≡ false → yields high pid ≡ c → pick a (withSetup t (setupDataOf p)) (pick c (withPayload t (length p - 3)) t) .filled ≡ true
               → Agree (e .device * 8192) (min (e .payload + pick a (withSetup t (setupDataOf p)) (pick c (withPayload t (length p - 3)) t) .payload) 4096) (with h) (with g)
           by true c z d q = never (sym z)
           by false true z d q =
@@ -280,17 +280,21 @@ module _ (pid : ℕ) (p : List ℕ) (w : World) where
     -- the packet is no payload where it is an IN
     token-filled : pid ≡ IN → got .filled ≡ t .filled
     unfolding extractPayload
-    token-filled q = subst (λ (n : ℕ). pick (eqb n DATA0 && takesSetup (t .style)) (withSetup t (setupDataOf p)) (pick ((DATA0 or only DATA1) n) (withPayload t (length p - 3)) t) .filled ≡ t .filled) (sym q) refl
+    token-filled q = subst (λ (n : ℕ). pick (eqb n DATA0 && takesSetup (t .style)) (withSetup t (setupDataOf p)) (pick (yields high n) (withPayload t (length p - 3)) t) .filled ≡ t .filled) (sym q) (none high)
+      where
+        none : (m : Bool) → pick (yields m IN) (withPayload t (length p - 3)) t .filled ≡ t .filled
+        none true = refl
+        none false = refl
 
     -- a transaction that has its token
     went : (y : Style) → got .style ≡ y → ((b : Bool) → Unfilled y b) → BringsIn (with h) (with g) (w .slot) (plain (withTransaction (withPid pid got) w))
     went y q free = at (w .slot) (k .brings)
       where
         c : got .style ≡ t .style
-        c = extract-keeps t pid (length p) (setupDataOf p) .style
+        c = extract-keeps high t pid (length p) (setupDataOf p) .style
 
         f : got .endpoint ≡ t .endpoint
-        f = extract-keeps t pid (length p) (setupDataOf p) .endpoint
+        f = extract-keeps high t pid (length p) (setupDataOf p) .endpoint
 
         on : Brings h g (plain w) → Brings (with h) (with g) (plain (withTransaction (withPid pid got) w))
         on b =
@@ -310,7 +314,7 @@ module _ (pid : ℕ) (p : List ℕ) (w : World) where
     -- a split's token
     module _ (sc kind : ℕ) (q : got .style ≡ Split sc kind) where
       abbrev laden : World
-      laden = extracted pid p w
+      laden = extracted high pid p w
 
       abbrev spot : ℕ
       spot = endpointOf pid p laden
@@ -322,7 +326,7 @@ module _ (pid : ℕ) (p : List ℕ) (w : World) where
       after = withTransaction (withPid pid (withToken (Token sc kind pid) spot got)) (setEndpointType spot kind (packetEndpoint pid p laden))
 
       nothing : Unfilled (t .style) (t .filled) → t .filled ≡ false
-      nothing u = subst (λ (s : Style). Unfilled s (t .filled)) (sym (extract-keeps t pid (length p) (setupDataOf p) .style) ∙ q) u
+      nothing u = subst (λ (s : Style). Unfilled s (t .filled)) (sym (extract-keeps high t pid (length p) (setupDataOf p) .style) ∙ q) u
 
       token-brings : Brings h g (plain w) → Brings (with h) (with g) (plain after)
       token-brings b =
@@ -340,11 +344,11 @@ module _ (pid : ℕ) (p : List ℕ) (w : World) where
           at Current b = token-brings b
           at Suspended b = token-brings b
 
-    append-kin : Kin (with h) (with g) (view (transactionAppend pid p (extracted pid p w)))
+    append-kin : Kin (with h) (with g) (view (transactionAppend pid p (extracted high pid p w)))
     append-kin = by (got .style) refl
       where
         z : World
-        z = extracted pid p w
+        z = extracted high pid p w
 
         gone : (y : Style) → got .style ≡ y → ((b : Bool) → Unfilled y b) → Kin (with h) (with g) (view (withTransaction (withPid pid got) w))
         gone y q free = record { still = with-transaction (with h) (with g) (withPid pid got) w with-still; brings = went y q free }
@@ -355,15 +359,15 @@ module _ (pid : ℕ) (p : List ℕ) (w : World) where
         by (Split sc kind) q = token-kin sc kind q
         by (Token sc kind first) q = gone (Token sc kind first) q (λ b. tt)
 
-append-beside : (pid : ℕ) (p : List ℕ) (w v : World) → Beside Kin w v → Beside Kin (transactionAppend pid p (extracted pid p w)) (transactionAppend pid p (extracted pid p v))
-append-beside pid p w v b =
-    subst (λ (y : World). Beside Kin (transactionAppend pid p (extracted pid p w)) (transactionAppend pid p (extracted pid p y))) (sym (b .other))
+append-beside : (high : Bool) (pid : ℕ) (p : List ℕ) (w v : World) → Beside Kin w v → Beside Kin (transactionAppend pid p (extracted high pid p w)) (transactionAppend pid p (extracted high pid p v))
+append-beside high pid p w v b =
+    subst (λ (y : World). Beside Kin (transactionAppend pid p (extracted high pid p w)) (transactionAppend pid p (extracted high pid p y))) (sym (b .other))
     (record {
-      h = with pid p w (b .h);
-      g = with pid p w (b .g);
-      mine = blind-shelf (transactionAppend pid p) (append-blind pid p) (extracted pid p w) ∙ ap (with pid p w) (b .mine);
-      other = append-blind pid p (with pid p w (b .g)) (extracted pid p w);
-      holds = append-kin pid p w (b .h) (b .g) (b .holds);
+      h = with high pid p w (b .h);
+      g = with high pid p w (b .g);
+      mine = blind-shelf (transactionAppend pid p) (append-blind pid p) (extracted high pid p w) ∙ ap (with high pid p w) (b .mine);
+      other = append-blind pid p (with high pid p w (b .g)) (extracted high pid p w);
+      holds = append-kin high pid p w (b .h) (b .g) (b .holds);
     })
 
 -- ---- transaction_update
@@ -374,17 +378,17 @@ linked-beside w v b = blindly Kin Kin groupEarlyAppend early-append-blind (λ h 
 start-beside : (id pid : ℕ) (p : List ℕ) (w v : World) → Beside Still w v → Beside Kin (transactionStart id pid p w) (transactionStart id pid p v)
 start-beside id pid p w v b = blindly Still Kin (transactionStart id pid p) (start-blind id pid p) (λ h g z s. start-kin h g id pid p z s) w v b
 
-module _ (pid : ℕ) (p : List ℕ) (id : ℕ) (c : Bool) (w v : World) (b : Beside Kin w v) where
-  update-kin : (s : Status) → Beside Kin (updateAt s id pid p c w) (updateAt s id pid p c v)
+module _ (high : Bool) (pid : ℕ) (p : List ℕ) (id : ℕ) (c : Bool) (w v : World) (b : Beside Kin w v) where
+  update-kin : (s : Status) → Beside Kin (updateAt high s id pid p c w) (updateAt high s id pid p c v)
   update-kin New =
-      let b1 = blindly Kin Still (brought pid p) (λ g z. refl) (λ h g z k. with-transaction h g (extractPayload (z .transaction) pid (length p) (setupDataOf p)) z (k .still)) w v b in
-      let b2 = end-still false (brought pid p w) (brought pid p v) b1 in
+      let b1 = blindly Kin Still (brought high pid p) (λ g z. refl) (λ h g z k. with-transaction h g (extractPayload high (z .transaction) pid (length p) (setupDataOf p)) z (k .still)) w v b in
+      let b2 = end-still false (brought high pid p w) (brought high pid p v) b1 in
       linked-beside _ _ (start-beside id pid p _ _ b2)
-  update-kin Continue = linked-beside _ _ (append-beside pid p w v b)
-  update-kin Retry = end-kin true c _ _ (append-beside pid p w v b)
-  update-kin Done = end-kin true c _ _ (append-beside pid p w v b)
-  update-kin Fail = end-kin false c _ _ (append-beside pid p w v b)
-  update-kin Ambiguous = append-beside pid p w v b
+  update-kin Continue = linked-beside _ _ (append-beside high pid p w v b)
+  update-kin Retry = end-kin true c _ _ (append-beside high pid p w v b)
+  update-kin Done = end-kin true c _ _ (append-beside high pid p w v b)
+  update-kin Fail = end-kin false c _ _ (append-beside high pid p w v b)
+  update-kin Ambiguous = append-beside high pid p w v b
   update-kin Invalid = end-kin false false _ _ (start-beside id pid p w v (weaker Kin Still (λ h g z y. y .still) b))
 
 resume-kin : (h g : List ℕ) (s : Slot) (id : ℕ) (w : World) → w .slot ≡ s → Kin h g (view w) → Kin h g (view (resumeAt s id w))
@@ -401,9 +405,9 @@ resume-kin h g Suspended id w q k =
 
 -- ---- the packet
 
-pub packet-beside : (p : List ℕ) (time : ℕ) (w : World) (h g : List ℕ) → Kin h g (view w) → Beside Kin (handleRawPacket p time (withShelf h w)) (handleRawPacket p time (withShelf g w))
+pub packet-beside : (high : Bool) (p : List ℕ) (time : ℕ) (w : World) (h g : List ℕ) → Kin h g (view w) → Beside Kin (handleRawPacket high p time (withShelf h w)) (handleRawPacket high p time (withShelf g w))
 unfolding handleRawPacket transactionUpdate
-packet-beside p time w h g k = by (isDropped (w .slot) (w .transaction))
+packet-beside high p time w h g k = by (isDropped (w .slot) (w .transaction))
   where
     logged : World → World
     logged z = pushPacket (w .bytes) time (appendBytes p (withEventState Idle (stamped time (reasonOf p) z)))
@@ -424,10 +428,10 @@ packet-beside p time w h g k = by (isDropped (w .slot) (w .transaction))
     r = record { h = h; g = g; mine = blind-shelf (resumeAt (w .slot) id) (resume-blind (w .slot) id) a; other = resume-blind (w .slot) id g a; holds = resume-kin h g (w .slot) id a refl k }
 
     j : Judged
-    j = transactionStatus (stateAt (u1 .slot) (u1 .transaction)) p
+    j = transactionStatus high (stateAt (u1 .slot) (u1 .transaction)) p
 
-    by : (d : Bool) → Beside Kin (pick d (withSlot Empty a) (updateFrom id p u1)) (pick d (withSlot Empty c) (updateFrom id p (resumeAt (w .slot) id c)))
+    by : (d : Bool) → Beside Kin (pick d (withSlot Empty a) (updateFrom high id p u1)) (pick d (withSlot Empty c) (updateFrom high id p (resumeAt (w .slot) id c)))
     by true = emptied (record { h = h; g = g; mine = refl; other = refl; holds = k .still })
     by false =
-        subst (λ (y : World). Beside Kin (updateFrom id p u1) (updateFrom id p y)) (sym (r .other))
-        (update-kin (j .pid) p id (completes (stateAt (u1 .slot) (u1 .transaction) .style) (j .status)) u1 (withShelf (r .g) u1) (record { h = r .h; g = r .g; mine = r .mine; other = refl; holds = r .holds }) (j .status))
+        subst (λ (y : World). Beside Kin (updateFrom high id p u1) (updateFrom high id p y)) (sym (r .other))
+        (update-kin high (j .pid) p id (completes (stateAt (u1 .slot) (u1 .transaction) .style) (j .status)) u1 (withShelf (r .g) u1) (record { h = r .h; g = r .g; mine = r .mine; other = refl; holds = r .holds }) (j .status))

@@ -2,6 +2,7 @@
 -- shelf that the packet before it left: whatever the shelf held at first, the answers are the same, and so is the state that is left, which is the record, the devices with their details, the
 -- endpoint table and every byte of every log. proofs/Unread.antt proves it.
 use Prim.Native.Nat.{ℕ}
+use mathlib.Core.Bool.{Bool}
 use mathlib.Core.List.{List, [], _∷_}
 use mathlib.Core.Path.{_≡_}
 use lib.ListN.{length}
@@ -32,10 +33,10 @@ pub data Calls : List Ask → State → List ℕ → List ℕ → State → List
   none : {s : State} {h : List ℕ} → Calls [] s h [] s h
   next : {ks : List Ask} {s s₁ s₂ : State} {h h₁ h₂ answers : List ℕ} (k : Ask) (a : ℕ) → Does k s h a s₁ h₁ → Calls ks s₁ h₁ answers s₂ h₂ → Calls (k ∷ ks) s h (a ∷ answers) s₂ h₂
 
--- a fresh decoder answered 0, on any 64 devices, any table of 2,704 words and any logs; and two shelves of one length, that hold anything
+-- a fresh decoder answered 0, in either mode, on any 64 devices, any table of 2,704 words and any logs; and two shelves of one length, that hold anything
 abbrev pub Unread : Type 0
 Unread =
-    (v : List Device) (t : List ℕ) (l : Logs) (s : State) → length v ≡ 64 → length t ≡ word.table → Makes v t l 0 s
+    (high : Bool) (v : List Device) (t : List ℕ) (l : Logs) (s : State) → length v ≡ 64 → length t ≡ word.table → Makes high v t l 0 s
     → (ks : List Ask) (h g : List ℕ) → length h ≡ length g
     → (one other : List ℕ) (s′ s″ : State) (h′ g′ : List ℕ)
     → Calls ks s h one s′ h′

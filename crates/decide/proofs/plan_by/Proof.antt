@@ -31,7 +31,7 @@ returns : tie.Need-returns
 returns c v seen =
     let p = returns·Start c in
     let s = p .args in
-    planned (s .j) (s .x0) (entryThen (s .d .slot) (s .stored)) (s .t) (s .packet .now) (worldOf (s .d) v (s .table .now)) (p .pre .0 .three) (stored-words p) (p .pre .1 .0)
+    planned (s .d .high) (s .j) (s .x0) (entryThen (s .d .slot) (s .stored)) (s .t) (s .packet .now) (worldOf (s .d) v (s .table .now)) (p .pre .0 .three) (stored-words p) (p .pre .1 .0)
     (resumed (returns·link-entry c))
     (returns·setup-of c .setup-of .ensures)
     (returns·extract-payload c .extract-payload .ensures)

@@ -56,7 +56,7 @@ show-requires : tie.Need-show-requires
 show-requires c κs = show-requires·Start c .pre
 
 same-length-2 : tie.Need-same-length-2
-same-length-2 c = returns-2·show c .show .kept .1 .1 .1 .1 .1 .1 .1 .1 .1 .1 .1 .1 .1 .1 .1 .0
+same-length-2 c = returns-2·show c .show .kept .1 .1 .1 .1 .1 .1 .1 .1 .1 .1 .1 .1 .1 .1 .1 .1 .0
 
 returns-2 : tie.Need-returns-2
 returns-2 c = printed (returns-2·Else1 c .if1 .left) (returns-2·show c .show .ensures)

@@ -19,7 +19,7 @@ returns : tie.Need-returns
 returns c = simp (c .before .enum-told .given .1) (c .start-status .ensures)
 
 returns-2 : tie.Need-returns-2
-returns-2 c = simp (c .before .before .style .given .1) (c .simple-status .ensures)
+returns-2 c = simp (c .before .before .style .given .1) (c .status-in .ensures)
 
 returns-3 : tie.Need-returns-3
 returns-3 c = simp (c .before .before .style2 .given .1) (c .split-status .ensures)

@@ -7,6 +7,7 @@ use std::process::ExitCode;
 
 use oracle::decoder::machine::{State, group_status_words};
 use oracle::generate::Random;
+use oracle::mode::{High, Mode, Plain};
 use oracle::packets::{data, handshake, sof, split, token};
 use oracle::program::Program;
 use oracle::usb::PID::{self, *};
@@ -184,23 +185,39 @@ const USAGE: &str = "usage: compare COMMAND
   table N SEED [PROGRAM]  the same, with a table of how often each case of decoder.rs was met
   inputs N SEED [PROGRAM] N inputs to the program, most of them damaged
   blocks N SEED           N traces in blocks through the library: what each block answers, all rows and bytes (feature `blocks`)
-PROGRAM is the program `listing` (target/bin/listing)";
+PROGRAM is the program `listing` (target/bin/listing)
+With --high behind traces, table or blocks the library and the program are compared in the mode of change request 6";
+
+/// Whole traces in a mode.
+fn traces<D: Mode>(table: bool, n: u64, seed: u64, rest: &[&str]) -> Result<bool, String> {
+    let mut program = Program::new(rest.first().unwrap_or(&LISTING), D::HIGH)?;
+    let tally = compare::traces::<D>(&mut Library::new(D::HIGH), &mut program, n, seed);
+    Ok(report::traces(&tally, table))
+}
+
+#[cfg(feature = "blocks")]
+fn blocks<D: Mode>(n: u64, seed: u64) -> bool {
+    report::blocks(&oracle::blocks::blocks::<D>(&mut Library::new(D::HIGH), n, seed))
+}
 
 fn run(words: &[&str]) -> Result<bool, String> {
     match *words {
         ["packets", n] => Ok(packets(number(n)?)),
         ["groups", n] => Ok(groups(number(n)?)),
+        [command @ ("traces" | "table"), "--high", n, seed, ref rest @ ..] if rest.len() < 2 => {
+            traces::<High>(command == "table", number(n)?, number(seed)?, rest)
+        }
         [command @ ("traces" | "table"), n, seed, ref rest @ ..] if rest.len() < 2 => {
-            let mut program = Program::new(rest.first().unwrap_or(&LISTING))?;
-            let tally = compare::traces(&mut Library::default(), &mut program, number(n)?, number(seed)?);
-            Ok(report::traces(&tally, command == "table"))
+            traces::<Plain>(command == "table", number(n)?, number(seed)?, rest)
         }
         ["inputs", n, seed, ref rest @ ..] if rest.len() < 2 => {
-            let mut program = Program::new(rest.first().unwrap_or(&LISTING))?;
+            let mut program = Program::new(rest.first().unwrap_or(&LISTING), false)?;
             Ok(report::inputs(&compare::inputs(&mut program, number(n)?, number(seed)?)))
         }
         #[cfg(feature = "blocks")]
-        ["blocks", n, seed] => Ok(report::blocks(&oracle::blocks::blocks(&mut Library::default(), number(n)?, number(seed)?))),
+        ["blocks", n, seed] => Ok(blocks::<Plain>(number(n)?, number(seed)?)),
+        #[cfg(feature = "blocks")]
+        ["blocks", "--high", n, seed] => Ok(blocks::<High>(number(n)?, number(seed)?)),
         _ => Err(USAGE.to_string()),
     }
 }

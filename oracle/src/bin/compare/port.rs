@@ -145,19 +145,24 @@ impl Logs {
     }
 }
 
-/// The library; each call has other words in the logs before.
-#[derive(Default)]
+/// The library, in a mode; each call has other words in the logs before.
 pub struct Library {
+    high: bool,
     turn: u64,
 }
 
 impl Library {
+    /// With a fresh decoder in the mode of change request 6 for each run, or without it.
+    pub fn new(high: bool) -> Library {
+        Library { high, turn: 0 }
+    }
+
     fn once(&mut self, trace: &[u8], room: &Rows, shelf: &[u8], words: usize) -> (Logs, (u8, u64), Vec<u64>) {
         self.turn += 1;
         let mut logs = Logs::new(room, shelf, self.turn);
         let mut counts = vec![u64::MAX; words];
         // `lend` has what the entry asks for.
-        let told = logs.lend(|lent| unsafe { library::trace(trace, lent, &mut counts) });
+        let told = logs.lend(|lent| unsafe { library::trace(self.high, trace, lent, &mut counts) });
         (logs, told, counts)
     }
 }
@@ -188,7 +193,7 @@ impl Library {
         let mut logs = Logs::new(room, shelf, self.turn);
         let (mut out, mut counts) = (vec![u64::MAX; words], [u64::MAX; 12]);
         // `lend` has what the entry asks for.
-        let told = logs.lend(|lent| unsafe { library::blocks(input, lent, &mut out, &mut counts) });
+        let told = logs.lend(|lent| unsafe { library::blocks(self.high, input, lent, &mut out, &mut counts) });
         (logs, told, out, counts)
     }
 }

@@ -83,7 +83,7 @@ impl Logs {
     pub fn run(&mut self, trace: &[u8]) -> Result<Rows, String> {
         let (lent, mut rows) = (self.lend(), Rows([0; 12]));
         // The pages are this struct's own, zeros at first, and have the lengths that are told.
-        match unsafe { library::trace(trace, &lent, &mut rows.0) } {
+        match unsafe { library::trace(false, trace, &lent, &mut rows.0) } {
             (0, _) => Ok(rows),
             (answer, at) => Err(format!("the port answers {answer} at {at}")),
         }
@@ -93,7 +93,7 @@ impl Logs {
     pub fn run_one_by_one(&mut self, input: &Input) -> Result<Rows, String> {
         let (lent, mut rows) = (self.lend(), Rows([0; 12]));
         // Likewise; with no words for what the blocks give back, none are stored.
-        match unsafe { library::blocks(input, &lent, &mut [], &mut rows.0) } {
+        match unsafe { library::blocks(false, input, &lent, &mut [], &mut rows.0) } {
             (0, blocks) if blocks == input.cuts.len() as u64 + 1 => Ok(rows),
             (answer, blocks) => Err(format!("the port makes a decoder with {answer}, and {blocks} blocks")),
         }

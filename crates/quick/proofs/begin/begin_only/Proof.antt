@@ -36,7 +36,7 @@ returns c =
     let p = returns·put-packet c .put-packet .ensures in
     let d = s .args .d in
     let counts = returns·more-rows c .more-rows .ensures ∙ λ i. moreRows (returns·flag-word c .flag-word .ensures i) (returns·flag-word2 c .flag-word2 .ensures i) (length (s .args .packet .now)) (d .counts) in (
-      λ i. record { counts = counts i; slot = Current; transaction = l .0 i; last = d .last; event = Idle; keepalive = d .keepalive; waiting = d .waiting; finished = d .finished; time = s .args .time },
+      λ i. record { counts = counts i; slot = Current; transaction = l .0 i; last = d .last; event = Idle; keepalive = d .keepalive; waiting = d .waiting; finished = d .finished; high = d .high; time = s .args .time },
       (l .1 .0, (p .0, (p .1, (returns·put-transaction c .put-transaction .ensures ∙ ap (λ (x : Stamp). sets (s .args .transactions .now) (s .args .held .transactions * transactionWidth) (opt (s .args .row) (transactionWords (naming (x .packet) (x .reason))))) (returns·stamp-of c .stamp-of .ensures), l .1 .1)))),
     )
 

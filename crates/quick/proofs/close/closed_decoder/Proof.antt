@@ -10,7 +10,7 @@ use Places.*
 returns : tie.Need-returns
 returns c =
     let a = returns·Start c .args in
-    λ i. record { counts = returns·add-counts c .add-counts .ensures i; slot = Empty; transaction = returns·tie c .tie .ensures i; last = a .h .written .last; event = Idle; keepalive = a .d .keepalive; waiting = a .tally .waiting; finished = a .d .finished; time = a .h .written .stamp .time }
+    λ i. record { counts = returns·add-counts c .add-counts .ensures i; slot = Empty; transaction = returns·tie c .tie .ensures i; last = a .h .written .last; event = Idle; keepalive = a .d .keepalive; waiting = a .tally .waiting; finished = a .d .finished; high = a .d .high; time = a .h .written .stamp .time }
 
 pub closed-decoder-spec : {M : Type 1} → statement M
 closed-decoder-spec = tie.close (tie.spec (λ c κs. tt) (λ c κs. add-counts-requires·Start c .pre) returns)

@@ -83,7 +83,7 @@ returns c =
     let x = a .t .endpoint in
     let f = a .end .effect in
     let counts = returns·more-rows c .more-rows .ensures ∙ ap (λ (k : ℕ). moreRows 0 k (length (a .packet .now)) (d .counts)) (returns·link-rows c .link-rows .ensures) in (
-      λ i. record { counts = counts i; slot = Empty; transaction = l .0 i; last = d .last; event = Idle; keepalive = d .keepalive; waiting = d .waiting; finished = d .finished; time = s .args .time },
+      λ i. record { counts = counts i; slot = Empty; transaction = l .0 i; last = d .last; event = Idle; keepalive = d .keepalive; waiting = d .waiting; finished = d .finished; high = d .high; time = s .args .time },
       (
         returns·store c .store .ensures ∙ (ap (storeAt (a .table .now) x) (returns·entry-effect c .entry-effect .ensures) ∙ λ i. storeAt (a .table .now) x (effectEntry f (e i) (l .0 i .link))),
         (

@@ -8,7 +8,7 @@ mod Places
 use Places.*
 
 returns : tie.Need-returns
-returns c = let t = returns·Start c .args .t in c .is-kept .ensures ∙ ap (λ (e : Endpoint). isKept t e (t .last)) (returns·load c .load .ensures)
+returns c = let a = returns·Start c .args in let t = a .t in c .is-kept .ensures ∙ ap (λ (e : Endpoint). isKept (a .high) t e (t .last)) (returns·load c .load .ensures)
 
 pub lays-spec : {M : Type 1} → statement M
 lays-spec = tie.close (tie.spec (λ c κs. load-requires·Start c .pre) (λ c κs. tt) returns)

@@ -16,10 +16,10 @@ mod Places
 use Places.*
 
 returns : tie.Need-returns
-returns c v s = let a = returns·Start c .args in subst (λ (q : Shape). Shaped q (planOf (a .packet .now) (worldOf (a .d) v (a .table .now))) (worldOf (a .d) v (a .table .now))) (sym (c .no-shape .ensures)) (not-shaped _ _ _)
+returns c v s = let a = returns·Start c .args in subst (λ (q : Shape). Shaped (a .d .high) q (planOf (a .d .high) (a .packet .now) (worldOf (a .d) v (a .table .now))) (worldOf (a .d) v (a .table .now))) (sym (c .no-shape .ensures)) (not-shaped _ _ _ _)
 
 returns-2 : tie.Need-returns-2
-returns-2 c v s = let a = returns-2·Start c .args in subst (λ (q : Shape). Shaped q (planOf (a .packet .now) (worldOf (a .d) v (a .table .now))) (worldOf (a .d) v (a .table .now))) (sym (c .no-shape2 .ensures)) (not-shaped _ _ _)
+returns-2 c v s = let a = returns-2·Start c .args in subst (λ (q : Shape). Shaped (a .d .high) q (planOf (a .d .high) (a .packet .now) (worldOf (a .d) v (a .table .now))) (worldOf (a .d) v (a .table .now))) (sym (c .no-shape2 .ensures)) (not-shaped _ _ _ _)
 
 load-requires : tie.Need-load-requires
 load-requires c κs =
@@ -28,7 +28,7 @@ load-requires c κs =
     omega (arith, h, s .pre .0 .endpoints)
 
 returns-3 : tie.Need-returns-3
-returns-3 c v s = let a = returns-3·Start c .args in subst (λ (q : Shape). Shaped q (planOf (a .packet .now) (worldOf (a .d) v (a .table .now))) (worldOf (a .d) v (a .table .now))) (sym (c .no-shape3 .ensures)) (not-shaped _ _ _)
+returns-3 c v s = let a = returns-3·Start c .args in subst (λ (q : Shape). Shaped (a .d .high) q (planOf (a .d .high) (a .packet .now) (worldOf (a .d) v (a .table .now))) (worldOf (a .d) v (a .table .now))) (sym (c .no-shape3 .ensures)) (not-shaped _ _ _ _)
 
 returns-4 : tie.Need-returns-4
 returns-4 c =

@@ -25,7 +25,7 @@ space c = roomy (lent (Else1·Start c)) (sym (verdict (Else1·fresh-answer c)) �
 returns : tie.Need-returns
 returns c =
     let s = returns·Start c in
-    refuses (s .args .devices) (s .args .table .now) (lent s) _ (verdict (returns·fresh-answer c)) (returns·Then1 c .if1 .taken) (c .refused-decoder .ensures)
+    refuses (s .args .high) (s .args .devices) (s .args .table .now) (lent s) _ (verdict (returns·fresh-answer c)) (returns·Then1 c .if1 .taken) (c .refused-decoder .ensures)
 
 put-device-requires : tie.Need-put-device-requires
 put-device-requires c κs = space (put-device-requires·Else1 c) .0
@@ -36,7 +36,7 @@ put-specials-requires c κs = space (put-specials-requires·Else1 c) .1
 returns-2 : tie.Need-returns-2
 returns-2 c =
     let s = returns-2·Start c in
-    makes (s .args .devices) (s .args .table .now) (lent s) _ (verdict (returns-2·fresh-answer c)) (returns-2·Else1 c .if1 .left) (c .fresh-decoder .ensures) (returns-2·fresh-device c .fresh-device .ensures)
+    makes (s .args .high) (s .args .devices) (s .args .table .now) (lent s) _ (verdict (returns-2·fresh-answer c)) (returns-2·Else1 c .if1 .left) (c .fresh-decoder .ensures) (returns-2·fresh-device c .fresh-device .ensures)
     (returns-2·store-specials c .store-specials .ensures)
     (returns-2·put-device c .put-device .ensures)
     (returns-2·put-specials c .put-specials .ensures)

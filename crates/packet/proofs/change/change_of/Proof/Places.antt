@@ -4,17 +4,20 @@ use Rattle.packet.proofs.change.change_of.Tie as tie
 abbrev pub add-behind·Start : tie.After-flag-word → tie.Start
 add-behind·Start c = c .before .before .before .before .before
 
-abbrev pub returns·address-of : tie.After-reading-of → tie.After-address-of
-returns·address-of c = c .before
+abbrev pub returns·Start : tie.After-reading-of → tie.Start
+returns·Start c = c .before .before .before .before .before .before .before .before .before .before
 
-abbrev pub returns·row-if2 : tie.After-reading-of → tie.After-row-if2
-returns·row-if2 c = c .before .before
-
-abbrev pub returns·row-if : tie.After-reading-of → tie.After-row-if
-returns·row-if c = c .before .before .before
+abbrev pub returns·adds-device : tie.After-reading-of → tie.After-adds-device
+returns·adds-device c = c .before .before .before .before .before .before .before
 
 abbrev pub returns·flag-word : tie.After-reading-of → tie.After-flag-word
 returns·flag-word c = c .before .before .before .before .before
 
-abbrev pub returns·adds-device : tie.After-reading-of → tie.After-adds-device
-returns·adds-device c = c .before .before .before .before .before .before .before
+abbrev pub returns·row-if : tie.After-reading-of → tie.After-row-if
+returns·row-if c = c .before .before .before
+
+abbrev pub returns·row-if2 : tie.After-reading-of → tie.After-row-if2
+returns·row-if2 c = c .before .before
+
+abbrev pub returns·address-of : tie.After-reading-of → tie.After-address-of
+returns·address-of c = c .before
