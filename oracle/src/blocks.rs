@@ -4,7 +4,7 @@
 use std::marker::PhantomData;
 
 use crate::calls::{Calls, LOGS, Mechanism, Rows};
-use crate::compare::{Left, Rust, Shelves, difference};
+use crate::compare::{Left, Rust, Shelves, TOLD, difference};
 use crate::damage::made;
 use crate::generate::Random;
 use crate::mode::Mode;
@@ -39,12 +39,17 @@ const DETAIL_BYTES: usize = 7;
 /// A block of records without header, by single calls up to the first answer other than 0 and 8. 12, 13 and 20 come before a record's call, in
 /// this order.
 pub fn block<M: Mechanism>(calls: &mut Calls<M>, clock: Clock, records: &[u8]) -> Block {
+    block_of(false, calls, clock, records)
+}
+
+/// The same where a detail is obeyed, as in a trace, if it is typed.
+pub fn block_of<M: Mechanism>(typed: bool, calls: &mut Calls<M>, clock: Clock, records: &[u8]) -> Block {
     let mut reader = Reader::records(records);
     let mut block = Block { answer: 0, taken: 0, eights: 0, place: 0, clock };
     while let Some(record) = reader.next() {
         let mut clock = block.clock;
         let answer = match record {
-            Ok(Record::Detail { .. }) => DETAIL,
+            Ok(Record::Detail { .. }) if !typed => DETAIL,
             Ok(record) => call(calls, &mut clock, &record),
             Err(refused) => refused.answer,
         };
@@ -244,9 +249,6 @@ pub struct Tally<D: Mode> {
 /// Where in its block a detail stands that is refused.
 pub const DETAILS: [&str; 4] =
     ["the first record of a block", "behind other records", "the last record of a block", "cut by the block before"];
-
-/// Where no more differences are told.
-const TOLD: u64 = 20;
 
 impl<D: Mode> Tally<D> {
     fn run(&mut self, port: &mut dyn Blocks, input: &Input, room: &Rows, what: &str) -> Taken {

@@ -5,7 +5,7 @@
 use std::cell::Ref;
 use std::sync::Arc;
 
-use crate::capture::{CaptureWriter, DeviceData, Met, Request};
+use crate::capture::{CaptureWriter, DeviceData, Endpoint, GroupIndexEntry, Met, Request};
 use crate::crates::Error;
 use crate::descriptors::{Descriptors, PART};
 use crate::event::{EventType, LineState};
@@ -149,7 +149,7 @@ impl Rows {
     }
 
     /// Room past 64 devices and 128 endpoints is not used.
-    fn used(&self) -> Rows {
+    pub fn used(&self) -> Rows {
         let mut rows = *self;
         rows.0[DEVICES] = rows.0[DEVICES].min(64);
         rows.0[ENDPOINTS] = rows.0[ENDPOINTS].min(128);
@@ -177,36 +177,44 @@ pub fn count(capture: &CaptureWriter) -> Rows {
 
 /// The words of one log as the Rust has them: a transaction row is its packet, a group row its endpoint, its number there and whether it starts.
 pub fn rust_words(c: &CaptureWriter, log: usize) -> Vec<u64> {
-    let links = |mark: &Mark| match *mark {
-        Mark::T(x, transaction) => vec![0, x, transaction, 0],
-        Mark::G(x, transaction) => vec![1, x, transaction, 0],
-        Mark::D(x, transaction, total) => vec![2, x, transaction, total],
-        Mark::E(x, item) => vec![3, x, item, 0],
-        Mark::Packet | Mark::Group(..) | Mark::Item(_) => vec![],
+    rust_words_from(c, log, 0)
+}
+
+/// Those of its rows from one on, where no trail is kept.
+fn rust_words_from(c: &CaptureWriter, log: usize, from: usize) -> Vec<u64> {
+    let link = |mark: &Mark| match *mark {
+        Mark::T(x, transaction) => Some([0, x, transaction, 0]),
+        Mark::G(x, transaction) => Some([1, x, transaction, 0]),
+        Mark::D(x, transaction, total) => Some([2, x, transaction, total]),
+        Mark::E(x, item) => Some([3, x, item, 0]),
+        Mark::Packet | Mark::Group(..) | Mark::Item(_) => None,
     };
-    let starts = c.packet_index.stream.rows.iter();
+    let zip = |a: &[u64], b: &[u64]| a.iter().zip(b).flat_map(|(a, b)| [*a, *b]).collect();
     match log {
-        BYTES => c.packet_data.rows.iter().map(|b| *b as u64).collect(),
-        DEVICES => c.devices.rows.iter().map(|d| d.address.0 as u64).collect(),
+        BYTES => c.packet_data.rows[from..].iter().map(|b| *b as u64).collect(),
+        DEVICES => c.devices.rows[from..].iter().map(|d| d.address.0 as u64).collect(),
         ENDPOINTS => {
-            c.endpoints.rows.iter().flat_map(|e| [e.device_id().value, e.number().0 as u64, e.direction() as u64]).collect()
+            let row = |e: &Endpoint| [e.device_id().value, e.number().0 as u64, e.direction() as u64];
+            c.endpoints.rows[from..].iter().flat_map(row).collect()
         }
-        PACKETS => starts.zip(&c.packet_times.stream.rows).flat_map(|(start, time)| [*start, *time]).collect(),
+        PACKETS => zip(&c.packet_index.stream.rows[from..], &c.packet_times.stream.rows[from..]),
         EVENTS => {
-            c.event_index.stream.rows.iter().zip(&c.event_codes.rows).flat_map(|(packet, code)| [*packet, *code as u64]).collect()
+            let codes: Vec<u64> = c.event_codes.rows[from..].iter().map(|code| *code as u64).collect();
+            zip(&c.event_index.stream.rows[from..], &codes)
         }
-        TRANSACTIONS => c.transaction_index.stream.rows.to_vec(),
+        TRANSACTIONS => c.transaction_index.stream.rows[from..].to_vec(),
         GROUPS => {
-            c.group_index.rows.iter().flat_map(|g| [g.endpoint_id().value, g.group_id().value, g.is_start() as u64]).collect()
+            let row = |g: &GroupIndexEntry| [g.endpoint_id().value, g.group_id().value, g.is_start() as u64];
+            c.group_index.rows[from..].iter().flat_map(row).collect()
         }
-        STATE_BYTES => c.endpoint_states.rows.iter().map(|s| *s as u64).collect(),
-        STATES => c.endpoint_state_index.stream.rows.to_vec(),
-        ITEMS => c.item_index.stream.rows.to_vec(),
-        LINKS => c.counters.journal.borrow().marks.iter().flat_map(links).collect(),
+        STATE_BYTES => c.endpoint_states.rows[from..].iter().map(|s| *s as u64).collect(),
+        STATES => c.endpoint_state_index.stream.rows[from..].to_vec(),
+        ITEMS => c.item_index.stream.rows[from..].to_vec(),
+        LINKS => c.counters.journal.borrow().marks[from..].iter().filter_map(link).flatten().collect(),
         _ => {
             let row = |r: &Request| [r.endpoint, u64::from_le_bytes(r.setup), r.length, r.note];
             let width = c.shared.requests.descriptors.request_words();
-            c.shared.requests.rows.borrow().iter().flat_map(|r| row(r).into_iter().take(width)).collect()
+            c.shared.requests.rows.borrow()[from..].iter().flat_map(|r| row(r).into_iter().take(width)).collect()
         }
     }
 }
@@ -221,6 +229,8 @@ pub const ERRED: u8 = 255;
 pub struct Calls<M: Mechanism> {
     pub machine: M,
     room: Rows,
+    /// The logs that are lent now are too long, or shorter than their rows.
+    unfit: bool,
     /// The answer to making it, and whether it has finished.
     pub fresh: u8,
     finished: bool,
@@ -259,7 +269,19 @@ impl<M: Mechanism> Calls<M> {
             0
         };
         let (room, careful) = (room.used(), total > 0);
-        Calls { machine, room, fresh, finished: false, total, careful, packets: 0, time: 0, stamps: Vec::new(), unfinished: 0 }
+        Calls {
+            machine,
+            room,
+            unfit: false,
+            fresh,
+            finished: false,
+            total,
+            careful,
+            packets: 0,
+            time: 0,
+            stamps: Vec::new(),
+            unfinished: 0,
+        }
     }
 
     pub fn finished(&self) -> bool {
@@ -277,10 +299,15 @@ impl<M: Mechanism> Calls<M> {
 
     /// The words of one log: the Rust's, and what change requests add to its rows.
     pub fn log_words(&self, log: usize) -> Vec<u64> {
-        let rust = rust_words(self.machine.capture(), log);
+        self.log_words_from(log, 0)
+    }
+
+    /// Those of its rows from one on, where no trail is kept.
+    pub fn log_words_from(&self, log: usize, from: usize) -> Vec<u64> {
+        let rust = rust_words_from(self.machine.capture(), log, from);
         match log {
             TRANSACTIONS => rust.into_iter().flat_map(|packet| [packet, self.reason(packet)]).collect(),
-            GROUPS => rust.chunks(3).zip(&self.stamps).flat_map(|(row, s)| [row, &[s.packet, s.time]].concat()).collect(),
+            GROUPS => rust.chunks(3).zip(&self.stamps[from..]).flat_map(|(row, s)| [row, &[s.packet, s.time]].concat()).collect(),
             _ => rust,
         }
     }
@@ -324,9 +351,31 @@ impl<M: Mechanism> Calls<M> {
         })
     }
 
+    /// The logs have other room from here on.
+    pub fn lend(&mut self, room: Rows) {
+        self.unfit = !room.within(&Rows::LARGEST) || !self.rows().within(&room.used());
+        self.room = room.used();
+    }
+
+    /// A trial of answer 9: the totals of the endpoints from a number on. From then on every call is run on a copy.
+    pub fn start_totals(&mut self, from: u64, total: u64) {
+        self.machine.start_totals(from, total);
+        self.careful = true;
+    }
+
+    /// The rows that a call would leave, were there room; the decoder is as it was.
+    pub fn wanted(&mut self, call: impl FnOnce(&mut M) -> Result<(), Error>) -> Rows {
+        let saved = self.machine.save();
+        let _ = call(&mut self.machine);
+        let rows = self.rows();
+        self.machine.restore(saved);
+        rows
+    }
+
     /// Answers 1 and 2, which every call tests first.
     fn refused(&self) -> Option<u8> {
         match (self.fresh, self.finished) {
+            _ if self.unfit => Some(1),
             (0, false) => None,
             (0, true) => Some(2),
             _ => Some(1),

@@ -165,7 +165,7 @@ pub struct Tally<D: Mode> {
 }
 
 /// Where no more differences are told.
-const TOLD: u64 = 20;
+pub(crate) const TOLD: u64 = 20;
 
 impl<D: Mode> Tally<D> {
     fn differ(&mut self, text: String) {

@@ -19,6 +19,7 @@ pub mod enumerations;
 pub mod generate;
 pub mod ledger;
 pub mod lemmas;
+pub mod lent;
 #[cfg(feature = "port")]
 pub mod library;
 pub mod limits;
@@ -33,6 +34,7 @@ pub mod packets;
 pub mod program;
 pub mod report;
 pub mod selfcheck;
+pub mod singles;
 pub mod storage;
 pub mod trace;
 pub mod traces;

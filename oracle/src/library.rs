@@ -1,110 +1,77 @@
-//! The C entries of the proved port (crates/pivotspark), linked as a static library: `rt staticlib pivotspark` first.
+//! The C entries of the proved port, linked as a static library: `scripts/library` first. Their declarations are generated (scripts/header).
 
-#[cfg(feature = "blocks")]
+#[path = "../../host/src/library.rs"]
+#[rustfmt::skip]
+pub mod entries;
+
 use crate::blocks::Input;
 use crate::decoder::machine::State;
-
-#[link(name = "pivotspark", kind = "static")]
-unsafe extern "C" {
-    /// The PID byte of a valid packet, 256 times the reason of a malformed one. It reads the bytes and nothing else.
-    fn pivotspark_check(packet: *const u8, length: usize) -> u16;
-
-    /// `group_status` in words: reads 23, writes 10.
-    fn pivotspark_group_status(state: *const u64, out: *mut u64);
-}
+use crate::lent::Lent;
+use crate::singles::{Call, RECORD, Told};
 
 /// The port's packet check.
 pub fn check(packet: &[u8]) -> u16 {
-    // The contract demands nothing of the slice.
-    unsafe { pivotspark_check(packet.as_ptr(), packet.len()) }
+    entries::check(packet)
 }
 
 /// The port's `group_status`.
 pub fn group_status(state: &State) -> [u64; 10] {
     let mut out = [0; 10];
-    // The contract demands nothing but the two lengths, which the types have.
-    unsafe { pivotspark_group_status(state.as_ptr(), out.as_mut_ptr()) };
+    entries::group_status(state, &mut out);
     out
 }
 
-/// The words of the endpoint table; the bytes of the shelf are `descriptors::SHELF`.
-pub const TABLE: usize = 2704;
-
-/// A lent log: where it starts, and how many elements it has.
-pub type Slice<T> = (*mut T, usize);
-
-/// What is lent for a call: the table, the shelf, the two logs of bytes, and the logs of words in their order.
-pub struct Lent {
-    pub table: *mut u64,
-    pub shelf: *mut u8,
-    pub bytes: Slice<u8>,
-    pub statebytes: Slice<u8>,
-    pub words: [Slice<u64>; 10],
-}
-
-/// An entry on lent logs: behind what is its own come the table, the logs, the shelf and the counts. It answers an answer in the top byte and a number
-/// below it, which are taken apart.
+/// An entry on lent logs: what is its own, the table and the logs, and what comes behind them.
 macro_rules! entry {
-    ($(#[$on:meta])* $entry:ident($($own:ident: $type:ty),*)) => {
-        $(#[$on])*
-        unsafe fn $entry($($own: $type,)* lent: &Lent, counts: &mut [u64]) -> (u8, u64) {
-            unsafe extern "C" {
-                fn $entry(
-                    $($own: $type,)*
-                    table: *mut u64,
-                    bytes: *mut u8, bytes_len: usize,
-                    device_rows: *mut u64, device_rows_len: usize,
-                    endpoint_rows: *mut u64, endpoint_rows_len: usize,
-                    packets: *mut u64, packets_len: usize,
-                    events: *mut u64, events_len: usize,
-                    transactions: *mut u64, transactions_len: usize,
-                    groups: *mut u64, groups_len: usize,
-                    statebytes: *mut u8, statebytes_len: usize,
-                    states: *mut u64, states_len: usize,
-                    items: *mut u64, items_len: usize,
-                    links: *mut u64, links_len: usize,
-                    requests: *mut u64, requests_len: usize,
-                    shelf: *mut u8,
-                    counts: *mut u64, counts_len: usize,
-                ) -> u64;
-            }
-            let Lent { table, shelf, bytes, statebytes, words: w } = lent;
-            let told = unsafe {
-                $entry(
+    ($entry:ident($($own:ident: $type:ty),*; $($behind:ident: $last:ty),*) -> $result:ty) => {
+        unsafe fn $entry($($own: $type,)* lent: &Lent, $($behind: $last),*) -> $result {
+            let Lent { table, bytes, statebytes, words: w, .. } = lent;
+            unsafe {
+                entries::entry::$entry(
                     $($own,)*
                     *table,
                     bytes.0, bytes.1,
                     w[0].0, w[0].1, w[1].0, w[1].1, w[2].0, w[2].1, w[3].0, w[3].1, w[4].0, w[4].1, w[5].0, w[5].1,
                     statebytes.0, statebytes.1,
                     w[6].0, w[6].1, w[7].0, w[7].1, w[8].0, w[8].1, w[9].0, w[9].1,
-                    *shelf,
-                    counts.as_mut_ptr(), counts.len(),
+                    $($behind),*
                 )
-            };
-            ((told >> 56) as u8, told & ((1 << 56) - 1))
+            }
         }
     };
 }
 
-entry!(pivotspark_trace(high: u8, trace: *const u8, trace_len: usize));
+/// An answer in the top byte and a number below it.
+fn told(word: u64) -> (u8, u64) {
+    ((word >> 56) as u8, word & ((1 << 56) - 1))
+}
+
+entry!(
+    pivotspark_trace(
+        high: u8, trace: *const u8, trace_len: usize;
+        shelf: *mut u8, counts: *mut u64, counts_len: usize
+    ) -> u64
+);
 
 /// A whole trace by the port, its decoder fresh in the mode of change request 6 or not: the answer and the offset.
 ///
 /// # Safety
 /// Each log, the table and the shelf have as many elements as is said, are initialised, and nobody else uses them during the call.
 pub unsafe fn trace(high: bool, trace: &[u8], lent: &Lent, counts: &mut [u64]) -> (u8, u64) {
-    unsafe { pivotspark_trace(high as u8, trace.as_ptr(), trace.len(), lent, counts) }
+    told(unsafe {
+        pivotspark_trace(high as u8, trace.as_ptr(), trace.len(), lent, lent.shelf, counts.as_mut_ptr(), counts.len())
+    })
 }
 
 entry!(
-    #[cfg(feature = "blocks")]
     pivotspark_blocks(
         high: u8,
         records: *const u8, records_len: usize,
         last: u32, time: u64,
         cuts: *const u64, cuts_len: usize,
-        out: *mut u64, out_len: usize
-    )
+        out: *mut u64, out_len: usize;
+        shelf: *mut u8, counts: *mut u64, counts_len: usize
+    ) -> u64
 );
 
 /// Records without header in blocks, as `blocks::Blocks` says: the answer of fresh and the number of blocks that were called. The tick state before
@@ -113,18 +80,70 @@ entry!(
 ///
 /// # Safety
 /// As for `trace`.
-#[cfg(feature = "blocks")]
 pub unsafe fn blocks(high: bool, input: &Input, lent: &Lent, out: &mut [u64], counts: &mut [u64]) -> (u8, u64) {
     let (last, time) = input.clock.state();
     let (records, cuts) = (input.records, &input.cuts);
-    unsafe {
+    told(unsafe {
         pivotspark_blocks(
             high as u8,
-            records.as_ptr(), records.len(),
-            last, time,
-            cuts.as_ptr(), cuts.len(),
-            out.as_mut_ptr(), out.len(),
-            lent, counts,
+            records.as_ptr(),
+            records.len(),
+            last,
+            time,
+            cuts.as_ptr(),
+            cuts.len(),
+            out.as_mut_ptr(),
+            out.len(),
+            lent,
+            lent.shelf,
+            counts.as_mut_ptr(),
+            counts.len(),
         )
+    })
+}
+
+mod single {
+    use super::*;
+
+    entry!(pivotspark_fresh(mode: u8, record: *mut u64;) -> u8);
+    entry!(pivotspark_packet(record: *mut u64, packet: *const u8, packet_len: usize, time: u64; shelf: *mut u8) -> u8);
+    entry!(pivotspark_event(record: *mut u64, kind: u8, code: u8, time: u64;) -> u8);
+    entry!(pivotspark_finish(record: *mut u64;) -> u8);
+    entry!(
+        pivotspark_block(
+            typed: u8, record: *mut u64, clock: *mut u64, records: *const u8, records_len: usize;
+            shelf: *mut u8, told: *mut u64
+        ) -> u8
+    );
+
+    /// A single call on a record.
+    ///
+    /// # Safety
+    /// As for `trace`, and the record has `RECORD` words, which nobody else uses during the call.
+    pub unsafe fn call(call: &Call, record: *mut u64, lent: &Lent) -> Told {
+        let mut told = Told::default();
+        told.answer = unsafe {
+            match *call {
+                Call::Fresh { mode } => pivotspark_fresh(mode, record, lent),
+                Call::Packet { bytes, time } => pivotspark_packet(record, bytes.as_ptr(), bytes.len(), time, lent, lent.shelf),
+                Call::Event { kind, code, time } => pivotspark_event(record, kind, code, time, lent),
+                Call::Finish => pivotspark_finish(record, lent),
+                Call::Block { typed, clock, records } => {
+                    (told.clock, told.block) = (clock, [u64::MAX; 3]);
+                    let (clock, block) = (told.clock.as_mut_ptr(), told.block.as_mut_ptr());
+                    pivotspark_block(typed, record, clock, records.as_ptr(), records.len(), lent, lent.shelf, block)
+                }
+            }
+        };
+        told
+    }
+
+    /// The counts that stand in a record.
+    pub fn counts(record: &[u64; RECORD]) -> [u64; 12] {
+        let mut counts = [u64::MAX; 12];
+        entries::counts(record, &mut counts);
+        counts
     }
 }
+
+pub use single::{call, counts};

@@ -25,7 +25,12 @@ impl Program {
 
     fn output(&mut self, input: &[u8]) -> std::io::Result<Output> {
         let arguments: &[&str] = if self.high { &["--high"] } else { &[] };
-        let mut child = Command::new(&self.path).args(arguments).stdin(Stdio::piped()).stdout(Stdio::piped()).stderr(Stdio::piped()).spawn()?;
+        let mut child = Command::new(&self.path)
+            .args(arguments)
+            .stdin(Stdio::piped())
+            .stdout(Stdio::piped())
+            .stderr(Stdio::piped())
+            .spawn()?;
         self.turn += 1;
         self.feed(child.stdin.take().expect("a pipe to the program"), input);
         child.wait_with_output()

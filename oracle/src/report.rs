@@ -7,6 +7,7 @@ use crate::coverage::{Case, NEXT, count};
 use crate::damage::DAMAGES;
 use crate::mode::{Mode, Plain, status_behind};
 use crate::packets::data;
+use crate::singles::{self, CALLS, DAMAGED};
 use crate::usb::{PID, REASONS};
 
 /// Ways that no call can take: the function, the case, the way, and why. Any other way that is not met is a fault of the comparison, and
@@ -83,6 +84,53 @@ pub fn blocks<D: Mode>(t: &blocks::Tally<D>) -> bool {
     let good = all_met("answer", names(), &met) & all_met("of blocks:", cases, &counts) & details;
     println!("{} differences", t.differences);
     good && t.differences == 0
+}
+
+/// The answers that calls of the entries can have: those of document 01, and those of a block.
+const ANSWERS: [usize; 13] = [0, 1, 2, 3, 4, 5, 6, 7, 8, 9, 12, 13, DETAIL as usize];
+
+fn row(name: &str, cells: impl IntoIterator<Item = String>) {
+    println!("{name:>34}  {}", cells.into_iter().map(|cell| format!("{cell:>10}")).collect::<String>());
+}
+
+fn answered(name: &str, answers: &[u64]) {
+    row(name, ANSWERS.map(|answer| answers[answer].to_string()));
+}
+
+/// What came of single calls: a table of the answers, and by which way they were had. False where something differs, or where something that can be met was
+/// not.
+pub fn calls<D: Mode>(t: &singles::Tally<D>) -> bool {
+    let kinds: Vec<String> = t.kinds.iter().map(|(kind, n)| format!("{kind} {n}")).collect();
+    println!("sequences {}, of which {} whole after each call: {}", t.sequences, t.whole, kinds.join(", "));
+    row("answers", ANSWERS.map(|answer| answer.to_string()));
+    CALLS.iter().zip(&t.answers).for_each(|(name, answers)| answered(name, answers));
+    println!("on a record with one word changed, by the port alone:");
+    DAMAGED.iter().zip(&t.damaged).for_each(|(name, answers)| answered(name, answers));
+    println!(
+        "calls {}: before any decoder {}, behind finish {}, with totals near 2^64 {}",
+        t.calls, t.unmade, t.behind, t.filled
+    );
+    println!("rows compared: {}", named(LOGS, &t.rows));
+    println!("one row short and so refused with 7: {}", named(LOGS, &t.short));
+    println!("a log too long: {}", named(LOGS, &t.long));
+    println!("a log shorter than its rows: {}", named(LOGS, &t.shorter));
+    println!("a count past its room: {}", named(LOGS, &t.past));
+    println!("{} differences", t.differences);
+    let numbers = ANSWERS.map(|answer| answer.to_string());
+    let met = |which: &[usize]| ANSWERS.map(|answer| which.iter().map(|call| t.answers[*call][answer]).sum::<u64>());
+    let names = || numbers.iter().map(String::as_str);
+    let twos: Vec<u64> = t.answers[1..].iter().map(|answers| answers[2]).collect();
+    let good = [
+        all_met("answer", names(), &met(&[0, 1, 2, 3, 4, 5])),
+        all_met("behind finish:", CALLS.into_iter().skip(1), &twos),
+        all_met("fresh decoder answered", ["0", "1", "7"], &[0, 1, 7].map(|answer: usize| t.answers[0][answer])),
+        all_met("one row short:", LOGS, &t.short),
+        all_met("too long:", LOGS, &t.long),
+        all_met("shorter than its rows:", LOGS, &t.shorter),
+        all_met("count past its room:", LOGS, &t.past),
+        all_met("call", ["before any decoder", "on a damaged record"], &[t.unmade, t.damaged.iter().flatten().sum()]),
+    ];
+    good == [true; 8] && t.differences == 0
 }
 
 /// How the outputs of the program begin. Refusals 1, 2, 8 and 9 are none of them: its logs are not too long, it finishes last, 8 is no

@@ -185,6 +185,11 @@ pub fn written(text: &str) -> Vec<u8> {
 
 /// The decoder after a sequence whose calls are all answered 0.
 pub fn after(text: &str) -> Calls<Machine> {
+    after_by(text)
+}
+
+/// The same by a decoder of one's own.
+pub fn after_by<M: Mechanism>(text: &str) -> Calls<M> {
     let trace = written(text);
     let mut calls = Calls::new(Rows::LARGEST, 0, false);
     let mut reader = Reader::new(&trace);

@@ -10,28 +10,16 @@ use oracle::listing::listing;
 use oracle::mode::{High, Mode, Plain, status_behind, yields};
 use oracle::once::{check, slips};
 use oracle::packets::{data, handshake, sof, split, token};
-use oracle::trace::{Clock, Reader, call, count_details};
-use oracle::traces::{packet, written};
+use oracle::trace::{Clock, Reader, count_details};
+use oracle::traces::{after_by, packet, written};
 use oracle::usb::PID;
-
-/// The decoder after a sequence whose calls are all answered 0.
-fn after<M: Mechanism>(text: &str) -> Calls<M> {
-    let trace = written(text);
-    let mut calls = Calls::new(Rows::LARGEST, 0, false);
-    let mut reader = Reader::new(&trace);
-    let mut clock = Clock::default();
-    while let Some(record) = reader.next() {
-        assert_eq!(call(&mut calls, &mut clock, &record.expect("a record")), 0);
-    }
-    calls
-}
 
 /// The statuses of the last packet of a sequence, without the mode and in it.
 fn statuses(text: &str) -> [&'static str; 2] {
     let (lead, last) = text.rsplit_once("; ").expect("more than one packet");
     let bytes = packet(&last.split_whitespace().collect::<Vec<_>>());
-    let plain = after::<<Plain as Mode>::Machine>(lead).machine.status(&bytes).1;
-    [plain, after::<<High as Mode>::Machine>(lead).machine.status(&bytes).1]
+    let plain = after_by::<<Plain as Mode>::Machine>(lead).machine.status(&bytes).1;
+    [plain, after_by::<<High as Mode>::Machine>(lead).machine.status(&bytes).1]
 }
 
 const INVALID: [&str; 2] = ["Invalid", "Invalid"];

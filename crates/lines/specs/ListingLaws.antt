@@ -1,4 +1,4 @@
--- Laws (proved): for callers of `list`: that logs have the rows that are counted, and how long the listing can be.
+-- Laws (proved): for callers: that logs have the rows that are counted, and how long a line and the listing can be.
 -- Assumes nothing.
 use Prim.Native.Nat.{ℕ, zero, suc, _+_, _*_, _≤_}
 use native.Mathlib.Omega.{arith}
@@ -17,7 +17,7 @@ use Rattle.lines.specs.declared.Kind.the-variants.{Device, Endpoint, Pac
 
 -- ---- how long: the title, and at most `longest` for each row
 
-line-fits : (kind : Kind) (i : ℕ) (w : List ℕ) → length (lineOf kind i w) ≤ longest
+pub line-fits : (kind : Kind) (i : ℕ) (w : List ℕ) → length (lineOf kind i w) ≤ longest
 line-fits Device i w = device-fits i w
 line-fits Endpoint i w = endpoint-fits i w
 line-fits Packet i w = packet-fits i w
@@ -27,6 +27,10 @@ line-fits Group i w = group-fits i w
 line-fits Item i w = item-fits i w
 line-fits Link i w = link-fits w
 line-fits Request i w = request-fits i w
+
+pub state-line-fits : (n : ℕ) (states : List ℕ) (m : ℕ) (statebytes : List ℕ) (i : ℕ) → length (stateLine i (stateBytes n states m statebytes i)) ≤ longest
+state-line-fits n states m statebytes i =
+    state-fits i (stateBytes n states m statebytes i) (omega (arith, length-take (sizeOf (startOf states m i) (endOf states n m i)) (drop (startOf states m i) statebytes)))
 
 each-fits : (line : ℕ → List ℕ) (k : ℕ) → ((i : ℕ) → length (line i) ≤ k) → (i n : ℕ) → length (each line i n) ≤ n * k
 unfolding each
@@ -39,11 +43,7 @@ lines-fit kind n log = each-fits (λ i. lineOf kind i (row (widthOf kind) log i)
 
 states-fit : (n : ℕ) (states : List ℕ) (m : ℕ) (statebytes : List ℕ) → length (stateLines n states m statebytes) ≤ n * longest
 unfolding stateLines
-states-fit n states m statebytes =
-    each-fits (λ i. stateLine i (stateBytes n states m statebytes i)) longest
-    (λ i. state-fits i (stateBytes n states m statebytes i) (omega (arith, length-take (sizeOf (startOf states m i) (endOf states n m i)) (drop (startOf states m i) statebytes))))
-    0
-    n
+states-fit n states m statebytes = each-fits (λ i. stateLine i (stateBytes n states m statebytes i)) longest (state-line-fits n states m statebytes) 0 n
 
 pub listing-fits : (n : Counts) (l : Logs) → length (listing n l) ≤ 6 + rowsOf n * longest
 unfolding listing

@@ -1,15 +1,15 @@
 // The whole listing (document 01, "Trace and listing"): a line for each row of the logs, kind by kind, in a lent buffer.
-mod state;
+pub mod state;
 
 use record::Counts;
 use rows::width;
 ghost use mathlib.Core.List.{[]};
 ghost use mathlib.Core.Path.{_≡_};
-ghost use Prim.Native.Nat.{_*_, _≤_};
+ghost use Prim.Native.Nat.{_*_, _<_, _≤_};
 ghost use lib.ListN.{length};
 ghost use Rattle.text.specs.Append.{Room, Appended};
 ghost use Rattle.call.specs.State.{logs};
-ghost use Rattle.lines.specs.Listing.{widthOf, lineOf, linesOf, listing, Counted};
+ghost use Rattle.lines.specs.Listing.{widthOf, lineOf, row, linesOf, listing, Counted};
 
 // The rows whose line is made of their own words; a state row's is made of state bytes.
 pub enum Kind {
@@ -25,7 +25,7 @@ pub enum Kind {
 }
 
 // The words of a row.
-fn width_of(kind: Kind) -> usize
+pub fn width_of(kind: Kind) -> usize
     ensures { λ r. ⌜ r ≡ widthOf kind ⌝ }
 {
     match kind {
@@ -60,19 +60,29 @@ fn row_line(out: &mut [u8], at: usize, kind: Kind, row: u64, w: &[u64]) -> usize
     }
 }
 
+// The line of row i, of a log that has n rows.
+pub fn row_at(out: &mut [u8], at: usize, kind: Kind, i: usize, n: usize, log: &[u64]) -> usize
+    requires { ⌜ i < n ⌝ }
+    requires { ⌜ n * widthOf kind ≤ length (now log) ⌝ }
+    requires { ⌜ Room (now out) at (lineOf kind i (row (widthOf kind) (now log) i)) ⌝ }
+    ensures { λ r. ⌜ Appended (now (out .entry)) at (lineOf kind i (row (widthOf kind) (now (log .entry)) i)) (now (out .exit)) r ⌝ }
+{
+    let width = width_of(kind);
+    let from = i * width;
+    let to = from + width;
+    row_line(out, at, kind, i as u64, &log[from..to])
+}
+
 // The lines of the first n rows of a log.
 fn lines(out: &mut [u8], at: usize, kind: Kind, n: usize, log: &[u64]) -> usize
     requires { ⌜ n * widthOf kind ≤ length (now log) ⌝ }
     requires { ⌜ Room (now out) at (linesOf kind n (now log)) ⌝ }
     ensures { λ r. ⌜ Appended (now (out .entry)) at (linesOf kind n (now (log .entry))) (now (out .exit)) r ⌝ }
 {
-    let width = width_of(kind);
     let mut next = at;
     let mut i: usize = 0;
     while i < n {
-        let from = i * width;
-        let to = from + width;
-        next = row_line(out, next, kind, i as u64, &log[from..to]);
+        next = row_at(out, next, kind, i, n, log);
         i += 1;
     }
     next

@@ -5,3 +5,4 @@ pub mod ToldLaws
 pub mod Blocks
 pub mod BlocksLaws
 pub mod Parts
+pub mod Lines

@@ -1,5 +1,5 @@
 //! The proved port, linked as a static library, beside the Rust: packets through both packet checks, states through both `group_status`,
-//! whole traces through the library and through the program.
+//! whole traces through the library and through the program, blocks and single calls through the library.
 
 mod port;
 
@@ -184,9 +184,10 @@ const USAGE: &str = "usage: compare COMMAND
   traces N SEED [PROGRAM] N traces through the library with several rooms and through the program: all rows and bytes, every listing
   table N SEED [PROGRAM]  the same, with a table of how often each case of decoder.rs was met
   inputs N SEED [PROGRAM] N inputs to the program, most of them damaged
-  blocks N SEED           N traces in blocks through the library: what each block answers, all rows and bytes (feature `blocks`)
+  blocks N SEED           N traces in blocks through the library: what each block answers, all rows and bytes
+  calls N SEED            N single calls through the library, refused ones among them: after each the answer, the counts, the rows
 PROGRAM is the program `listing` (target/bin/listing)
-With --high behind traces, table or blocks the library and the program are compared in the mode of change request 6";
+With --high behind traces, table, blocks or calls the library and the program are compared in the mode of change request 6";
 
 /// Whole traces in a mode.
 fn traces<D: Mode>(table: bool, n: u64, seed: u64, rest: &[&str]) -> Result<bool, String> {
@@ -195,9 +196,12 @@ fn traces<D: Mode>(table: bool, n: u64, seed: u64, rest: &[&str]) -> Result<bool
     Ok(report::traces(&tally, table))
 }
 
-#[cfg(feature = "blocks")]
 fn blocks<D: Mode>(n: u64, seed: u64) -> bool {
     report::blocks(&oracle::blocks::blocks::<D>(&mut Library::new(D::HIGH), n, seed))
+}
+
+fn calls<D: Mode>(n: u64, seed: u64) -> bool {
+    report::calls(&oracle::singles::singles::<D>(&mut Library::new(D::HIGH), n, seed))
 }
 
 fn run(words: &[&str]) -> Result<bool, String> {
@@ -214,10 +218,10 @@ fn run(words: &[&str]) -> Result<bool, String> {
             let mut program = Program::new(rest.first().unwrap_or(&LISTING), false)?;
             Ok(report::inputs(&compare::inputs(&mut program, number(n)?, number(seed)?)))
         }
-        #[cfg(feature = "blocks")]
         ["blocks", n, seed] => Ok(blocks::<Plain>(number(n)?, number(seed)?)),
-        #[cfg(feature = "blocks")]
         ["blocks", "--high", n, seed] => Ok(blocks::<High>(number(n)?, number(seed)?)),
+        ["calls", n, seed] => Ok(calls::<Plain>(number(n)?, number(seed)?)),
+        ["calls", "--high", n, seed] => Ok(calls::<High>(number(n)?, number(seed)?)),
         _ => Err(USAGE.to_string()),
     }
 }

@@ -6,7 +6,8 @@ use std::ffi::c_void;
 use oracle::blocks::Input;
 use oracle::calls::{BYTES, Rows, STATE_BYTES, WIDTHS};
 use oracle::descriptors::SHELF;
-use oracle::library::{self, Lent, TABLE};
+use oracle::lent::{Lent, TABLE};
+use oracle::library;
 
 unsafe extern "C" {
     fn mmap(place: *mut c_void, length: usize, access: i32, flags: i32, file: i32, offset: i64) -> *mut c_void;

@@ -1,0 +1,4 @@
+pub mod Calls
+pub mod Block
+pub mod Keeps
+pub mod CallsLaws

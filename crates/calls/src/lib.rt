@@ -1,0 +1,10 @@
+// What C and Rust programs call with a record in lent words, under names that begin with the project's: single calls, blocks of records, a trace's header, and
+// the counts.
+pub mod blocks;
+pub mod counts;
+pub mod event_entry;
+pub mod finish_entry;
+pub mod fresh_entry;
+mod keep;
+pub mod packet_entry;
+pub mod traces;

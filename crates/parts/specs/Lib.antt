@@ -1,0 +1,4 @@
+pub mod Parts
+pub mod Sorts
+pub mod Calls
+pub mod PartsLaws
