@@ -31,6 +31,7 @@ pub mod once;
 pub mod own;
 pub mod own_and_ruled;
 pub mod packets;
+pub mod pcap;
 pub mod program;
 pub mod report;
 pub mod selfcheck;
