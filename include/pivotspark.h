@@ -22,8 +22,9 @@
 extern "C" {
 #endif
 
-/* Answers (docs/TOOLS.md). A call that is refused, so neither 0 nor 8, changes nothing; of a block, the records before
- * the one that is refused are taken. */
+/* Answers (docs/TOOLS.md). A call that is refused, so neither 0 nor 8, changes nothing, except that a fresh
+ * decoder which is refused leaves a record that every call answers 1; of a block, the records before the one that is
+ * refused are taken. */
 #define PIVOTSPARK_ACCEPTED 0 /* accepted */
 #define PIVOTSPARK_NOT_FORMED 1 /* a lent log is too long, or the record is not well formed */
 #define PIVOTSPARK_FINISHED 2 /* the decoder was finished before */
