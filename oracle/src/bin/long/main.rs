@@ -53,6 +53,8 @@ struct Figures {
     rust_reading: f64,
     /// Each record as a block of its own, pages touched; 0 where that was not run.
     alone: f64,
+    /// Each packet by a call of its own (`pivotspark_packet`), pages touched; 0 likewise.
+    single: f64,
     /// Peak memory of a process that runs the trace once, in MiB: port and Rust.
     peaks: [f64; 2],
 }
@@ -116,7 +118,7 @@ struct Case {
     room: Rows,
     rows: Rows,
     again: Logs,
-    least: [f64; 7],
+    least: [f64; 8],
 }
 
 impl Case {
@@ -135,7 +137,7 @@ impl Case {
         if let Some(text) = difference(&rust, &again, &rows) {
             return Err(format!("{name}: {text}"));
         }
-        Ok(Case { name, file, trace, turns: plan.turns, packets, cuts, room, rows, again, least: [f64::MAX; 7] })
+        Ok(Case { name, file, trace, turns: plan.turns, packets, cuts, room, rows, again, least: [f64::MAX; 8] })
     }
 
     /// Port, Rust and port, then the parts that can be run alone.
@@ -158,10 +160,14 @@ impl Case {
                 true => 0.0,
                 false => time(|| self.again.run_one_by_one(&input).map(drop)),
             },
+            match input.cuts.is_empty() {
+                true => 0.0,
+                false => time(|| self.again.run_singly(packets()).map(drop)),
+            },
         ];
         if !input.cuts.is_empty() {
-            let rows = self.again.run_one_by_one(&input)?;
-            if packets_of(&rows) != packets_of(&self.rows) {
+            let rows = [self.again.run_one_by_one(&input)?, self.again.run_singly(packets())?];
+            if rows.iter().any(|rows| packets_of(rows) != packets_of(&self.rows)) {
                 return Err(format!("{}: one by one the port leaves another count of packets", self.name));
             }
         }
@@ -176,7 +182,7 @@ impl Case {
 
     fn figures(self) -> Result<Figures, String> {
         let count = packets_of(&self.rows);
-        let [fresh, rust, touched, check, rust_check, rust_reading, alone] = self.least.map(|spent| spent / count as f64);
+        let [fresh, rust, touched, check, rust_check, rust_reading, alone, single] = self.least.map(|spent| spent / count as f64);
         let peaks = [peak("port", &self.file)?, peak("rust", &self.file)?];
         let (bytes, endpoints) = (self.trace.len(), self.rows.0[ENDPOINTS]);
         Ok(Figures {
@@ -191,6 +197,7 @@ impl Case {
             rust_check,
             rust_reading,
             alone,
+            single,
             peaks,
         })
     }
@@ -328,8 +335,9 @@ fn bench(folder: &str, rounds: usize, sizes: &[usize]) -> Result<(), String> {
     all.iter().for_each(|figures| println!("{}", figures.row()));
     println!("\n{}", PARTS.join("\n"));
     all.iter().for_each(|figures| println!("{}", figures.parts()));
-    println!("\nns a packet, each record as a block of its own, pages touched before:");
-    all.iter().filter(|figures| figures.alone > 0.0).for_each(|figures| println!("{:24} | {:6.0}", figures.name, figures.alone));
+    println!("\nns a packet, pages touched before: each record as a block of its own, and each packet by a call of its own:");
+    let one_by_one = |figures: &&Figures| figures.alone > 0.0;
+    all.iter().filter(one_by_one).for_each(|f| println!("{:24} | {:6.0} {:6.0}", f.name, f.alone, f.single));
     let (grown, crowded): (Vec<&Figures>, Vec<&Figures>) =
         (all[..sizes.len()].iter().collect(), all[sizes.len() - 1..sizes.len() + 2].iter().collect());
     let (long, short) = (crowded[2], &all[sizes.len() + 2]);

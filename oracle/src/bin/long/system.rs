@@ -8,6 +8,7 @@ use oracle::calls::{BYTES, Rows, STATE_BYTES, WIDTHS};
 use oracle::descriptors::SHELF;
 use oracle::lent::{Lent, TABLE};
 use oracle::library;
+use oracle::singles::{Call, RECORD};
 
 unsafe extern "C" {
     fn mmap(place: *mut c_void, length: usize, access: i32, flags: i32, file: i32, offset: i64) -> *mut c_void;
@@ -98,6 +99,21 @@ impl Logs {
             (0, blocks) if blocks == input.cuts.len() as u64 + 1 => Ok(rows),
             (answer, blocks) => Err(format!("the port makes a decoder with {answer}, and {blocks} blocks")),
         }
+    }
+
+    /// Packets by a call each, on a record in lent words; the rows that they leave.
+    pub fn run_singly<'a>(&mut self, packets: impl Iterator<Item = &'a [u8]>) -> Result<Rows, String> {
+        let (lent, mut record) = (self.lend(), [0; RECORD]);
+        // Likewise, and the record is our own.
+        let mut call = |call: Call| match unsafe { library::call(&call, record.as_mut_ptr(), &lent) }.answer {
+            0 | 8 => Ok(()),
+            answer => Err(format!("the port answers {answer}")),
+        };
+        call(Call::Fresh { mode: 0 })?;
+        for (time, bytes) in packets.enumerate() {
+            call(Call::Packet { bytes, time: time as u64 })?;
+        }
+        Ok(Rows(library::counts(&record)))
     }
 
     /// The first elements of a log of bytes.
