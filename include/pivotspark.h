@@ -197,12 +197,6 @@ uint64_t pivotspark_header(const uint8_t *trace, size_t trace_len);
  * before its records too. */
 uint64_t pivotspark_details(const uint8_t *trace, size_t trace_len);
 
-/* Records without header on the lent table, logs and shelf, in the mode as for a trace; `last` and `time` are the tick
- * state before them, and the words of each block are stored in `out`. */
-uint64_t pivotspark_blocks(uint8_t mode, const uint8_t *records, size_t records_len, uint32_t last, uint64_t time,
-    const uint64_t *cuts, size_t cuts_len, uint64_t *out, size_t out_len, uint64_t table[PIVOTSPARK_TABLE],
-    PIVOTSPARK_LOG_PARAMETERS, uint8_t shelf[PIVOTSPARK_SHELF], uint64_t *counts, size_t counts_len);
-
 /* The answer's ten words, for the 23 of the state; specs/Words.antt says what each is. */
 void pivotspark_group_status(const uint64_t state[23], uint64_t out[10]);
 

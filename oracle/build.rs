@@ -15,12 +15,6 @@ fn main() {
     println!("cargo:rerun-if-changed=build.rs");
     println!("cargo:rerun-if-changed=build");
     println!("cargo:rerun-if-changed=../docs/src/src");
-    if std::env::var_os("CARGO_FEATURE_PORT").is_some() {
-        // Where scripts/library leaves the port.
-        let root = std::env::current_dir().expect("the folder of the crate");
-        println!("cargo:rustc-link-search=native={}", root.join("../target/library").display());
-        println!("cargo:rerun-if-changed=../target/library");
-    }
     for name in ["usb", "event", "capture", "own_usb", "own_capture", "decoder"] {
         let text = made(&fs::read_to_string(changes.join(name).with_extension("txt")).expect(name), source);
         fs::write(out.join(name).with_extension("rs"), &text).expect("OUT_DIR can be written");

@@ -211,29 +211,6 @@ pub mod entry {
         ) -> u8;
         pub fn pivotspark_header(trace: *const u8, trace_len: usize) -> u64;
         pub fn pivotspark_details(trace: *const u8, trace_len: usize) -> u64;
-        pub fn pivotspark_blocks(
-            mode: u8,
-            records: *const u8, records_len: usize,
-            last: u32,
-            time: u64,
-            cuts: *const u64, cuts_len: usize,
-            out: *mut u64, out_len: usize,
-            table: *mut u64,
-            bytes: *mut u8, bytes_len: usize,
-            device_rows: *mut u64, device_rows_len: usize,
-            endpoint_rows: *mut u64, endpoint_rows_len: usize,
-            packets: *mut u64, packets_len: usize,
-            events: *mut u64, events_len: usize,
-            transactions: *mut u64, transactions_len: usize,
-            groups: *mut u64, groups_len: usize,
-            statebytes: *mut u8, statebytes_len: usize,
-            states: *mut u64, states_len: usize,
-            items: *mut u64, items_len: usize,
-            links: *mut u64, links_len: usize,
-            requests: *mut u64, requests_len: usize,
-            shelf: *mut u8,
-            counts: *mut u64, counts_len: usize,
-        ) -> u64;
         pub fn pivotspark_group_status(state: *const u64, out: *mut u64);
         pub fn pivotspark_lines(
             kind: u8,
@@ -419,45 +396,6 @@ pub fn header(trace: &[u8]) -> u64 {
 /// records too.
 pub fn details(trace: &[u8]) -> u64 {
     unsafe { entry::pivotspark_details(trace.as_ptr(), trace.len()) }
-}
-
-/// Records without header on the lent table, logs and shelf, in the mode as for a trace; `last` and `time` are the tick state
-/// before them, and the words of each block are stored in `out`.
-pub fn blocks(
-    mode: u8,
-    records: &[u8],
-    last: u32,
-    time: u64,
-    cuts: &[u64],
-    out: &mut [u64],
-    table: &mut Table,
-    logs: &mut Logs,
-    shelf: &mut Shelf,
-    counts: &mut [u64],
-) -> u64 {
-    unsafe { entry::pivotspark_blocks(
-        mode,
-        records.as_ptr(), records.len(),
-        last,
-        time,
-        cuts.as_ptr(), cuts.len(),
-        out.as_mut_ptr(), out.len(),
-        table.as_mut_ptr(),
-        logs.bytes.as_mut_ptr(), logs.bytes.len(),
-        logs.device_rows.as_mut_ptr(), logs.device_rows.len(),
-        logs.endpoint_rows.as_mut_ptr(), logs.endpoint_rows.len(),
-        logs.packets.as_mut_ptr(), logs.packets.len(),
-        logs.events.as_mut_ptr(), logs.events.len(),
-        logs.transactions.as_mut_ptr(), logs.transactions.len(),
-        logs.groups.as_mut_ptr(), logs.groups.len(),
-        logs.statebytes.as_mut_ptr(), logs.statebytes.len(),
-        logs.states.as_mut_ptr(), logs.states.len(),
-        logs.items.as_mut_ptr(), logs.items.len(),
-        logs.links.as_mut_ptr(), logs.links.len(),
-        logs.requests.as_mut_ptr(), logs.requests.len(),
-        shelf.as_mut_ptr(),
-        counts.as_mut_ptr(), counts.len(),
-    ) }
 }
 
 /// The answer's ten words, for the 23 of the state; specs/Words.antt says what each is.

@@ -20,8 +20,6 @@ pub mod generate;
 pub mod ledger;
 pub mod lemmas;
 pub mod lent;
-#[cfg(feature = "port")]
-pub mod library;
 pub mod limits;
 pub mod listed;
 pub mod listing;

@@ -1,6 +1,6 @@
 // What C and Rust programs call to run a whole trace.
 use endpoints::Table;
-use record::Counts;
+use record::Decoder;
 use run::run;
 use shelving::Shelf;
 ghost use mathlib.Core.Path.{_≡_};
@@ -8,19 +8,20 @@ ghost use Rattle.call.specs.State.{logs};
 ghost use Rattle.pivotspark.specs.Told.{isOn, told, counted, Told};
 
 // The answer in the top byte, the place below it.
-pub fn tell(answer: u8, place: usize) -> u64
+fn tell(answer: u8, place: usize) -> u64
     ensures { λ r. ⌜ r ≡ told answer place ⌝ }
 {
     72057594037927936 * (answer as u64) + place as u64 % 72057594037927936
 }
 
 // Twelve counts, one behind the other, where there are words for all of them.
-pub fn put_counts(counts: &mut [u64], n: Counts)
-    ensures { λ r. ⌜ now (counts .exit) ≡ counted (now (counts .entry)) n ⌝ }
+fn put_counts(counts: &mut [u64], d: Decoder)
+    ensures { λ r. ⌜ now (counts .exit) ≡ counted (now (counts .entry)) (d .counts) ⌝ }
 {
     if counts.len() < 12 {
         return;
     }
+    let n = d.counts;
     rows::put4(
         counts,
         0,
@@ -88,8 +89,6 @@ pub extern "C" fn pivotspark_trace(
         requests,
         shelf,
     );
-    let decoder = r.decoder;
-    let n = decoder.counts;
-    put_counts(counts, n);
+    put_counts(counts, r.decoder);
     tell(r.answer, r.place)
 }

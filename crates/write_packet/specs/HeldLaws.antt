@@ -310,9 +310,12 @@ module _ {k₀ k : Desk} {w : World} (id : ℕ) (s : Begin) (fits : BeginFits id
       few : when (s .endpoint) (pushEndpoint (s .place) (s .number)) (when (s .device) (addDevice (s .owner)) (when (s .row) (pushTransaction id) w)) .count ≤ 128
       few = subst (λ (c : ℕ). c ≤ 128) (types-count (s .types) (s .place) (typed (s .number) (s .kind)) _) (fits .few)
 
-  pub begun-holds : HoldsAll k₀ (begun id s w) (begunDesk s k)
+  begun-by : HoldsAll k₀ (withTransaction (s .transaction) (opened id s w)) (openedDesk s k) → HoldsAll k₀ (begun id s w) (begunDesk s k)
   unfolding begun begunDesk
-  begun-holds = held-act opened-holds (s .update) (s .transaction .endpoint) (fits .few) (fits .there) (fits .token)
+  begun-by o = held-act o (s .update) (s .transaction .endpoint) (fits .few) (fits .there) (fits .token)
+
+  pub begun-holds : HoldsAll k₀ (begun id s w) (begunDesk s k)
+  begun-holds = begun-by opened-holds
 
 -- the transaction that it leaves
 pub begun-id : (id : ℕ) (s : Begin) (w : World) → begun id s w .transaction .id ≡ s .transaction .id

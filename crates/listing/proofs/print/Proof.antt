@@ -1,6 +1,10 @@
 -- Too long a trace, or what is shown of its run on logs of the program's own.
 -- Assumes nothing.
+use Prim.Native.Nat.{_<_}
 use native.Mathlib.Omega.{arith}
+use lib.ListN.{length}
+use Rattle.listing.specs.Prints.{mostInput, noTable, noRows, noShelf}
+use Rattle.listing.specs.Shows.{Shows}
 use Rattle.listing.proofs.Shown.{zeros, own-room, too-long, printed}
 use Rattle.listing.proofs.print.Statement.{statement}
 use Rattle.listing.proofs.print.Tie as tie
@@ -13,8 +17,11 @@ too-long-line-requires c κs = omega (arith, own-room, too-long-line-requires·S
 same-length : tie.Need-same-length
 same-length c = returns·too-long-line c .too-long-line .kept .0
 
+long : (c : tie.Then1) → mostInput < length (Then1·Start c .args .trace .now)
+long c = c .if1 .taken
+
 returns : tie.Need-returns
-returns c = too-long (returns·Then1 c .if1 .taken) (returns·Start c .pre) (returns·too-long-line c .too-long-line .ensures)
+returns c = too-long (long (returns·Then1 c)) (returns·Start c .pre) (returns·too-long-line c .too-long-line .ensures)
 
 slice-aggregate-show : tie.Need-slice-aggregate-show
 slice-aggregate-show c = zeros 8192
@@ -58,8 +65,12 @@ show-requires c κs = show-requires·Start c .pre
 same-length-2 : tie.Need-same-length-2
 same-length-2 c = returns-2·show c .show .kept .1 .1 .1 .1 .1 .1 .1 .1 .1 .1 .1 .1 .1 .1 .1 .1 .0
 
+-- the run is on the logs of docs/SIZES.md
+ran : (c : tie.After-show) → let a = show·Start c .args in Shows (a .high) (a .trace .now) noTable noRows noShelf (a .out .now) (c .show .last .1 .1 .1 .1 .1 .1 .1 .1 .1 .1 .1 .1 .1 .1 .1 .1 .0) (c .show .result)
+ran c = c .show .ensures
+
 returns-2 : tie.Need-returns-2
-returns-2 c = printed (returns-2·Else1 c .if1 .left) (returns-2·show c .show .ensures)
+returns-2 c = printed (returns-2·Else1 c .if1 .left) (ran (returns-2·show c))
 
 pub print-spec : {M : Type 1} → statement M
 print-spec =

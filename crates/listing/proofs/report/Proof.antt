@@ -24,8 +24,15 @@ refusal s = laws.refusal (s .args .answer) (s .args .place) (s .args .details) (
 finish : (s : tie.Start) → s .args .answer ≡ 0 → shown (s .args .answer) (s .args .place) (s .args .details) (s .args .n) (lent s) ≡ listing (s .args .n) (lent s) ++ detailsLine (s .args .details)
 finish s = laws.finish (s .args .answer) (s .args .place) (s .args .details) (s .args .n) (lent s)
 
+-- each line is asked room for where it is to stand
+refused-room : ((c : tie.After-refused-line-arg) → let s = refused-line-requires·Start c in Room (s .args .out .now) 0 (refusedLine (s .args .answer) (s .args .place))) → tie.Need-refused-line-requires
+refused-room f c κs = f c
+
+details-room : ((c : tie.After-details-line-arg) → let l = details-line-requires·list c .list in Room (l .last .1 .1 .1 .1 .1 .1 .1 .1 .1 .1 .1 .1 .0) (l .result) (detailsLine (details-line-requires·Start c .args .details))) → tie.Need-details-line-requires
+details-room f c κs = f c
+
 refused-line-requires : tie.Need-refused-line-requires
-refused-line-requires c κs = let s = c .before .before .before .before .before .before .before .before .before .before .before .before .before .before in rw (refusal s (c .before .if1 .taken)) at (s .pre .1)
+refused-line-requires = refused-room (λ c. let s = c .before .before .before .before .before .before .before .before .before .before .before .before .before .before in rw (refusal s (c .before .if1 .taken)) at (s .pre .1))
 
 same-length : tie.Need-same-length
 same-length c = c .before .before .refused-line .kept .0
@@ -44,10 +51,11 @@ list-requires c κs =
     (s .pre .0 z, room-first (s .args .out .now) 0 (listing (s .args .n) (lent s)) (detailsLine (s .args .details)) (whole s z))
 
 details-line-requires : tie.Need-details-line-requires
-details-line-requires c κs =
+details-line-requires =
+    details-room (λ c.
     let s = details-line-requires·Start c in
     let z = details-line-requires·Else1 c .if1 .left in
-    room-next (s .args .out .now) 0 (listing (s .args .n) (lent s)) (detailsLine (s .args .details)) (details-line-requires·list c .list .ensures) (whole s z)
+    room-next (s .args .out .now) 0 (listing (s .args .n) (lent s)) (detailsLine (s .args .details)) (details-line-requires·list c .list .ensures) (whole s z))
 
 same-length-2 : tie.Need-same-length-2
 same-length-2 c = returns-2·details-line c .details-line .kept .0 ∙ returns-2·list c .list .kept .1 .1 .1 .1 .1 .1 .1 .1 .1 .1 .1 .1 .0

@@ -6,6 +6,7 @@ use lib.ListN.{length}
 use Rattle.call.specs.OutcomeLaws.{sound}
 use Rattle.call.specs.State.{State, state, logs, roomOf}
 use Rattle.decide.specs.Ready.{ready}
+use Rattle.packet.specs.Call.{PacketCall}
 use Rattle.packet.specs.Lent.{Lent}
 use Rattle.packet.proofs.Answers.{Passes, with-parts}
 use Rattle.packet.proofs.Changes.{changed-none, shelved-none, requested-none}
@@ -47,15 +48,21 @@ packet-in-requires c κs =
     let m = packet-in-requires·look c in
     (record { devices = packet-in-requires·Start c .args .devices; lent = lends m }, (passed m .finished, passed m .short))
 
+-- where nothing changes, what is given back is what `packet_in` gave and left
+given : ((c : tie.Then2) → let a = look·Start (returns-2·look c) .args in let r = returns-2·packet-in c .packet-in in PacketCall (a .packet .now) (a .time) (lent (look·Start (returns-2·look c))) (a .shelf .now) (r .result .answer) (state (r .result .decoder) (a .devices) (r .last .1 .1 .1 .1 .0) (logs (r .last .1 .1 .1 .1 .1 .0) (r .last .1 .1 .1 .1 .1 .1 .0) (r .last .1 .1 .1 .1 .1 .1 .1 .0) (r .last .1 .1 .1 .1 .1 .1 .1 .1 .0) (a .events .now) (r .last .1 .1 .1 .1 .1 .1 .1 .1 .1 .1 .0) (r .last .1 .1 .1 .1 .1 .1 .1 .1 .1 .1 .1 .0) (r .last .1 .1 .1 .1 .1 .1 .1 .1 .1 .1 .1 .1 .0) (r .last .1 .1 .1 .1 .1 .1 .1 .1 .1 .1 .1 .1 .1 .0) (r .last .1 .1 .1 .1 .1 .1 .1 .1 .1 .1 .1 .1 .1 .1 .0) (r .last .1 .1 .1 .1 .1 .1 .1 .1 .1 .1 .1 .1 .1 .1 .1 .0) (a .requests .now))) (a .shelf .now))
+    → tie.Need-returns-2
+given f c = f c
+
 returns-2 : tie.Need-returns-2
-returns-2 c =
+returns-2 =
+    given (λ c.
     let m = returns-2·look c in
     let a = look·Start m .args in
     let k = returns-2·packet-in c .packet-in .result .change in
     let e = sym (returns-2·is-change c .is-change .ensures) ∙ not-true _ (c .if2 .taken) in
     with-parts (a .packet .now) (a .time) (lent (look·Start m)) (a .shelf .now)
     (sym (changed-none k (a .packet .now) (a .shelf .now) (a .devices) e)) (sym (requested-none k (a .packet .now) (a .shelf .now) (a .devices) e (a .requests .now))) (sym (shelved-none k (a .packet .now) (a .shelf .now) (a .devices) e))
-    (returns-2·packet-in c .packet-in .ensures .1 (a .devices) (lends m) (a .shelf .now))
+    (returns-2·packet-in c .packet-in .ensures .1 (a .devices) (lends m) (a .shelf .now)))
 
 returns-3 : tie.Need-returns-3
 returns-3 c =

@@ -2,7 +2,7 @@
 use mathlib.Core.Path.{refl}
 use Rattle.write.specs.Memory.{memory}
 use Rattle.write_packet.specs.Desk.{desk}
-use Rattle.write_packet.proofs.Steps.{acted, open-asks, begin-carries, begins}
+use Rattle.write_packet.proofs.Steps.{CarryAsks, acted, open-asks, begin-carries, begins}
 use Rattle.write_packet.proofs.begin_if.Statement.{statement}
 use Rattle.write_packet.proofs.begin_if.Tie as tie
 mod Places
@@ -14,8 +14,12 @@ start-pid-requires c κs = tt
 open-rows-requires : tie.Need-open-rows-requires
 open-rows-requires c κs = ((open-rows-requires·Start c .pre (open-rows-requires·Then1 c .if1 .taken)) .asks .few, open-asks (open-rows-requires·Start c .args .s) (desk (open-rows-requires·Start c .args .h) (open-rows-requires·Start c .args .table .now) (open-rows-requires·Start c .args .devices .now) (open-rows-requires·Start c .args .endpoints .now) (open-rows-requires·Start c .args .transactions .now) (open-rows-requires·Start c .args .groups .now) (open-rows-requires·Start c .args .statebytes .now) (open-rows-requires·Start c .args .states .now) (open-rows-requires·Start c .args .items .now) (open-rows-requires·Start c .args .links .now)) (open-rows-requires·Start c .pre (open-rows-requires·Then1 c .if1 .taken)))
 
+-- the update is asked for on what the rows leave
+carry-room : ((c : tie.After-carry-out-arg6) → let a = carry-out-requires·Start c .args in CarryAsks (a .s .update) (a .s .transaction .endpoint) (a .s .transaction .id) (carry-out-requires·start-pid c .start-pid .result) (desk (carry-out-requires·open-rows c .open-rows .result) (carry-out-requires·open-rows c .open-rows .last .1 .1 .0) (carry-out-requires·open-rows c .open-rows .last .1 .1 .1 .0) (carry-out-requires·open-rows c .open-rows .last .1 .1 .1 .1 .0) (carry-out-requires·open-rows c .open-rows .last .1 .1 .1 .1 .1 .0) (a .groups .now) (a .statebytes .now) (a .states .now) (a .items .now) (a .links .now))) → tie.Need-carry-out-requires
+carry-room f c κs = f c
+
 carry-out-requires : tie.Need-carry-out-requires
-carry-out-requires c κs = begin-carries (carry-out-requires·Start c .args .s) (desk (carry-out-requires·Start c .args .h) (carry-out-requires·Start c .args .table .now) (carry-out-requires·Start c .args .devices .now) (carry-out-requires·Start c .args .endpoints .now) (carry-out-requires·Start c .args .transactions .now) (carry-out-requires·Start c .args .groups .now) (carry-out-requires·Start c .args .statebytes .now) (carry-out-requires·Start c .args .states .now) (carry-out-requires·Start c .args .items .now) (carry-out-requires·Start c .args .links .now)) (carry-out-requires·Start c .pre (carry-out-requires·Then1 c .if1 .taken)) (desk (carry-out-requires·open-rows c .open-rows .result) (carry-out-requires·open-rows c .open-rows .last .1 .1 .0) (carry-out-requires·open-rows c .open-rows .last .1 .1 .1 .0) (carry-out-requires·open-rows c .open-rows .last .1 .1 .1 .1 .0) (carry-out-requires·open-rows c .open-rows .last .1 .1 .1 .1 .1 .0) (carry-out-requires·Start c .args .groups .now) (carry-out-requires·Start c .args .statebytes .now) (carry-out-requires·Start c .args .states .now) (carry-out-requires·Start c .args .items .now) (carry-out-requires·Start c .args .links .now)) (carry-out-requires·open-rows c .open-rows .ensures (carry-out-requires·Start c .args .groups .now) (carry-out-requires·Start c .args .statebytes .now) (carry-out-requires·Start c .args .states .now) (carry-out-requires·Start c .args .items .now) (carry-out-requires·Start c .args .links .now)) (carry-out-requires·start-pid c .start-pid .result) (carry-out-requires·start-pid c .start-pid .ensures)
+carry-out-requires = carry-room (λ c. begin-carries (carry-out-requires·Start c .args .s) (desk (carry-out-requires·Start c .args .h) (carry-out-requires·Start c .args .table .now) (carry-out-requires·Start c .args .devices .now) (carry-out-requires·Start c .args .endpoints .now) (carry-out-requires·Start c .args .transactions .now) (carry-out-requires·Start c .args .groups .now) (carry-out-requires·Start c .args .statebytes .now) (carry-out-requires·Start c .args .states .now) (carry-out-requires·Start c .args .items .now) (carry-out-requires·Start c .args .links .now)) (carry-out-requires·Start c .pre (carry-out-requires·Then1 c .if1 .taken)) (desk (carry-out-requires·open-rows c .open-rows .result) (carry-out-requires·open-rows c .open-rows .last .1 .1 .0) (carry-out-requires·open-rows c .open-rows .last .1 .1 .1 .0) (carry-out-requires·open-rows c .open-rows .last .1 .1 .1 .1 .0) (carry-out-requires·open-rows c .open-rows .last .1 .1 .1 .1 .1 .0) (carry-out-requires·Start c .args .groups .now) (carry-out-requires·Start c .args .statebytes .now) (carry-out-requires·Start c .args .states .now) (carry-out-requires·Start c .args .items .now) (carry-out-requires·Start c .args .links .now)) (carry-out-requires·open-rows c .open-rows .ensures (carry-out-requires·Start c .args .groups .now) (carry-out-requires·Start c .args .statebytes .now) (carry-out-requires·Start c .args .states .now) (carry-out-requires·Start c .args .items .now) (carry-out-requires·Start c .args .links .now)) (carry-out-requires·start-pid c .start-pid .result) (carry-out-requires·start-pid c .start-pid .ensures))
 
 with-written-requires : tie.Need-with-written-requires
 with-written-requires c κs = tt

@@ -5,6 +5,7 @@ use mathlib.Core.Path.{_≡_, refl, sym, _∙_}
 use borrow.Author.Needs.{needs}
 use Rattle.endpoints.specs.Find.{isEndpoint, foundEndpoint}
 use Rattle.details.specs.Search.{firstFrom}
+use Rattle.details.specs.declared.Found.the-variants.{At}
 use Rattle.details.proofs.Searches.{first-hit, first-miss}
 use Rattle.endpoints.proofs.find.find_endpoint.Statement.{statement}
 use Rattle.endpoints.proofs.find.find_endpoint.Tie as tie
@@ -55,9 +56,13 @@ returns : tie.Need-returns Inv-loop μ-loop
 unfolding foundEndpoint
 returns c = let e : c .before .before .args .n - c .before .loop .i ≡ 0 = omega arith in sym (rw e at (c .before .loop .inv .1))
 
+-- the row that the search stands at is given back
+given : ((c : tie.Then2 Inv-loop μ-loop) → At (c .before .before .before .before .before .loop .i) ≡ foundEndpoint (c .before .before .before .before .before .before .args .table .now) (c .before .before .before .before .before .before .args .n) (c .before .before .before .before .before .before .args .device) (c .before .before .before .before .before .before .args .address)) → tie.Need-returns-2 Inv-loop μ-loop
+given f c = f c
+
 returns-2 : tie.Need-returns-2 Inv-loop μ-loop
 unfolding foundEndpoint
-returns-2 c = sym (c .before .before .before .before .before .loop .inv .1 ∙ first-hit (isEndpoint (c .before .before .before .before .before .before .args .table .now) (c .before .before .before .before .before .before .args .device) (c .before .before .before .before .before .before .args .address)) _ _ (c .before .before .before .before .if1 .left) (sym (c .before .is-endpoint .ensures) ∙ c .if2 .taken))
+returns-2 = given (λ c. sym (c .before .before .before .before .before .loop .inv .1 ∙ first-hit (isEndpoint (c .before .before .before .before .before .before .args .table .now) (c .before .before .before .before .before .before .args .device) (c .before .before .before .before .before .before .args .address)) _ _ (c .before .before .before .before .if1 .left) (sym (c .before .is-endpoint .ensures) ∙ c .if2 .taken)))
 
 pub find-endpoint-spec : {M : Type 1} → statement M
 find-endpoint-spec =

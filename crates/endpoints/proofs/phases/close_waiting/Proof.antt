@@ -1,6 +1,7 @@
 -- `endpoints::phases::close_waiting` meets its contract: the rows written so far, and those of the endpoints behind, are all the rows.
 use Prim.Native.Nat.{_+_, _*_, _-_, _≤_}
 use native.Mathlib.Omega.{arith}
+use mathlib.Core.List.{[], _∷_}
 use mathlib.Core.Path.{_≡_, sym, ap, _∙_}
 use lib.ListN.{length}
 use lib.Seq.{sets}
@@ -46,6 +47,10 @@ add-i c = search needs
 loop-less : tie.Need-loop-less Inv-loop μ-loop
 loop-less c = search needs
 
+-- the row of an endpoint that waits
+rowed : (c : tie.After-put4 Inv-loop μ-loop) → c .put4 .last .0 ≡ sets (c .before .before .before .before .before .loop .links) (c .before .before .before .before .before .loop .row * 4) (3 ∷ c .before .before .before .before .before .loop .i ∷ c .before .before .before .before .before .before .before .args .item ∷ 0 ∷ [])
+rowed c = c .put4 .ensures
+
 loop-again : tie.Need-loop-again Inv-loop μ-loop
 loop-again c =
     let s = c .before .before .before .before .before .before .before .before .before .args in
@@ -59,7 +64,7 @@ loop-again c =
           omega (arith, ap length hit),
           l .inv .1 .1 .1
               ∙ ap (sets (l .links) (l .row * 4)) hit
-              ∙ row-next (l .links) (c .before .before .put4 .last .0) rest (l .row) 3 (l .i) (s .item) 0 (c .before .before .put4 .ensures),
+              ∙ row-next (l .links) (c .before .before .put4 .last .0) rest (l .row) 3 (l .i) (s .item) 0 (rowed (c .before .before)),
         ),
       ),
     )

@@ -7,6 +7,9 @@ too-long-line-requires·Start c = c .before .before .before .before
 abbrev pub returns·too-long-line : tie.After-slice-known2 → tie.After-too-long-line
 returns·too-long-line c = c .before .before
 
+abbrev pub Then1·Start : tie.Then1 → tie.Start
+Then1·Start c = c .before .before .before
+
 abbrev pub returns·Then1 : tie.After-slice-known2 → tie.Then1
 returns·Then1 c = c .before .before .before .before
 
@@ -18,6 +21,9 @@ show-requires·Start c = c .before .before .before .before .before .before .befo
 
 abbrev pub returns-2·show : tie.After-slice-known3 → tie.After-show
 returns-2·show c = c .before .before .before .before .before .before .before .before .before .before .before .before .before .before
+
+abbrev pub show·Start : tie.After-show → tie.Start
+show·Start c = c .before .before .before .before .before .before .before .before .before .before .before .before .before .before .before .before .before .before .before
 
 abbrev pub returns-2·Else1 : tie.After-slice-known3 → tie.Else1
 returns-2·Else1 c = c .before .before .before .before .before .before .before .before .before .before .before .before .before .before .before .before .before .before .before .before .before .before .before .before .before .before .before .before .before .before

@@ -3,6 +3,8 @@ use Prim.Native.Nat.{_≤_}
 use mathlib.Core.Path.{_≡_, sym, ap, _∙_}
 use borrow.Author.Needs.{needs}
 use lib.ListN.{length}
+use Rattle.details.specs.Details as details
+use Rattle.record.specs.Fresh.{freshDecoder}
 use Rattle.call.specs.State.{Logs, logs, roomOf}
 use Rattle.start.specs.Fresh.{freshAnswer}
 use Rattle.start.proofs.Making.{roomy, refuses, makes}
@@ -33,10 +35,17 @@ put-device-requires c κs = space (put-device-requires·Else1 c) .0
 put-specials-requires : tie.Need-put-specials-requires
 put-specials-requires c κs = space (put-specials-requires·Else1 c) .1
 
+-- what is made: the record, in the mode that was chosen, and the first device
+made-decoder : (c : tie.After-fresh-decoder) → c .fresh-decoder .result ≡ freshDecoder (returns-2·Start c .args .high)
+made-decoder c = c .fresh-decoder .ensures
+
+made-device : (c : tie.After-fresh-device) → c .fresh-device .result ≡ details.fresh 0
+made-device c = c .fresh-device .ensures
+
 returns-2 : tie.Need-returns-2
 returns-2 c =
     let s = returns-2·Start c in
-    makes (s .args .high) (s .args .devices) (s .args .table .now) (lent s) _ (verdict (returns-2·fresh-answer c)) (returns-2·Else1 c .if1 .left) (c .fresh-decoder .ensures) (returns-2·fresh-device c .fresh-device .ensures)
+    makes (s .args .high) (s .args .devices) (s .args .table .now) (lent s) _ (verdict (returns-2·fresh-answer c)) (returns-2·Else1 c .if1 .left) (made-decoder c) (made-device (returns-2·fresh-device c))
     (returns-2·store-specials c .store-specials .ensures)
     (returns-2·put-device c .put-device .ensures)
     (returns-2·put-specials c .put-specials .ensures)

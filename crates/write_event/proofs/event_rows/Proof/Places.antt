@@ -19,5 +19,14 @@ returns·group-event c = c .before .before .before .before .before .before .befo
 abbrev pub returns·link-event : tie.After-slice-known11 → tie.After-link-event
 returns·link-event c = c .before .before .before .before .before .before .before .before .before .before .before .before .before .before .before .before .before .before .before
 
+abbrev pub link-event·Start : tie.After-link-event → tie.Start
+link-event·Start c = c .before .before .before .before .before .before .before .before .before .before
+
+abbrev pub group-event·Start : tie.After-group-event → tie.Start
+group-event·Start c = c .before .before .before .before .before .before .before .before .before .before .before .before .before .before .before .before .before .before .before
+
+abbrev pub group-event·link-event : tie.After-group-event → tie.After-link-event
+group-event·link-event c = c .before .before .before .before .before .before .before .before .before
+
 abbrev pub returns·Start : tie.After-slice-known11 → tie.Start
 returns·Start c = c .before .before .before .before .before .before .before .before .before .before .before .before .before .before .before .before .before .before .before .before .before .before .before .before .before .before .before .before .before

@@ -48,3 +48,6 @@ returns·with-written c = c .before .before .before .before .before .before .bef
 
 abbrev pub returns·store : tie.After-slice-known13 → tie.After-store
 returns·store c = c .before .before .before .before .before .before .before .before .before .before .before .before .before .before .before .before .before .before .before .before .before .before .before .before .before .before
+
+abbrev pub store·Start : tie.After-store → tie.Start
+store·Start c = c .before .before .before .before .before .before .before .before .before

@@ -1,12 +1,12 @@
 -- `write_packet::leaf::open_rows` meets its contract: each log has the words of its row, if there is one; the counts fit since the rows do.
 use Prim.Native.Nat.{_*_, _/_}
 use native.Mathlib.Omega.{arith}
-use mathlib.Core.Path.{refl}
-use lib.Seq.{length-sets}
-use Rattle.rows.specs.Widths.{transactionWidth}
+use mathlib.Core.Path.{_≡_, refl}
+use lib.Seq.{sets, length-sets}
+use Rattle.rows.specs.Widths.{endpointWidth, transactionWidth}
 use Rattle.details.specs.Details.{numberOf}
 use Rattle.rules.specs.Rows.{naming}
-use Rattle.write_packet.specs.Desk.{transactionWordsIf, deviceWords}
+use Rattle.write_packet.specs.Desk.{transactionWordsIf, deviceWords, endpointWords}
 use Rattle.write_packet.proofs.Parts.{desks, row-fits, row1-fits, row3-fits, plus-le}
 use borrow.Author.Needs.{needs}
 use Rattle.write_packet.proofs.leaf.open_rows.Statement.{statement}
@@ -48,8 +48,15 @@ same-length-2 c = search needs
 same-length-3 : tie.Need-same-length-3
 same-length-3 c = search needs
 
+-- the device row and the endpoint row
+owned : (c : tie.After-put1-if) → let a = c .before .before .before .before .before .before .before .before .before .before .before .args in c .put1-if .last .1 .0 ≡ sets (a .devices .now) (a .h .devices) (deviceWords (a .s))
+owned c = c .put1-if .ensures
+
+directed : (c : tie.After-put3-if) → let a = c .before .before .before .before .before .before .before .before .before .before .before .before .before .before .before .args in c .put3-if .last .1 .0 ≡ sets (a .endpoints .now) (a .h .endpoints * endpointWidth) (endpointWords (a .s))
+directed c = c .put3-if .ensures
+
 returns : tie.Need-returns
-returns c = λ g m s i l. desks (c .before .before .before .before .before .before .before .before .before .before .before .before .before .before .before .opened-hand .ensures) (c .entry-if .ensures) (c .before .before .before .before .before .before .before .before .put1-if .ensures) (c .before .before .before .before .put3-if .ensures) (c .before .before .before .before .before .before .before .before .before .before .before .before .before .put-transaction .ensures) refl refl refl refl refl
+returns c = λ g m s i l. desks (c .before .before .before .before .before .before .before .before .before .before .before .before .before .before .before .opened-hand .ensures) (c .entry-if .ensures) (owned (c .before .before .before .before .before .before .before .before)) (directed (c .before .before .before .before)) (c .before .before .before .before .before .before .before .before .before .before .before .before .before .put-transaction .ensures) refl refl refl refl refl
 
 pub open-rows-spec : {M : Type 1} → statement M
 open-rows-spec =

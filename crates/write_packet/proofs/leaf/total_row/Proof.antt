@@ -1,6 +1,12 @@
 -- `write_packet::leaf::total_row` meets its contract: the row has the total as loaded, and the entry is changed after it.
-use mathlib.Core.Path.{refl, _∙_}
+use Prim.Native.Nat.{_*_}
+use mathlib.Core.List.{[], _∷_}
+use mathlib.Core.Path.{_≡_, refl, _∙_}
 use borrow.Author.Needs.{needs}
+use lib.Seq.{sets}
+use Rattle.rows.specs.Widths.{linkWidth}
+use Rattle.endpoints.specs.Link as kind
+use Rattle.transaction.specs.Table.{pick}
 use Rattle.write_packet.proofs.leaf.total_row.Statement.{statement}
 use Rattle.write_packet.proofs.leaf.total_row.Tie as tie
 mod Places
@@ -24,8 +30,23 @@ with-written-requires c κs = tt
 same-length : tie.Need-same-length
 same-length c = search needs
 
+-- the T row that the total is for, and the D row
+rowed : (c : tie.After-row-of) → let a = row-of·Start c .args in c .row-of .result ≡ pick (a .waited) (a .i) (a .h .written .link)
+rowed c = c .row-of .ensures
+
+counted : (c : tie.After-link-row) → let a = link-row·Start c .args in c .link-row .last .1 .1 .1 .1 .1 .0 ≡ sets (a .links .now) (a .h .written .links * linkWidth) (kind.D ∷ a .x ∷ link-row·row-of c .row-of .result ∷ link-row·load c .load .result .total ∷ [])
+counted c = c .link-row .ensures .1
+
 returns : tie.Need-returns
-returns c = (c .with-written .ensures ∙ rw (c .before .before .before .link-row .ensures .0) refl, (c .before .before .before .before .before .note .ensures, c .before .before .before .link-row .ensures .1 ∙ rw (c .before .before .before .before .before .before .before .row-of .ensures, c .before .before .before .before .before .before .before .before .load .ensures) refl))
+returns c =
+    let m = c .before .before .before in
+    let a = link-row·Start m .args in (
+      c .with-written .ensures ∙ rw (c .before .before .before .link-row .ensures .0) refl,
+      (
+        c .before .before .before .before .before .note .ensures,
+        counted m ∙ λ i. sets (a .links .now) (a .h .written .links * linkWidth) (kind.D ∷ a .x ∷ rowed (link-row·row-of m) i ∷ link-row·load m .load .ensures i .total ∷ []),
+      ),
+    )
 
 pub total-row-spec : {M : Type 1} → statement M
 total-row-spec =

@@ -2,10 +2,10 @@
 use Rattle.pivotspark.proofs.traces.pivotspark_trace.Tie as tie
 
 abbrev pub tell·run : tie.After-tell → tie.After-run
-tell·run c = c .before .before .before .before .before .before .before .before .before .before .before .before .before .before .before .before .before .before .before .before .before .before .before .before .before .before .before .before .before .before .before
+tell·run c = c .before .before .before .before .before .before .before .before .before .before .before .before .before .before .before .before .before .before .before .before .before .before .before .before .before .before .before .before .before
 
 abbrev pub returns·run : tie.After-tell → tie.After-run
-returns·run c = c .before .before .before .before .before .before .before .before .before .before .before .before .before .before .before .before .before .before .before .before .before .before .before .before .before .before .before .before .before .before .before
+returns·run c = c .before .before .before .before .before .before .before .before .before .before .before .before .before .before .before .before .before .before .before .before .before .before .before .before .before .before .before .before .before
 
 abbrev pub returns·put-counts : tie.After-tell → tie.After-put-counts
 returns·put-counts c = c .before .before .before

@@ -5,7 +5,7 @@ abbrev pub returns·Start : tie.Then1 → tie.Start
 returns·Start c = c .before .before
 
 abbrev pub put43·Start : tie.After-put43 → tie.Start
-put43·Start c = c .before .before .before .before .before .before .before .before .before .before .before .before
+put43·Start c = c .before .before .before .before .before .before .before .before .before .before .before .before .before
 
 abbrev pub put43·put4 : tie.After-put43 → tie.After-put4
 put43·put4 c = c .before .before .before .before .before .before .before .before
@@ -14,10 +14,10 @@ abbrev pub put43·put42 : tie.After-put43 → tie.After-put42
 put43·put42 c = c .before .before .before .before
 
 abbrev pub returns-2·Start : tie.After-slice-known4 → tie.Start
-returns-2·Start c = c .before .before .before .before .before .before .before .before .before .before .before .before .before .before
+returns-2·Start c = c .before .before .before .before .before .before .before .before .before .before .before .before .before .before .before
 
 abbrev pub returns-2·Else1 : tie.After-slice-known4 → tie.Else1
-returns-2·Else1 c = c .before .before .before .before .before .before .before .before .before .before .before .before
+returns-2·Else1 c = c .before .before .before .before .before .before .before .before .before .before .before .before .before
 
 abbrev pub returns-2·put43 : tie.After-slice-known4 → tie.After-put43
 returns-2·put43 c = c .before .before

@@ -9,3 +9,15 @@ note-requires·Start c = c .before .before .before .before .before .before
 
 abbrev pub link-row-requires·Start : tie.After-link-row-arg → tie.Start
 link-row-requires·Start c = c .before .before .before .before .before .before .before .before
+
+abbrev pub row-of·Start : tie.After-row-of → tie.Start
+row-of·Start c = c .before .before .before .before .before
+
+abbrev pub link-row·Start : tie.After-link-row → tie.Start
+link-row·Start c = c .before .before .before .before .before .before .before .before .before
+
+abbrev pub link-row·row-of : tie.After-link-row → tie.After-row-of
+link-row·row-of c = c .before .before .before .before
+
+abbrev pub link-row·load : tie.After-link-row → tie.After-load
+link-row·load c = c .before .before .before .before .before

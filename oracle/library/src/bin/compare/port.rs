@@ -3,8 +3,7 @@
 use oracle::blocks::{Blocks, Input, Taken};
 use oracle::calls::Rows;
 use oracle::compare::{Left, Port};
-use oracle::lent::Logs;
-use oracle::library;
+use oracle::lent::{Log, Logs};
 use oracle::singles::{Call, Entries, Memory, RECORD, Told};
 
 /// The library, in a mode; each call has other words in the logs before.
@@ -47,35 +46,36 @@ impl Port for Library {
     }
 }
 
+/// What one run in blocks told and left: the answer of fresh, the words of each block, the logs and the counts.
+struct Run {
+    answer: u8,
+    blocks: Vec<[u64; 6]>,
+    logs: Logs,
+    rows: [u64; 12],
+}
+
 impl Library {
-    /// The logs, what the entry told, and what it wrote of the blocks into so many words.
-    fn blocks(&mut self, input: &Input, room: &Rows, shelf: &[u8], words: usize) -> (Logs, (u8, u64), Vec<u64>, [u64; 12]) {
+    fn blocks(&mut self, input: &Input, room: &Rows, shelf: &[u8]) -> Result<Run, String> {
         self.turn += 1;
-        let mut logs = Logs::new(room, shelf, self.turn);
-        let (mut out, mut counts) = (vec![u64::MAX; words], [u64::MAX; 12]);
-        // `lend` has what the entry asks for.
-        let told = logs.lend(|lent| unsafe { library::blocks(self.high, input, lent, &mut out, &mut counts) });
-        (logs, told, out, counts)
+        let (mut logs, mut record) = (Logs::new(room, shelf, self.turn), Log::new(RECORD, self.turn));
+        let (words, mut blocks) = (record.lend().0, Vec::new());
+        // `lend` has what the entries ask for, and the record its words.
+        let answer = logs.lend(|lent| unsafe { library::blocks(self.high, input, words, lent, |block| blocks.push(block)) });
+        let rows = library::counts(record.first(RECORD)?.try_into().expect("the words of a record"));
+        Ok(Run { answer, blocks, logs, rows })
     }
 }
 
 impl Blocks for Library {
     fn take(&mut self, input: &Input, room: &Rows, shelf: &mut [u8]) -> Result<Taken, String> {
-        let words = 6 * (input.cuts.len() + 1);
-        // Some words behind those that are asked for; they stay as they were, as do those of blocks that were not called.
-        let (logs, told, out, rows) = self.blocks(input, room, shelf, words + self.turn as usize % 3);
-        let called = 6 * told.1 as usize;
-        if called > words || out[called..].iter().any(|word| *word != u64::MAX) {
-            return Err(format!("{} blocks, and words behind them: {out:?}", told.1));
-        }
-        let blocks = out[..called].chunks(6).map(|block| block.try_into().expect("six words")).collect();
-        let left = Left { answer: told.0, at: told.1, rows, words: logs.rows(&rows)? };
-        // With too few words for the blocks they stay as they were, and all else is the same.
+        let Run { answer, blocks, logs, rows } = self.blocks(input, room, shelf)?;
+        let left = Left { answer, at: blocks.len() as u64, rows, words: logs.rows(&rows)? };
+        // With other words in the record, the table and the logs before, all is the same.
         if self.turn % 32 == 0 {
-            let (again, told_again, out, counts) = self.blocks(input, room, shelf, words - 1);
-            let same = told_again == told && again.rows(&rows)? == left.words && again.shelf()? == logs.shelf()?;
-            if !same || counts != rows || out.iter().any(|word| *word != u64::MAX) {
-                return Err("with too few words for the blocks it does something else".to_string());
+            let again = self.blocks(input, room, shelf)?;
+            let told = (again.answer, &again.blocks, again.rows) == (answer, &blocks, rows);
+            if !told || again.logs.rows(&rows)? != left.words || again.logs.shelf()? != logs.shelf()? {
+                return Err("with other words in the record before it does something else".to_string());
             }
         }
         shelf.copy_from_slice(logs.shelf()?);

@@ -12,7 +12,7 @@ use oracle::packets::{data, handshake, sof, split, token};
 use oracle::program::Program;
 use oracle::usb::PID::{self, *};
 use oracle::usb::{REASONS, reason_of, validate_packet};
-use oracle::{compare, library, report};
+use oracle::{compare, report};
 use port::Library;
 
 /// What the port must answer: the PID where the Rust says that a packet is valid, else 256 times the reason, which is ours (change request 1).

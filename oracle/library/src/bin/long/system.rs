@@ -7,7 +7,6 @@ use oracle::blocks::Input;
 use oracle::calls::{BYTES, Rows, STATE_BYTES, WIDTHS};
 use oracle::descriptors::SHELF;
 use oracle::lent::{Lent, TABLE};
-use oracle::library;
 use oracle::singles::{Call, RECORD};
 
 unsafe extern "C" {
@@ -93,18 +92,18 @@ impl Logs {
 
     /// Its records, each as a block of its own, so that each is tested as by a call of its own; the rows that they leave.
     pub fn run_one_by_one(&mut self, input: &Input) -> Result<Rows, String> {
-        let (lent, mut rows) = (self.lend(), Rows([0; 12]));
-        // Likewise; with no words for what the blocks give back, none are stored.
-        match unsafe { library::blocks(false, input, &lent, &mut [], &mut rows.0) } {
-            (0, blocks) if blocks == input.cuts.len() as u64 + 1 => Ok(rows),
-            (answer, blocks) => Err(format!("the port makes a decoder with {answer}, and {blocks} blocks")),
+        let (lent, mut record, mut blocks) = (self.lend(), [0; RECORD], 0);
+        // Likewise, and the record is our own.
+        match unsafe { library::blocks(false, input, record.as_mut_ptr(), &lent, |_| blocks += 1) } {
+            0 if blocks == input.cuts.len() + 1 => Ok(Rows(library::counts(&record))),
+            answer => Err(format!("the port makes a decoder with {answer}, and {blocks} blocks")),
         }
     }
 
     /// Packets by a call each, on a record in lent words; the rows that they leave.
     pub fn run_singly<'a>(&mut self, packets: impl Iterator<Item = &'a [u8]>) -> Result<Rows, String> {
         let (lent, mut record) = (self.lend(), [0; RECORD]);
-        // Likewise, and the record is our own.
+        // Likewise.
         let mut call = |call: Call| match unsafe { library::call(&call, record.as_mut_ptr(), &lent) }.answer {
             0 | 8 => Ok(()),
             answer => Err(format!("the port answers {answer}")),

@@ -13,7 +13,6 @@ use oracle::blocks::Input;
 use oracle::calls::{BYTES, Calls, ENDPOINTS, LOGS, Mechanism, Rows, STATE_BYTES, WIDTHS};
 use oracle::decoder::machine::Machine;
 use oracle::generate::download;
-use oracle::library;
 use oracle::mixed::mixed;
 use oracle::trace::{Clock, HEADER, Reader, Record, run as play};
 use oracle::usb::validate_packet;

@@ -1,13 +1,13 @@
 //! The C entries of the proved port, linked as a static library: `scripts/library` first. Their declarations are generated (scripts/header).
 
-#[path = "../../host/src/library.rs"]
+#[path = "../../../host/src/library.rs"]
 #[rustfmt::skip]
 pub mod entries;
 
-use crate::blocks::Input;
-use crate::decoder::machine::State;
-use crate::lent::Lent;
-use crate::singles::{Call, RECORD, Told};
+use oracle::blocks::Input;
+use oracle::decoder::machine::State;
+use oracle::lent::Lent;
+use oracle::singles::{Call, RECORD, Told};
 
 /// The port's packet check.
 pub fn check(packet: &[u8]) -> u16 {
@@ -63,45 +63,6 @@ pub unsafe fn trace(high: bool, trace: &[u8], lent: &Lent, counts: &mut [u64]) -
     })
 }
 
-entry!(
-    pivotspark_blocks(
-        high: u8,
-        records: *const u8, records_len: usize,
-        last: u32, time: u64,
-        cuts: *const u64, cuts_len: usize,
-        out: *mut u64, out_len: usize;
-        shelf: *mut u8, counts: *mut u64, counts_len: usize
-    ) -> u64
-);
-
-/// Records without header in blocks, as `blocks::Blocks` says: the answer of fresh and the number of blocks that were called. The tick state before
-/// them is the last counter and its time, 0 and 0 before the first. Of each block that was called six words are in `out`: answer, taken,
-/// eights, place in the block, last counter, time. It stays as it is where it has fewer than six words for each cut and six more.
-///
-/// # Safety
-/// As for `trace`.
-pub unsafe fn blocks(high: bool, input: &Input, lent: &Lent, out: &mut [u64], counts: &mut [u64]) -> (u8, u64) {
-    let (last, time) = input.clock.state();
-    let (records, cuts) = (input.records, &input.cuts);
-    told(unsafe {
-        pivotspark_blocks(
-            high as u8,
-            records.as_ptr(),
-            records.len(),
-            last,
-            time,
-            cuts.as_ptr(),
-            cuts.len(),
-            out.as_mut_ptr(),
-            out.len(),
-            lent,
-            lent.shelf,
-            counts.as_mut_ptr(),
-            counts.len(),
-        )
-    })
-}
-
 mod single {
     use super::*;
 
@@ -116,6 +77,18 @@ mod single {
         ) -> u8
     );
 
+    const GUARD: u64 = u64::MAX;
+
+    /// Three words to lend, between two that nobody may write.
+    fn guarded(words: [u64; 3]) -> [u64; 5] {
+        [GUARD, words[0], words[1], words[2], GUARD]
+    }
+
+    fn unguarded([before, a, b, c, behind]: [u64; 5]) -> [u64; 3] {
+        assert!(before == GUARD && behind == GUARD, "a block wrote beside the words that it was lent");
+        [a, b, c]
+    }
+
     /// A single call on a record.
     ///
     /// # Safety
@@ -129,9 +102,11 @@ mod single {
                 Call::Event { kind, code, time } => pivotspark_event(record, kind, code, time, lent),
                 Call::Finish => pivotspark_finish(record, lent),
                 Call::Block { typed, clock, records } => {
-                    (told.clock, told.block) = (clock, [u64::MAX; 3]);
-                    let (clock, block) = (told.clock.as_mut_ptr(), told.block.as_mut_ptr());
-                    pivotspark_block(typed, record, clock, records.as_ptr(), records.len(), lent, lent.shelf, block)
+                    let (mut ticks, mut block) = (guarded(clock), guarded([GUARD; 3]));
+                    let (clock, words) = (ticks[1..].as_mut_ptr(), block[1..].as_mut_ptr());
+                    let answer = pivotspark_block(typed, record, clock, records.as_ptr(), records.len(), lent, lent.shelf, words);
+                    (told.clock, told.block) = (unguarded(ticks), unguarded(block));
+                    answer
                 }
             }
         };
@@ -147,3 +122,30 @@ mod single {
 }
 
 pub use single::{call, counts};
+
+/// Records without header in blocks, as `blocks::Blocks` says, on a record that is made fresh; gives the answer of fresh. The tick state before them is the last
+/// counter and its time, 0 and 0 before the first. Of each block that was called six words are told: answer, taken, eights, place in the block, last
+/// counter, time.
+///
+/// # Safety
+/// As for `call`.
+pub unsafe fn blocks(high: bool, input: &Input, record: *mut u64, lent: &Lent, mut tell: impl FnMut([u64; 6])) -> u8 {
+    let fresh = unsafe { call(&Call::Fresh { mode: high as u8 }, record, lent) }.answer;
+    if fresh != 0 {
+        return fresh;
+    }
+    let (records, (last, time)) = (input.records, input.clock.state());
+    let (mut at, mut clock) = (0, [1, last as u64, time]);
+    for cut in input.cuts.iter().map(|cut| *cut as usize).chain([records.len()]) {
+        let block = Call::Block { typed: 0, clock, records: &records[at..cut.clamp(at, records.len())] };
+        let told = unsafe { call(&block, record, lent) };
+        let [taken, eights, place] = told.block;
+        clock = told.clock;
+        tell([told.answer as u64, taken, eights, place, clock[1], clock[2]]);
+        if told.answer != 0 && told.answer != 13 {
+            break;
+        }
+        at = at.saturating_add(place as usize).min(records.len());
+    }
+    0
+}
