@@ -39,6 +39,11 @@ extern "C" {
 #define PIVOTSPARK_VERSION 11 /* a version of the trace other than 1, or none */
 #define PIVOTSPARK_TAG 12 /* a record with an unknown tag */
 #define PIVOTSPARK_CUT 13 /* a record that is cut short */
+#define PIVOTSPARK_PCAP_MARK 14 /* no pcap file: its first four bytes are none of the marks, or its head is cut short */
+#define PIVOTSPARK_PCAP_LINK 15 /* a pcap file whose link type is not 288, USB 2.0 packets */
+#define PIVOTSPARK_PCAP_CUT 16 /* a record of a pcap file that is cut short, or whose packet was not captured whole */
+#define PIVOTSPARK_PCAP_FRACTION 17 /* a record of a pcap file whose fraction is not below one second */
+#define PIVOTSPARK_PCAP_SECONDS 18 /* a time whose seconds do not fit the 32 bits of a pcap file */
 #define PIVOTSPARK_DETAIL_IN_BLOCK 20 /* a detail, which a block may not hold */
 
 /* The elements of the arrays that have a fixed length. */
@@ -47,6 +52,7 @@ extern "C" {
 #define PIVOTSPARK_TABLE 2704 /* uint64_t */
 #define PIVOTSPARK_SHELF 524288 /* uint8_t */
 #define PIVOTSPARK_TOLD 3 /* uint64_t */
+#define PIVOTSPARK_PCAPFORMAT 2 /* uint64_t */
 
 /* The most that there may be. A log that is longer is answered 1. */
 #define PIVOTSPARK_MOST_ROWS 16777216 /* rows of a log */
@@ -55,6 +61,9 @@ extern "C" {
 #define PIVOTSPARK_MOST_ENDPOINTS 128 /* endpoints, likewise */
 #define PIVOTSPARK_MOST_PACKET 4096 /* bytes of a packet */
 #define PIVOTSPARK_HEADER_SIZE 5 /* bytes of a trace before its first record */
+#define PIVOTSPARK_PCAP_HEAD_SIZE 24 /* bytes of a pcap file before its first record */
+#define PIVOTSPARK_PCAP_MICROSECONDS 2712847316 /* mark of a pcap file, in either byte order: times in microseconds */
+#define PIVOTSPARK_PCAP_NANOSECONDS 2712812621 /* mark of a pcap file, likewise: times in nanoseconds */
 
 /* The twelve logs, by number: the words of a row (of bytes and statebytes, a byte is a row), and what they are. A log has room
  * for its length divided by that, rounded down. */
@@ -188,6 +197,45 @@ uint8_t pivotspark_packet(uint64_t record[PIVOTSPARK_RECORD], const uint8_t *pac
     uint8_t *statebytes, size_t statebytes_len, uint64_t *states, size_t states_len,
     uint64_t *items, size_t items_len, uint64_t *links, size_t links_len, uint64_t *requests, size_t requests_len,
     uint8_t shelf[PIVOTSPARK_SHELF]);
+
+/* The packets as a file, from the start of `out`; refused, nothing is written. `told` as of pivotspark_pcap_size.
+ * Answers 0, 1, 18, or 7 where the file is longer than `out`. */
+uint8_t pivotspark_pcap_export(const uint64_t record[PIVOTSPARK_RECORD], const uint64_t table[PIVOTSPARK_TABLE],
+    const uint8_t *bytes, size_t bytes_len, const uint64_t *device_rows, size_t device_rows_len,
+    const uint64_t *endpoint_rows, size_t endpoint_rows_len, const uint64_t *packets, size_t packets_len,
+    const uint64_t *events, size_t events_len, const uint64_t *transactions, size_t transactions_len,
+    const uint64_t *groups, size_t groups_len, const uint8_t *statebytes, size_t statebytes_len,
+    const uint64_t *states, size_t states_len, const uint64_t *items, size_t items_len,
+    const uint64_t *links, size_t links_len, const uint64_t *requests, size_t requests_len,
+    uint8_t *out, size_t out_len, uint64_t told[PIVOTSPARK_TOLD]);
+
+/* The answer to the head in the top byte, and the place below it: where the records begin, or what is wrong. Where it
+ * is accepted `format` gets the file's format. The answer is 0, 14 or 15. */
+uint64_t pivotspark_pcap_head(const uint8_t *file, size_t file_len, uint64_t format[PIVOTSPARK_PCAPFORMAT]);
+
+/* The records from the first byte on, each a packet call, in the format that the head gave. `told` gets the records
+ * taken, how many of them were answered 8, and the place in `records` where it stopped. Answers 0 at the end of the
+ * records, else the answer of the record at that place: of its call, or 16, 17. Of a file that is lent in pieces a
+ * piece may end within a record, which is answered 16: go on from its place with more. */
+uint8_t pivotspark_pcap_records(uint64_t record[PIVOTSPARK_RECORD], const uint64_t format[PIVOTSPARK_PCAPFORMAT],
+    const uint8_t *records, size_t records_len, uint64_t table[PIVOTSPARK_TABLE], uint8_t *bytes, size_t bytes_len,
+    uint64_t *device_rows, size_t device_rows_len, uint64_t *endpoint_rows, size_t endpoint_rows_len,
+    uint64_t *packets, size_t packets_len, const uint64_t *events, size_t events_len,
+    uint64_t *transactions, size_t transactions_len, uint64_t *groups, size_t groups_len,
+    uint8_t *statebytes, size_t statebytes_len, uint64_t *states, size_t states_len,
+    uint64_t *items, size_t items_len, uint64_t *links, size_t links_len, uint64_t *requests, size_t requests_len,
+    uint8_t shelf[PIVOTSPARK_SHELF], uint64_t told[PIVOTSPARK_TOLD]);
+
+/* How long the file is that pivotspark_pcap_export would write. `told` gets the file's length, its packets, and the
+ * events that it leaves behind; refused, it is as it was. Answers 0, 1 or 18. */
+uint8_t pivotspark_pcap_size(const uint64_t record[PIVOTSPARK_RECORD], const uint64_t table[PIVOTSPARK_TABLE],
+    const uint8_t *bytes, size_t bytes_len, const uint64_t *device_rows, size_t device_rows_len,
+    const uint64_t *endpoint_rows, size_t endpoint_rows_len, const uint64_t *packets, size_t packets_len,
+    const uint64_t *events, size_t events_len, const uint64_t *transactions, size_t transactions_len,
+    const uint64_t *groups, size_t groups_len, const uint8_t *statebytes, size_t statebytes_len,
+    const uint64_t *states, size_t states_len, const uint64_t *items, size_t items_len,
+    const uint64_t *links, size_t links_len, const uint64_t *requests, size_t requests_len,
+    uint64_t told[PIVOTSPARK_TOLD]);
 
 /* The answer to the header in the top byte, and the place below it: where the records begin, or what is wrong. The
  * answer is 0, 10 or 11. */

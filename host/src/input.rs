@@ -11,6 +11,9 @@ use crate::memory::buffer;
 /// How many bytes that were passed stay before the window: the library is lent them in the place of a trace's header.
 const BEFORE: usize = HEADER_SIZE;
 
+/// What a window is called, where there is no memory for it.
+const WINDOW: &str = "a part of the input";
+
 /// A part of the input: the bytes that were read and not passed yet.
 pub struct Window {
     name: String,
@@ -25,27 +28,28 @@ pub struct Window {
     last: bool,
 }
 
+/// What a file is called in messages.
+pub fn name(file: &OsStr) -> String {
+    if file == "-" { "standard input".to_string() } else { file.to_string_lossy().into_owned() }
+}
+
 impl Window {
     /// Opens a file; `-` is standard input.
     pub fn open(file: &OsStr, size: usize) -> Result<Window, Fault> {
-        let (name, source, length): (String, Box<dyn Read>, _) = if file == "-" {
-            ("standard input".to_string(), Box::new(stdin().lock()), None)
+        let name = name(file);
+        let (source, length): (Box<dyn Read>, _) = if file == "-" {
+            (Box::new(stdin().lock()), None)
         } else {
-            let name = file.to_string_lossy().into_owned();
             let opened = File::open(file).map_err(|e| format!("{name}: {e}"))?;
             let length = opened.metadata().ok().filter(|m| m.is_file()).map(|m| m.len());
-            (name, Box::new(opened), length)
+            (Box::new(opened), length)
         };
         Window::over(name, source, length, size)
     }
 
     fn over(name: String, source: Box<dyn Read>, length: Option<u64>, size: usize) -> Result<Window, Fault> {
-        let buffer = buffer(BEFORE + size)?;
+        let buffer = buffer(WINDOW, BEFORE + size)?;
         Ok(Window { name, source, size: length, buffer, start: BEFORE, end: BEFORE, offset: 0, last: false })
-    }
-
-    pub fn name(&self) -> &str {
-        &self.name
     }
 
     pub fn size(&self) -> Option<u64> {
@@ -103,7 +107,7 @@ impl Window {
         if BEFORE + count <= self.buffer.len() {
             return Ok(());
         }
-        let mut wider = buffer(BEFORE + count)?;
+        let mut wider = buffer(WINDOW, BEFORE + count)?;
         wider[..self.end].copy_from_slice(&self.buffer[..self.end]);
         self.buffer = wider;
         Ok(())

@@ -10,6 +10,7 @@ pub type Ticks = [u64; 3];
 pub type Table = [u64; 2704];
 pub type Shelf = [u8; 524288];
 pub type Told = [u64; 3];
+pub type PcapFormat = [u64; 2];
 
 /// The most rows of a log.
 pub const MOST_ROWS: usize = 16777216;
@@ -23,6 +24,12 @@ pub const MOST_ENDPOINTS: usize = 128;
 pub const MOST_PACKET: usize = 4096;
 /// The bytes of a trace before its first record.
 pub const HEADER_SIZE: usize = 5;
+/// The bytes of a pcap file before its first record.
+pub const PCAP_HEAD_SIZE: usize = 24;
+/// The mark of a pcap file, in either byte order: times in microseconds.
+pub const PCAP_MICROSECONDS: usize = 2712847316;
+/// The mark of a pcap file, likewise: times in nanoseconds.
+pub const PCAP_NANOSECONDS: usize = 2712812621;
 
 /// The twelve logs, in the order of their numbers.
 pub struct Logs {
@@ -88,6 +95,11 @@ pub mod answer {
     pub const VERSION: u8 = 11;
     pub const TAG: u8 = 12;
     pub const CUT: u8 = 13;
+    pub const PCAP_MARK: u8 = 14;
+    pub const PCAP_LINK: u8 = 15;
+    pub const PCAP_CUT: u8 = 16;
+    pub const PCAP_FRACTION: u8 = 17;
+    pub const PCAP_SECONDS: u8 = 18;
     pub const DETAIL_IN_BLOCK: u8 = 20;
 }
 
@@ -108,6 +120,11 @@ pub fn words(answer: u8) -> &'static str {
         11 => "a version of the trace other than 1, or none",
         12 => "a record with an unknown tag",
         13 => "a record that is cut short",
+        14 => "no pcap file: its first four bytes are none of the marks, or its head is cut short",
+        15 => "a pcap file whose link type is not 288, USB 2.0 packets",
+        16 => "a record of a pcap file that is cut short, or whose packet was not captured whole",
+        17 => "a record of a pcap file whose fraction is not below one second",
+        18 => "a time whose seconds do not fit the 32 bits of a pcap file",
         20 => "a detail, which a block may not hold",
         _ => "an answer that has no words",
     }
@@ -208,6 +225,62 @@ pub mod entry {
             links: *mut u64, links_len: usize,
             requests: *mut u64, requests_len: usize,
             shelf: *mut u8,
+        ) -> u8;
+        pub fn pivotspark_pcap_export(
+            record: *const u64,
+            table: *const u64,
+            bytes: *const u8, bytes_len: usize,
+            device_rows: *const u64, device_rows_len: usize,
+            endpoint_rows: *const u64, endpoint_rows_len: usize,
+            packets: *const u64, packets_len: usize,
+            events: *const u64, events_len: usize,
+            transactions: *const u64, transactions_len: usize,
+            groups: *const u64, groups_len: usize,
+            statebytes: *const u8, statebytes_len: usize,
+            states: *const u64, states_len: usize,
+            items: *const u64, items_len: usize,
+            links: *const u64, links_len: usize,
+            requests: *const u64, requests_len: usize,
+            out: *mut u8, out_len: usize,
+            told: *mut u64,
+        ) -> u8;
+        pub fn pivotspark_pcap_head(file: *const u8, file_len: usize, format: *mut u64) -> u64;
+        pub fn pivotspark_pcap_records(
+            record: *mut u64,
+            format: *const u64,
+            records: *const u8, records_len: usize,
+            table: *mut u64,
+            bytes: *mut u8, bytes_len: usize,
+            device_rows: *mut u64, device_rows_len: usize,
+            endpoint_rows: *mut u64, endpoint_rows_len: usize,
+            packets: *mut u64, packets_len: usize,
+            events: *const u64, events_len: usize,
+            transactions: *mut u64, transactions_len: usize,
+            groups: *mut u64, groups_len: usize,
+            statebytes: *mut u8, statebytes_len: usize,
+            states: *mut u64, states_len: usize,
+            items: *mut u64, items_len: usize,
+            links: *mut u64, links_len: usize,
+            requests: *mut u64, requests_len: usize,
+            shelf: *mut u8,
+            told: *mut u64,
+        ) -> u8;
+        pub fn pivotspark_pcap_size(
+            record: *const u64,
+            table: *const u64,
+            bytes: *const u8, bytes_len: usize,
+            device_rows: *const u64, device_rows_len: usize,
+            endpoint_rows: *const u64, endpoint_rows_len: usize,
+            packets: *const u64, packets_len: usize,
+            events: *const u64, events_len: usize,
+            transactions: *const u64, transactions_len: usize,
+            groups: *const u64, groups_len: usize,
+            statebytes: *const u8, statebytes_len: usize,
+            states: *const u64, states_len: usize,
+            items: *const u64, items_len: usize,
+            links: *const u64, links_len: usize,
+            requests: *const u64, requests_len: usize,
+            told: *mut u64,
         ) -> u8;
         pub fn pivotspark_header(trace: *const u8, trace_len: usize) -> u64;
         pub fn pivotspark_details(trace: *const u8, trace_len: usize) -> u64;
@@ -383,6 +456,92 @@ pub fn packet(record: &mut Record, packet: &[u8], time: u64, table: &mut Table, 
         logs.links.as_mut_ptr(), logs.links.len(),
         logs.requests.as_mut_ptr(), logs.requests.len(),
         shelf.as_mut_ptr(),
+    ) }
+}
+
+/// The packets as a file, from the start of `out`; refused, nothing is written. `told` as of pivotspark_pcap_size. Answers 0, 1,
+/// 18, or 7 where the file is longer than `out`.
+pub fn pcap_export(record: &Record, table: &Table, logs: &mut Logs, out: &mut [u8], told: &mut Told) -> u8 {
+    unsafe { entry::pivotspark_pcap_export(
+        record.as_ptr(),
+        table.as_ptr(),
+        logs.bytes.as_ptr(), logs.bytes.len(),
+        logs.device_rows.as_ptr(), logs.device_rows.len(),
+        logs.endpoint_rows.as_ptr(), logs.endpoint_rows.len(),
+        logs.packets.as_ptr(), logs.packets.len(),
+        logs.events.as_ptr(), logs.events.len(),
+        logs.transactions.as_ptr(), logs.transactions.len(),
+        logs.groups.as_ptr(), logs.groups.len(),
+        logs.statebytes.as_ptr(), logs.statebytes.len(),
+        logs.states.as_ptr(), logs.states.len(),
+        logs.items.as_ptr(), logs.items.len(),
+        logs.links.as_ptr(), logs.links.len(),
+        logs.requests.as_ptr(), logs.requests.len(),
+        out.as_mut_ptr(), out.len(),
+        told.as_mut_ptr(),
+    ) }
+}
+
+/// The answer to the head in the top byte, and the place below it: where the records begin, or what is wrong. Where it is
+/// accepted `format` gets the file's format. The answer is 0, 14 or 15.
+pub fn pcap_head(file: &[u8], format: &mut PcapFormat) -> u64 {
+    unsafe { entry::pivotspark_pcap_head(file.as_ptr(), file.len(), format.as_mut_ptr()) }
+}
+
+/// The records from the first byte on, each a packet call, in the format that the head gave. `told` gets the records taken, how
+/// many of them were answered 8, and the place in `records` where it stopped. Answers 0 at the end of the records, else the
+/// answer of the record at that place: of its call, or 16, 17. Of a file that is lent in pieces a piece may end within a record,
+/// which is answered 16: go on from its place with more.
+pub fn pcap_records(
+    record: &mut Record,
+    format: &PcapFormat,
+    records: &[u8],
+    table: &mut Table,
+    logs: &mut Logs,
+    shelf: &mut Shelf,
+    told: &mut Told,
+) -> u8 {
+    unsafe { entry::pivotspark_pcap_records(
+        record.as_mut_ptr(),
+        format.as_ptr(),
+        records.as_ptr(), records.len(),
+        table.as_mut_ptr(),
+        logs.bytes.as_mut_ptr(), logs.bytes.len(),
+        logs.device_rows.as_mut_ptr(), logs.device_rows.len(),
+        logs.endpoint_rows.as_mut_ptr(), logs.endpoint_rows.len(),
+        logs.packets.as_mut_ptr(), logs.packets.len(),
+        logs.events.as_ptr(), logs.events.len(),
+        logs.transactions.as_mut_ptr(), logs.transactions.len(),
+        logs.groups.as_mut_ptr(), logs.groups.len(),
+        logs.statebytes.as_mut_ptr(), logs.statebytes.len(),
+        logs.states.as_mut_ptr(), logs.states.len(),
+        logs.items.as_mut_ptr(), logs.items.len(),
+        logs.links.as_mut_ptr(), logs.links.len(),
+        logs.requests.as_mut_ptr(), logs.requests.len(),
+        shelf.as_mut_ptr(),
+        told.as_mut_ptr(),
+    ) }
+}
+
+/// How long the file is that pivotspark_pcap_export would write. `told` gets the file's length, its packets, and the events that
+/// it leaves behind; refused, it is as it was. Answers 0, 1 or 18.
+pub fn pcap_size(record: &Record, table: &Table, logs: &mut Logs, told: &mut Told) -> u8 {
+    unsafe { entry::pivotspark_pcap_size(
+        record.as_ptr(),
+        table.as_ptr(),
+        logs.bytes.as_ptr(), logs.bytes.len(),
+        logs.device_rows.as_ptr(), logs.device_rows.len(),
+        logs.endpoint_rows.as_ptr(), logs.endpoint_rows.len(),
+        logs.packets.as_ptr(), logs.packets.len(),
+        logs.events.as_ptr(), logs.events.len(),
+        logs.transactions.as_ptr(), logs.transactions.len(),
+        logs.groups.as_ptr(), logs.groups.len(),
+        logs.statebytes.as_ptr(), logs.statebytes.len(),
+        logs.states.as_ptr(), logs.states.len(),
+        logs.items.as_ptr(), logs.items.len(),
+        logs.links.as_ptr(), logs.links.len(),
+        logs.requests.as_ptr(), logs.requests.len(),
+        told.as_mut_ptr(),
     ) }
 }
 

@@ -5,6 +5,7 @@
 
 mod arguments;
 mod decoder;
+mod export;
 mod input;
 #[rustfmt::skip] // generated
 mod library;
@@ -12,6 +13,8 @@ mod list;
 mod memory;
 mod output;
 mod progress;
+mod run;
+mod whole;
 
 use std::ffi::OsString;
 use std::io::{Write, stderr};
@@ -26,7 +29,7 @@ fn run(words: &[OsString]) -> Result<(), Fault> {
     match arguments::command(words)? {
         Command::Say(text) => output::say(&text),
         Command::List(options) => list::list(&options),
-        // `to-pcap IN OUT` comes here with change request 4. It is to write OUT under another name, and rename it when it is whole.
+        Command::ToPcap(options) => export::to_pcap(&options),
     }
 }
 

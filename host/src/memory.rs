@@ -32,9 +32,9 @@ pub fn array<T: Plain, const N: usize>() -> Result<Box<[T; N]>, Fault> {
     Ok(memory.into_boxed_slice().try_into().unwrap_or_else(|_| unreachable!("it has N elements")))
 }
 
-/// A buffer for a part of the input or of the output.
-pub fn buffer(count: usize) -> Result<Vec<u8>, Fault> {
-    zeros(count).ok_or_else(|| too_little("a buffer", count))
+/// A buffer for bytes of the input or of the output.
+pub fn buffer(what: &str, count: usize) -> Result<Vec<u8>, Fault> {
+    zeros(count).ok_or_else(|| too_little(what, count))
 }
 
 /// The rows of each log.
@@ -96,7 +96,7 @@ impl Room {
 }
 
 fn too_little(what: &str, bytes: usize) -> Fault {
-    format!("too little memory: {bytes} bytes for {what} are not to be had (list --room ROWS asks for smaller logs)")
+    format!("too little memory: {bytes} bytes for {what} are not to be had (--room ROWS asks for smaller logs)")
 }
 
 #[cfg(test)]

@@ -11,7 +11,7 @@ pub struct Output {
 
 impl Output {
     pub fn new(size: usize) -> Result<Output, Fault> {
-        Ok(Output { buffer: buffer(size)? })
+        Ok(Output { buffer: buffer("a part of the text", size)? })
     }
 
     /// One line; `make` writes it and says how long it is.

@@ -8,18 +8,27 @@ const FIRST: Duration = Duration::from_secs(1);
 const AGAIN: Duration = Duration::from_millis(200);
 
 pub struct Progress {
-    /// When the next line is due; None where none is wanted. A listing on the terminal is its own progress.
+    /// When the next line is due; None where none is wanted.
     due: Option<Instant>,
     shown: bool,
 }
 
 impl Progress {
-    pub fn new() -> Progress {
-        let wanted = stderr().is_terminal() && !stdout().is_terminal();
-        Progress { due: wanted.then(|| Instant::now() + FIRST), shown: false }
+    /// For a command that prints a text as long as its work: on the terminal that is its own progress.
+    pub fn beside_text() -> Progress {
+        Progress::where_wanted(!stdout().is_terminal())
     }
 
-    /// So much is read or listed, of so much, where that is known.
+    /// For a command that prints a line at most, when the progress is wiped out again.
+    pub fn always() -> Progress {
+        Progress::where_wanted(true)
+    }
+
+    fn where_wanted(wanted: bool) -> Progress {
+        Progress { due: (wanted && stderr().is_terminal()).then(|| Instant::now() + FIRST), shown: false }
+    }
+
+    /// So much is read, listed or written, of so much, where that is known.
     pub fn show(&mut self, what: &str, done: u64, total: Option<u64>) {
         let now = Instant::now();
         if self.due.is_none_or(|due| now < due) {

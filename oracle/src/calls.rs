@@ -382,6 +382,11 @@ impl<M: Mechanism> Calls<M> {
         }
     }
 
+    /// Whether every call is answered 1 on the logs that are lent now.
+    pub fn is_ill(&self) -> bool {
+        self.refused() == Some(1)
+    }
+
     pub fn packet(&mut self, packet: &[u8], time: u64) -> u8 {
         if let Some(answer) = self.refused() {
             return answer;

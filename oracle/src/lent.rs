@@ -170,6 +170,8 @@ pub trait Rowed {
     fn lend_zeros(&mut self, length: usize);
     /// What was lent in its place must be zeros still.
     fn put_back(&mut self) -> Result<(), String>;
+    /// The words from a cell on, so many.
+    fn read(&self, from: usize, count: usize) -> Vec<u64>;
     /// Writes words from a cell on.
     fn write(&mut self, from: usize, words: &[u64]);
     /// The first of these words that does not stand there.
@@ -196,6 +198,10 @@ impl<T: Cell> Rowed for Log<T> {
         let written = self.first(0).map(|_| ());
         (self.cells, self.length) = self.aside.take().expect("cells that were put aside");
         written
+    }
+
+    fn read(&self, from: usize, count: usize) -> Vec<u64> {
+        self.cells()[from..from + count].iter().map(|cell| (*cell).into()).collect()
     }
 
     fn write(&mut self, from: usize, words: &[u64]) {

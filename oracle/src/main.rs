@@ -10,7 +10,8 @@ use oracle::descriptors::Descriptors;
 use oracle::generate::{CAMERA, EXTRA, KINDS, download, generate};
 use oracle::mixed::mixed;
 use oracle::mode::{High, Mode, Plain};
-use oracle::{bench, compare, ledger, lemmas, listing, own_and_ruled, report, selfcheck, trace, traces, training};
+use oracle::trace::Refused;
+use oracle::{bench, compare, ledger, lemmas, listing, own_and_ruled, pcap, report, selfcheck, trace, traces, training};
 
 const USAGE: &str = "usage: oracle COMMAND
   listing [OPTION..]     a UTL trace on standard input; prints the listing of document 01
@@ -31,6 +32,10 @@ const USAGE: &str = "usage: oracle COMMAND
   traces --check DIR     compares them with what stands in DIR
   training DIR PAGE      writes the training set (NAME.utl, NAME.right, NAME.student), and into its page the first lines that differ
   training --check DIR PAGE  compares them, and every line that the page quotes, with what stands there
+  to-pcap                a UTL trace on standard input; writes its packets as a pcap file, and `events N` on standard error
+  from-pcap [OPTION..]   a pcap file on standard input; prints the listing of its packets
+  pcap-times             the same input; prints time in nanoseconds, length and reason of each packet
+  pcap N SEED            N random traces of each kind written in all four formats and read again: the same packets and times
   lemmas SEED RUNS CALLS writes the sequences of `traces` and RUNS random runs of CALLS records as lemmas of crates/runs (proofs/Oracle.antt)
   lemmas --high SEED RUNS CALLS  writes the traces of DIR/high, and RUNS random runs on which the mode shows, as lemmas in the mode
 --high is the mode of change request 6, high-bandwidth isochronous data
@@ -117,6 +122,10 @@ fn listed<D: Mode>(trace: &[u8], o: &Options) -> String {
     listing::listing_by::<D::Machine>(o.descriptors, trace, o.buffer, o.room, o.total)
 }
 
+fn from_pcap<D: Mode>(file: &[u8], o: &Options) -> String {
+    if file.len() > o.buffer { "too long\n".to_string() } else { pcap::listing::<D::Machine>(file, o.room) }
+}
+
 fn details<D: Mode>(trace: &[u8], o: &Options) -> String {
     listing::details::<D::Machine>(trace, o.room)
 }
@@ -168,6 +177,19 @@ fn run(words: &[String]) -> Result<bool, String> {
         ("coverage", [n, seed]) => return Ok(coverage::<Plain>(number(n)?, number(seed)?)),
         ("coverage", [flag @ .., n, seed]) if is_high(flag) => return Ok(coverage::<High>(number(n)?, number(seed)?)),
         ("descriptors", [n, seed]) => return Ok(own_and_ruled::report(number(n)?, number(seed)?)),
+        ("to-pcap", []) => match pcap::of_trace::<Machine>(&input()?, pcap::WRITTEN) {
+            Ok((file, events)) => {
+                output(&file)?;
+                eprintln!("events {events}");
+            }
+            Err(Refused { answer, at }) => return Err(format!("refused {answer} at {at}")),
+        },
+        ("from-pcap", rest) => told(rest, [from_pcap::<Plain>, from_pcap::<High>])?,
+        ("pcap-times", []) => output(pcap::times(&input()?).as_bytes())?,
+        ("pcap", [n, seed]) => {
+            let count = pcap::there_and_back::<Machine>(number(n)?, number(seed)?)?;
+            println!("pcap: {count} packets written and read again");
+        }
         ("traces", [folder]) => traces::write(folder)?,
         ("lemmas", [seed, runs, calls]) => output(lemmas::lemmas(number(seed)?, number(runs)?, number(calls)?).as_bytes())?,
         ("lemmas", [flag @ .., seed, runs, calls]) if is_high(flag) => {

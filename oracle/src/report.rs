@@ -1,13 +1,14 @@
 //! What a comparison says: what was compared, and how often each case of the source was met.
 
 use crate::blocks::{self, DETAIL, DETAILS};
-use crate::calls::{LOGS, Style};
+use crate::calls::{EVENTS, LOGS, Style};
 use crate::compare::Tally;
 use crate::coverage::{Case, NEXT, count};
 use crate::damage::DAMAGES;
+use crate::files::{self, CASES};
 use crate::mode::{Mode, Plain, status_behind};
 use crate::packets::data;
-use crate::singles::{self, CALLS, DAMAGED};
+use crate::singles::{self, CALLS, DAMAGED, RECORDS};
 use crate::usb::{PID, REASONS};
 
 /// Ways that no call can take: the function, the case, the way, and why. Any other way that is not met is a fault of the comparison, and
@@ -103,7 +104,7 @@ pub fn calls<D: Mode>(t: &singles::Tally<D>) -> bool {
     let kinds: Vec<String> = t.kinds.iter().map(|(kind, n)| format!("{kind} {n}")).collect();
     println!("sequences {}, of which {} whole after each call: {}", t.sequences, t.whole, kinds.join(", "));
     row("answers", ANSWERS.map(|answer| answer.to_string()));
-    CALLS.iter().zip(&t.answers).for_each(|(name, answers)| answered(name, answers));
+    CALLS[..RECORDS].iter().zip(&t.answers).for_each(|(name, answers)| answered(name, answers));
     println!("on a record with one word changed, by the port alone:");
     DAMAGED.iter().zip(&t.damaged).for_each(|(name, answers)| answered(name, answers));
     println!(
@@ -119,7 +120,7 @@ pub fn calls<D: Mode>(t: &singles::Tally<D>) -> bool {
     let numbers = ANSWERS.map(|answer| answer.to_string());
     let met = |which: &[usize]| ANSWERS.map(|answer| which.iter().map(|call| t.answers[*call][answer]).sum::<u64>());
     let names = || numbers.iter().map(String::as_str);
-    let twos: Vec<u64> = t.answers[1..].iter().map(|answers| answers[2]).collect();
+    let twos: Vec<u64> = t.answers[1..RECORDS].iter().map(|answers| answers[2]).collect();
     let good = [
         all_met("answer", names(), &met(&[0, 1, 2, 3, 4, 5])),
         all_met("behind finish:", CALLS.into_iter().skip(1), &twos),
@@ -131,6 +132,34 @@ pub fn calls<D: Mode>(t: &singles::Tally<D>) -> bool {
         all_met("call", ["before any decoder", "on a damaged record"], &[t.unmade, t.damaged.iter().flatten().sum()]),
     ];
     good == [true; 8] && t.differences == 0
+}
+
+/// What came of pcap files: the answers to each entry, and what was met by which way. False where something differs, or where something that can be met was not.
+pub fn files<D: Mode>(t: &files::Tally<D>) -> bool {
+    let c = &t.counts;
+    println!("sequences {}, single calls {}", t.sequences, t.calls.calls);
+    println!("files exported {}: {} bytes, {} packets, {} events left behind", c.files, c.bytes, c.packets, c.events);
+    println!("packets imported {}; rows compared: {}", c.taken, named(LOGS, &t.calls.rows));
+    let entries: [(&str, &files::Answers, &[usize]); 4] = [
+        ("head", &c.heads, &[0, 14, 15]),
+        ("records", &t.calls.answers[RECORDS], &[0, 1, 2, 3, 7, 9, 16, 17]),
+        ("size", &c.sizes, &[0, 1, 18]),
+        ("export", &c.exports, &[0, 1, 7, 18]),
+    ];
+    let mut good = true;
+    for (entry, answers, wanted) in entries {
+        let met = (0..answers.len()).filter(|i| answers[*i] > 0).map(|i| format!("{i} {}", answers[i]));
+        println!("answers of {entry}: {}", met.collect::<Vec<_>>().join(", "));
+        let names: Vec<String> = wanted.iter().map(usize::to_string).collect();
+        let counts: Vec<u64> = wanted.iter().map(|answer| answers[*answer]).collect();
+        good &= all_met(&format!("{entry} answered"), names.iter().map(String::as_str), &counts);
+    }
+    println!("a log too small for a file, and so 7: {}", named(LOGS, &c.short));
+    CASES.iter().zip(&c.cases).for_each(|(case, n)| println!("{n:>12}  {case}"));
+    println!("{} differences", t.differences);
+    // A file has no events.
+    let short: Vec<u64> = c.short.iter().enumerate().map(|(log, n)| n + (log == EVENTS) as u64).collect();
+    good & all_met("too small:", LOGS, &short) & all_met("of files:", CASES, &c.cases) && t.differences == 0
 }
 
 /// How the outputs of the program begin. Refusals 1, 2, 8 and 9 are none of them: its logs are not too long, it finishes last, 8 is no

@@ -2,6 +2,7 @@
 //! calls among the others. After each call the answer, the counts and the rows that it appended are compared, and that a refused one left all as it was.
 
 use std::collections::BTreeMap;
+use std::fmt::{Display, Formatter};
 use std::marker::PhantomData;
 use std::ops::Range;
 
@@ -11,6 +12,7 @@ use crate::compare::{Shelves, TOLD};
 use crate::generate::{Random, generate, kinds};
 use crate::lent::{Log, Logs, TABLE};
 use crate::mode::Mode;
+use crate::pcap::{Units, import_from};
 use crate::selfcheck::small;
 use crate::trace::{Clock, HEADER, Reader, Record, Writer};
 
@@ -47,11 +49,29 @@ impl Memory {
 /// A call of an entry. A block's clock is whether it has started, the last counter and its time.
 #[derive(Clone, Debug)]
 pub enum Call<'a> {
-    Fresh { mode: u8 },
-    Packet { bytes: &'a [u8], time: u64 },
-    Event { kind: u8, code: u8, time: u64 },
+    Fresh {
+        mode: u8,
+    },
+    Packet {
+        bytes: &'a [u8],
+        time: u64,
+    },
+    Event {
+        kind: u8,
+        code: u8,
+        time: u64,
+    },
     Finish,
-    Block { typed: u8, clock: [u64; 3], records: &'a [u8] },
+    Block {
+        typed: u8,
+        clock: [u64; 3],
+        records: &'a [u8],
+    },
+    /// The records of a pcap file, without its head, and the two words of its format.
+    Records {
+        format: [u64; 2],
+        records: &'a [u8],
+    },
 }
 
 impl Call<'_> {
@@ -63,14 +83,16 @@ impl Call<'_> {
             Call::Finish => 3,
             Call::Block { typed: 0, .. } => 4,
             Call::Block { .. } => 5,
+            Call::Records { .. } => RECORDS,
         }
     }
 }
 
-/// The kinds of calls, by number.
-pub const CALLS: [&str; 6] = ["fresh", "packet", "event", "finish", "block", "block that obeys details"];
+/// The kinds of calls, by number. The last one is made by `compare pcap` alone (src/files.rs).
+pub const CALLS: [&str; 7] = ["fresh", "packet", "event", "finish", "block", "block that obeys details", "pcap records"];
+pub const RECORDS: usize = 6;
 
-/// What a call tells: its answer; of a block also the clock behind it, and how many records were taken, the 8s among them and the place.
+/// What a call tells: its answer; of a block also the clock behind it, and how many records were taken, the 8s among them and the place, as of pcap records.
 #[derive(Copy, Clone, PartialEq, Default, Debug)]
 pub struct Told {
     pub answer: u8,
@@ -82,7 +104,7 @@ impl Told {
     /// Whether anything may have changed: else every byte is as it was.
     fn changes(&self, call: &Call) -> bool {
         match call {
-            Call::Block { .. } => self.block[0] > 0,
+            Call::Block { .. } | Call::Records { .. } => self.block[0] > 0,
             _ => self.answer == 0 || self.answer == 8,
         }
     }
@@ -93,6 +115,10 @@ pub trait Entries {
     fn call(&mut self, call: &Call, memory: &mut Memory) -> Told;
     /// The twelve counts that stand in the record.
     fn counts(&mut self, memory: &Memory) -> [u64; 12];
+    /// The head of a pcap file: its answer and place. The two words get the format.
+    fn pcap_head(&mut self, file: &[u8], format: &mut [u64; 2]) -> (u8, u64);
+    /// The packets as a pcap file in `out`, or, without it, how long that would be: the answer. Told are the length, the packets and the events left behind.
+    fn pcap_export(&mut self, memory: &mut Memory, out: Option<&mut Log<u8>>, told: &mut [u64; 3]) -> u8;
     /// Between two calls the record is made up.
     fn set_totals(&mut self, memory: &mut Memory, endpoints: Range<u64>, total: u64) {
         memory.set_totals(endpoints, total);
@@ -100,7 +126,7 @@ pub trait Entries {
 }
 
 /// The Rust, called as the entries are: a fresh decoder that is refused answers 1 to every call.
-struct Right<M: Mechanism>(Calls<M>);
+pub(crate) struct Right<M: Mechanism>(pub(crate) Calls<M>);
 
 impl<M: Mechanism> Right<M> {
     /// Before any fresh decoder every call is answered 1.
@@ -124,6 +150,10 @@ impl<M: Mechanism> Right<M> {
                 let clock = if block.taken == 0 { clock } else { clock_words(block.clock, clock) };
                 Told { answer: block.answer, clock, block: taken }
             }
+            Call::Records { format, records } => {
+                let import = import_from(units_of(format), records, 0, &mut self.0);
+                Told { answer: import.answer, block: [import.taken, import.eights, import.at as u64], ..Told::default() }
+            }
             _ => single(self.0.finish()),
         }
     }
@@ -145,6 +175,11 @@ impl<M: Mechanism> Right<M> {
 /// A clock by its three words; the counter is taken modulo 2^32.
 fn clock_of(words: [u64; 3]) -> Clock {
     if words[0] == 0 { Clock::default() } else { Clock::at(words[1] as u32, words[2]) }
+}
+
+/// A pcap file's format by its two words; the unit is taken modulo 2^32.
+fn units_of(words: [u64; 2]) -> Units {
+    Units { big: words[0] != 0, unit: words[1] as u32 }
 }
 
 /// The words of a clock that had these before. Where it has not started they tell nothing.
@@ -187,7 +222,7 @@ pub struct Tally<D: Mode> {
 pub const DAMAGED: [&str; 4] = ["a count, past its room", "the decoder", "the devices", "the endpoint table"];
 
 /// The most that is lent: more than most sequences want.
-const MOST: Rows = Rows([49_152, 66, 130, 640, 256, 640, 640, 16_384, 640, 640, 2560, 96]);
+pub(crate) const MOST: Rows = Rows([49_152, 66, 130, 640, 256, 640, 640, 16_384, 640, 640, 2560, 96]);
 
 /// Of so many sequences one is compared whole after each call.
 const WHOLE: u64 = 64;
@@ -219,24 +254,24 @@ pub fn singles<D: Mode>(port: &mut dyn Entries, count: u64, seed: u64) -> Tally<
 type Kind = (&'static str, fn(&mut crate::generate::Bench));
 
 /// A sequence under way.
-struct Run<D: Mode> {
-    kinds: Vec<Kind>,
-    right: Right<D::Machine>,
-    memory: Memory,
+pub(crate) struct Run<D: Mode> {
+    pub(crate) kinds: Vec<Kind>,
+    pub(crate) right: Right<D::Machine>,
+    pub(crate) memory: Memory,
     /// The logs and the shelf as they must be.
-    expected: Logs,
+    pub(crate) expected: Logs,
     /// The record and the table before a call that is refused.
     record: Log<u64>,
     table: Log<u64>,
-    counts: [u64; 12],
+    pub(crate) counts: [u64; 12],
     clock: [u64; 3],
     /// The total that endpoints begin with.
-    total: u64,
+    pub(crate) total: u64,
     whole: bool,
 }
 
 impl<D: Mode> Run<D> {
-    fn new() -> Self {
+    pub(crate) fn new() -> Self {
         let mut shelves = Shelves::default();
         shelves.fill();
         let logs = Logs::new(&MOST, &shelves.rust, 4);
@@ -255,7 +290,7 @@ impl<D: Mode> Run<D> {
     }
 
     /// Other words in all that is lent but for the table and the shelf, which hold what the sequence before left there.
-    fn start(&mut self, number: u64, random: &mut Random) {
+    pub(crate) fn start(&mut self, number: u64, random: &mut Random) {
         let turn = random.next();
         self.right = Right::unmade();
         self.memory.record.fill(turn);
@@ -272,7 +307,7 @@ impl<D: Mode> Run<D> {
     }
 
     /// The logs with this room, and some words that make no row.
-    fn lend(&mut self, room: Rows, random: &mut Random) {
+    pub(crate) fn lend(&mut self, room: Rows, random: &mut Random) {
         for log in 0..12 {
             let more = random.below(WIDTHS[log] as u64) as usize;
             let most = MOST.0[log] as usize * WIDTHS[log];
@@ -325,7 +360,7 @@ impl<D: Mode> Run<D> {
     }
 
     /// Every byte of every log and of the shelf, and the guards of the record and the table.
-    fn all(&mut self) -> Result<(), String> {
+    pub(crate) fn all(&mut self) -> Result<(), String> {
         self.lay_by();
         self.memory.record.first(RECORD)?;
         self.memory.logs.table.first(TABLE)?;
@@ -335,13 +370,13 @@ impl<D: Mode> Run<D> {
     }
 
     /// The record and the table are as they were kept.
-    fn kept(&self) -> Result<(), String> {
+    pub(crate) fn kept(&self) -> Result<(), String> {
         let record = self.memory.record.differs(&self.record).map(|text| format!("record: {text}"));
         let table = || self.memory.logs.table.differs(&self.table).map(|text| format!("table: {text}"));
         record.or_else(table).map_or(Ok(()), Err)
     }
 
-    fn keep(&mut self) {
+    pub(crate) fn keep(&mut self) {
         self.record.copy(&self.memory.record);
         self.table.copy(&self.memory.logs.table);
     }
@@ -370,16 +405,16 @@ impl<D: Mode> Run<D> {
 }
 
 /// A sequence under way, the port and the tally; and what the last call told.
-struct With<'a, D: Mode> {
-    run: &'a mut Run<D>,
-    port: &'a mut dyn Entries,
-    tally: &'a mut Tally<D>,
-    told: Told,
+pub(crate) struct With<'a, D: Mode> {
+    pub(crate) run: &'a mut Run<D>,
+    pub(crate) port: &'a mut dyn Entries,
+    pub(crate) tally: &'a mut Tally<D>,
+    pub(crate) told: Told,
 }
 
 impl<D: Mode> With<'_, D> {
     /// One call by both.
-    fn step(&mut self, call: &Call) -> Result<(), String> {
+    pub(crate) fn step(&mut self, call: &Call) -> Result<(), String> {
         let named = || format!("{call:?}").chars().take(200).collect::<String>();
         self.compared(call).map_err(|text| format!("call {} of all, {}: {text}", self.tally.calls, named()))
     }
@@ -435,7 +470,7 @@ impl<D: Mode> With<'_, D> {
         Ok(())
     }
 
-    fn fresh(&mut self, random: &mut Random) -> Result<(), String> {
+    pub(crate) fn fresh(&mut self, random: &mut Random) -> Result<(), String> {
         let mode = if D::HIGH { random.pick(&[1, 1, 2, 255]) } else { 0 };
         self.step(&Call::Fresh { mode })
     }
@@ -449,7 +484,7 @@ impl<D: Mode> With<'_, D> {
             }
         }
         if random.below(16) == 0 {
-            self.too_long(random, true)?;
+            self.too_long(random, Self::fresh)?;
         }
         if random.below(16) == 0 {
             self.too_small(random)?;
@@ -523,7 +558,7 @@ impl<D: Mode> With<'_, D> {
     }
 
     /// A block with the sequence's clock.
-    fn block(&mut self, typed: u8, records: &[u8]) -> Result<(), String> {
+    pub(crate) fn block(&mut self, typed: u8, records: &[u8]) -> Result<(), String> {
         self.step(&Call::Block { typed, clock: self.run.clock, records })?;
         self.run.clock = self.told.clock;
         Ok(())
@@ -587,8 +622,8 @@ impl<D: Mode> With<'_, D> {
             }
             4..7 => self.odd_block(random),
             7 | 8 => self.other_lengths(random),
-            9..12 => self.shorter(random),
-            12 => self.too_long(random, false),
+            9..12 => self.shorter(random, Self::any),
+            12 => self.too_long(random, Self::any),
             13 => {
                 self.too_small(random)?;
                 self.anew(random)
@@ -596,7 +631,7 @@ impl<D: Mode> With<'_, D> {
             14 => match random.below(8) {
                 0 => self.fresh(random),
                 _ => {
-                    self.too_long(random, true)?;
+                    self.too_long(random, Self::fresh)?;
                     self.anew(random)
                 }
             },
@@ -656,7 +691,11 @@ impl<D: Mode> With<'_, D> {
     }
 
     /// A call on logs of which one is shorter than its rows.
-    fn shorter(&mut self, random: &mut Random) -> Result<(), String> {
+    pub(crate) fn shorter(
+        &mut self,
+        random: &mut Random,
+        act: impl FnOnce(&mut Self, &mut Random) -> Result<(), String>,
+    ) -> Result<(), String> {
         let before = self.run.memory.logs.room();
         let log = random.below(12) as usize;
         if self.run.counts[log] == 0 || self.run.counts[log] > MOST.0[log] {
@@ -666,31 +705,30 @@ impl<D: Mode> With<'_, D> {
         room.0[log] = random.pick(&[self.run.counts[log] - 1, 0, self.run.counts[log] / 2]);
         self.run.lend(room, random);
         self.tally.shorter[log] += 1;
-        self.any(random)?;
+        act(self, random)?;
         self.run.lend(before, random);
         Ok(())
     }
 
     /// A call, or a fresh decoder, with a log that is too long in the place of one.
-    fn too_long(&mut self, random: &mut Random, fresh: bool) -> Result<(), String> {
+    pub(crate) fn too_long(
+        &mut self,
+        random: &mut Random,
+        act: impl FnOnce(&mut Self, &mut Random) -> Result<(), String>,
+    ) -> Result<(), String> {
         let log = random.below(12) as usize;
         let length = (Rows::LARGEST.0[log] as usize + 1) * WIDTHS[log] + random.pick(&[0, 0, 1, 1000]);
         self.run.memory.logs.log_mut(log).lend_zeros(length);
-        let stepped = if fresh { self.fresh(random) } else { self.any(random) };
+        let stepped = act(self, random);
         let written = self.run.memory.logs.log_mut(log).put_back();
         self.tally.long[log] += 1;
         stepped?;
         written.map_err(|text| format!("a log too long: {text}"))
     }
 
-    /// The port alone on a record or a table with one word changed. Refused, the call leaves all; a count past its room is refused with 1. Accepted, it
-    /// writes nothing that is not lent: what else it does the Rust can't be asked. Then all is put back.
-    fn damaged(&mut self, call: &Call, random: &mut Random) -> Result<(), String> {
-        if self.run.right.0.fresh != 0 {
-            return Ok(());
-        }
+    /// One word of the record or of the table is another from here on.
+    pub(crate) fn damage(&mut self, random: &mut Random) -> Damage {
         let run = &mut *self.run;
-        run.lay_by();
         let (record, table) = (run.memory.record.clone(), run.memory.logs.table.clone());
         let what = random.below(DAMAGED.len() as u64) as usize;
         let log = random.below(12) as usize;
@@ -704,10 +742,27 @@ impl<D: Mode> With<'_, D> {
             _ => changed(run.memory.logs.table.cells_mut(), random),
         }
         run.keep();
+        self.tally.past[log] += (what == 0) as u64;
+        Damage { what, log, record, table }
+    }
+
+    pub(crate) fn mend(&mut self, damage: &Damage) {
+        self.run.memory.record.copy(&damage.record);
+        self.run.memory.logs.table.copy(&damage.table);
+    }
+
+    /// The port alone on a record or a table with one word changed. Refused, the call leaves all; a count past its room is refused with 1. Accepted, it
+    /// writes nothing that is not lent: what else it does the Rust can't be asked. Then all is put back.
+    pub(crate) fn damaged(&mut self, call: &Call, random: &mut Random) -> Result<(), String> {
+        if self.run.right.0.fresh != 0 {
+            return Ok(());
+        }
+        self.run.lay_by();
+        let damage = self.damage(random);
+        let run = &mut *self.run;
         let told = self.port.call(call, &mut run.memory);
         self.tally.calls += 1;
-        self.tally.damaged[what][told.answer as usize] += 1;
-        self.tally.past[log] += (what == 0) as u64;
+        self.tally.damaged[damage.what][told.answer as usize] += 1;
         let fault = if told.changes(call) {
             let outside = run.memory.logs.same_outside(&run.expected);
             run.memory.logs.copy_logs(&run.expected);
@@ -716,14 +771,34 @@ impl<D: Mode> With<'_, D> {
         } else {
             run.kept().and_then(|()| run.all())
         };
-        run.memory.record.copy(&record);
-        run.memory.logs.table.copy(&table);
-        let name = DAMAGED[what];
-        fault.map_err(|text| format!("on a damaged record ({name}), answer {}: {text}", told.answer))?;
-        if what == 0 && told.answer != 1 {
-            return Err(format!("on a damaged record ({name}: {}): answer {}, and not 1", LOGS[log], told.answer));
+        self.mend(&damage);
+        fault.map_err(|text| format!("on a damaged record ({damage}), answer {}: {text}", told.answer))?;
+        if damage.is_past() && told.answer != 1 {
+            return Err(format!("on a damaged record ({damage}): answer {}, and not 1", told.answer));
         }
         Ok(())
+    }
+}
+
+/// What was damaged (`DAMAGED`), the log whose count it is, and the record and the table before it.
+pub(crate) struct Damage {
+    what: usize,
+    log: usize,
+    record: Log<u64>,
+    table: Log<u64>,
+}
+
+impl Damage {
+    /// Whether a count is past its room, so that every call has to answer 1.
+    pub(crate) fn is_past(&self) -> bool {
+        self.what == 0
+    }
+}
+
+impl Display for Damage {
+    fn fmt(&self, f: &mut Formatter) -> std::fmt::Result {
+        let log = if self.is_past() { format!(": {}", LOGS[self.log]) } else { String::new() };
+        write!(f, "{}{log}", DAMAGED[self.what])
     }
 }
 
@@ -750,17 +825,20 @@ fn changed(words: &mut [u64], random: &mut Random) {
 
 /// That the comparison finds a slip, and nothing where there is none.
 #[cfg(test)]
-mod slips {
+pub(crate) mod slips {
     use super::*;
     use crate::decoder::machine::Machine;
+    use crate::files::exported;
+    use crate::lent::Rowed;
     use crate::mode::{High, Plain};
+    use crate::pcap::{HEAD, head};
     use crate::report;
 
     /// What is wrong with a port: it is shown the call and the counts before it, and spoils what was told or left.
-    type Slip = fn(&Call, &[u64; 12], &mut Told, &mut Memory);
+    pub(crate) type Slip = fn(&Call, &[u64; 12], &mut Told, &mut Memory);
 
     /// The Rust as a port. Its record holds the counts, and it keeps the rest itself: a record or a table that is another than it left is ill.
-    struct StandIn<M: Mechanism> {
+    pub(crate) struct StandIn<M: Mechanism> {
         right: Right<M>,
         record: Log<u64>,
         table: Log<u64>,
@@ -768,8 +846,12 @@ mod slips {
     }
 
     impl<M: Mechanism> StandIn<M> {
-        fn new(slip: Slip) -> Self {
+        pub(crate) fn new(slip: Slip) -> Self {
             StandIn { right: Right::unmade(), record: Log::new(RECORD, 1), table: Log::new(TABLE, 1), slip }
+        }
+
+        pub(crate) fn finished(&self) -> bool {
+            self.right.0.finished()
         }
 
         fn is_ill(&self, memory: &Memory) -> bool {
@@ -814,6 +896,37 @@ mod slips {
             std::array::from_fn(|log| memory.record.cells()[log])
         }
 
+        fn pcap_head(&mut self, file: &[u8], format: &mut [u64; 2]) -> (u8, u64) {
+            match head(file) {
+                Ok(read) => {
+                    let units = Units::from(read);
+                    *format = [units.big as u64, units.unit as u64];
+                    (0, HEAD as u64)
+                }
+                Err(refused) => (refused.answer, refused.at as u64),
+            }
+        }
+
+        /// By the rows that are lent, as far as the record is well.
+        fn pcap_export(&mut self, memory: &mut Memory, out: Option<&mut Log<u8>>, told: &mut [u64; 3]) -> u8 {
+            self.right.0.lend(memory.logs.room());
+            if self.is_ill(memory) || self.right.0.is_ill() {
+                return 1;
+            }
+            let (file, packets, events) = match exported(&memory.logs, &self.counts(memory)) {
+                Ok(made) => (made.file, made.packets, made.events),
+                Err(answer) => return answer,
+            };
+            if let Some(out) = out {
+                if out.length() < file.len() {
+                    return 7;
+                }
+                out.cells_mut()[..file.len()].copy_from_slice(&file);
+            }
+            *told = [file.len() as u64, packets as u64, events as u64];
+            0
+        }
+
         fn set_totals(&mut self, memory: &mut Memory, endpoints: Range<u64>, total: u64) {
             self.right.0.start_totals(endpoints.start, total);
             memory.set_totals(endpoints, total);
@@ -821,7 +934,7 @@ mod slips {
         }
     }
 
-    fn none(_: &Call, _: &[u64; 12], _: &mut Told, _: &mut Memory) {}
+    pub(crate) fn none(_: &Call, _: &[u64; 12], _: &mut Told, _: &mut Memory) {}
 
     #[test]
     fn none_is_found() {
@@ -963,6 +1076,15 @@ mod slips {
 
         fn counts(&mut self, memory: &Memory) -> [u64; 12] {
             self.0.counts(memory)
+        }
+
+        fn pcap_head(&mut self, file: &[u8], format: &mut [u64; 2]) -> (u8, u64) {
+            self.0.pcap_head(file, format)
+        }
+
+        fn pcap_export(&mut self, memory: &mut Memory, out: Option<&mut Log<u8>>, told: &mut [u64; 3]) -> u8 {
+            self.0.keep(memory);
+            self.0.pcap_export(memory, out, told)
         }
     }
 

@@ -1,50 +1,27 @@
 -- The laws of the block's loop: what one round is, what holds before each, and how the round carries it on.
 use Prim.Native.Nat.{ℕ, _+_, _≤_, _<_}
 use native.Mathlib.Omega.{arith}
-use mathlib.Core.Bool.{Bool, true, false, not, cond, _&&_, false≢true, true≢false}
+use mathlib.Core.Bool.{Bool, true, false, cond, false≢true, true≢false}
 use mathlib.Core.List.{List}
-use mathlib.Core.Path.{_≡_, refl, sym, ap, subst, _∙_}
-use borrow.Author.Tests.{not-true}
-use lib.Dec.{eqb}
+use mathlib.Core.Path.{_≡_, refl, sym, subst, _∙_}
 use lib.ListN.{length}
-use Rattle.rows.specs.One.{one}
-use Rattle.record.specs.Bools.{both}
-use Rattle.record.specs.declared.Counts.{Counts}
 use Rattle.record.specs.declared.Decoder.{Decoder}
 use Rattle.details.specs.declared.Device.{Device}
 use Rattle.trace.specs.declared.clock.Clock.{Clock}
-use Rattle.call.specs.State.{Logs, State, state, roomOf}
+use Rattle.call.specs.State.{Logs, State, state}
 use Rattle.call.specs.StateLaws.{SameSizes}
-use Rattle.sound.specs.Sound.{soundIn}
 use Rattle.step.specs.Block.{Stand, stand, Takes}
-use Rattle.step.specs.Step.{leftBy, Steps}
+use Rattle.step.specs.Step.{Steps}
 use Rattle.step.specs.declared.Stepped.{Stepped}
-use Rattle.stream.specs.Leads.{Fits, Leads, ranBy, Runs}
+use Rattle.stream.specs.Led.{Fits, ranBy}
+use Rattle.stream.specs.Rounds.{noneYet, goneOn, halted, withStep, withRound}
 use Rattle.stream.specs.declared.Run.{Run}
-use Rattle.stream.proofs.Leading.{leads-start, leads-one, leads-then, leads-over}
-use Rattle.block.specs.Round.{noneYet, goneOn, halted, withStep, withRound, takenOf, Rounds}
+use Rattle.block.specs.Leads.{Leads, Runs}
+use Rattle.block.specs.Round.{takenOf, Rounds}
 use Rattle.block.specs.declared.Taken.{Taken}
-
--- the test of a block, as the code makes it
-pub fits-by : (s : State) {b : Bool} {room : Counts} → room ≡ roomOf (s .logs) → b ≡ soundIn (s .decoder) (s .devices) (s .table) room → Fits (b && not (s .decoder .finished)) s
-fits-by s {b} {room} r q =
-    record {
-      sound = λ e. ap (soundIn (s .decoder) (s .devices) (s .table)) (sym r) ∙ (sym q ∙ both b _ e .0);
-      unfinished = λ e. not-true _ (both b _ e .1);
-    }
+use Rattle.block.proofs.Leading.{leads-start, leads-one, leads-then, leads-over}
 
 -- ---- one round
-
--- the packets with the record behind them, as the code puts them together
-module _ (p : Run) (q : Stepped) where
-  pub step-halts : q .going ≡ false → halted p q ≡ withStep p q
-  step-halts e = ap (λ (b : Bool). cond b (goneOn p q) (halted p q)) (sym e)
-
-  pub step-goes : {u : ℕ} → q .going ≡ true → u ≡ one (eqb (q .answer) 8)
-      → record { going = true; answer = 0; taken = p .taken + 1; eights = p .eights + u; place = q .next; clock = q .clock; decoder = q .decoder; devices = q .devices } ≡ withStep p q
-  step-goes e h =
-      (λ i. record { going = true; answer = 0; taken = p .taken + 1; eights = p .eights + h i; place = q .next; clock = q .clock; decoder = q .decoder; devices = q .devices })
-      ∙ ap (λ (b : Bool). cond b (goneOn p q) (halted p q)) (sym e)
 
 module _ {typed : Bool} {t : List ℕ} {at : ℕ} {c : Clock} {s : Stand} {r : Run} {table : List ℕ} {l : Logs} {h₁ : List ℕ} (p : Runs typed t at c s r table l h₁) where
   -- a packet was refused

@@ -1,16 +1,16 @@
 // A block of records in one call (02, change request 3): what the records give one by one, with the record tested once.
 mod round;
 
-use crate::round::none_yet;
 use crate::round::round;
 use crate::round::taken_of;
-use crate::round::with_round;
 use call::room_of;
 use details::Device;
 use endpoints::Table;
 use record::Decoder;
 use shelving::Shelf;
 use sound::is_sound;
+use stream::rounds::none_yet;
+use stream::rounds::with_round;
 use trace::clock::Clock;
 ghost use mathlib.Core.Bool.{false};
 ghost use mathlib.Core.Path.{_≡_};

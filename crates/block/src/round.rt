@@ -1,85 +1,18 @@
-// One round of a block's loop: packets by the inner call, and the record behind them by its public call; and what the rounds come to.
+// One round of a block's loop: packets by the inner call, and the record behind them by its public call.
 use crate::Taken;
-use details::Device;
 use endpoints::Table;
-use record::Decoder;
 use shelving::Shelf;
 use single::single_step;
-use step::Stepped;
-use step::eight;
 use stream::Run;
+use stream::part::Reader;
+use stream::rounds::with_step;
 use stream::run_packets;
-use trace::clock::Clock;
 use trace::reader::record_at;
 ghost use mathlib.Core.Path.{_≡_};
-ghost use Prim.Native.Nat.{_+_, _^_, _<_};
 ghost use Rattle.call.specs.State.{state, logs};
 ghost use Rattle.step.specs.Block.{stand};
-ghost use Rattle.stream.specs.Leads.{Fits};
-ghost use Rattle.block.specs.Round.{noneYet, Few, withStep, withRound, takenOf, Rounds};
-
-// Before the first round.
-pub fn none_yet(d: Decoder, devices: [Device; 64], clock: Clock, at: usize) -> Run
-    ensures { λ r. ⌜ r ≡ noneYet d devices clock at ⌝ }
-{
-    Run {
-        going: true,
-        answer: 0,
-        taken: 0,
-        eights: 0,
-        place: at,
-        clock,
-        decoder: d,
-        devices,
-    }
-}
-
-// The packets p with the record behind them: it was taken; or the block is over there.
-fn with_step(p: Run, q: Stepped) -> Run
-    requires { ⌜ Few p q ⌝ }
-    ensures { λ r. ⌜ r ≡ withStep p q ⌝ }
-{
-    let decoder = q.decoder;
-    let devices = q.devices;
-    if !q.going {
-        let clock = p.clock;
-        return Run {
-            going: false,
-            answer: q.answer,
-            taken: p.taken,
-            eights: p.eights,
-            place: p.place,
-            clock,
-            decoder,
-            devices,
-        };
-    }
-    let clock = q.clock;
-    let taken = p.taken + 1;
-    let eights = p.eights + eight(q.answer);
-    Run {
-        going: true,
-        answer: 0,
-        taken,
-        eights,
-        place: q.next,
-        clock,
-        decoder,
-        devices,
-    }
-}
-
-// The rounds so far, and one more.
-pub fn with_round(run: Run, more: Run) -> Run
-    requires { ⌜ run .taken + more .taken < 2 ^ 64 ⌝ }
-    requires { ⌜ run .eights + more .eights < 2 ^ 64 ⌝ }
-    ensures { λ r. ⌜ r ≡ withRound run more ⌝ }
-{
-    let mut all = more;
-    all.taken = run.taken + more.taken;
-    all.eights = run.eights + more.eights;
-    all
-}
+ghost use Rattle.stream.specs.Led.{Fits};
+ghost use Rattle.block.specs.Round.{takenOf, Rounds};
 
 // What the block gives back.
 pub fn taken_of(run: Run) -> Taken
@@ -125,6 +58,7 @@ pub fn round(
 {
     let devices = run.devices;
     let p = run_packets(
+        Reader::Trace,
         ready,
         run.decoder,
         devices,

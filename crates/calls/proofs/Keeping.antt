@@ -28,9 +28,16 @@ use Rattle.events.specs.Call.{EventCall, FinishCall}
 use Rattle.step.specs.Block.{Stand, stand, Takes}
 use Rattle.step.specs.Block.Takes.{done, stops, goes}
 use Rattle.step.specs.BlockLaws.{gives-same}
+use Rattle.pcap.specs.Pcap as pcap
+use Rattle.pcap.specs.declared.Exported.{Exported}
+use Rattle.pcap.specs.declared.Format.{Format}
+use Rattle.import.specs.Import as import
+use Rattle.import.specs.ImportLaws.{gives-kept}
+use Rattle.export.specs.Record.{sizeIn, ExportsIn}
 use Rattle.calls.specs.Block.{clockIn, clockWords, BlockKept}
 use Rattle.calls.specs.Calls.{stateIn, Kept, FreshKept, PacketKept, EventKept, FinishKept}
 use Rattle.calls.specs.Keeps.{Keeps, KeepsClock}
+use Rattle.calls.specs.Pcap.{ImportKept, toldOf, SizeTold, ExportTold}
 
 -- ---- what is stored
 
@@ -148,6 +155,44 @@ module _ {w w′ t t′ k k′ : List ℕ} {l l′ : Logs} {d d′ : Decoder} {v
 
       clock : clockIn k′ ≡ c′
       clock = at (ltb 0 n) refl
+
+-- an import that takes no record leaves all as it was
+none-imported : {f : Format} {b : List ℕ} {at n r a p : ℕ} {s s′ : Stand} → import.Imports f b at s n r a p s′ → ltb 0 n ≡ false → s′ ≡ s
+none-imported (import.Imports.done x) q = refl
+none-imported {f} {b} {at} {a = a} {s = s} {s′ = s′} (import.Imports.stops x h) q = gives-kept f b (pcap.nextAt f b at) s a s′ x h
+none-imported (import.Imports.goes {n = n} o x h r) q = let u = ltb-false 0 (suc n) q in absurd (omega (arith, u))
+
+module _ {w t : List ℕ} {l : Logs} {d : Decoder} {v : List Device} (e : d ≡ decoderIn w) (f : v ≡ devicesIn w) where
+  pub import-by : {w′ t′ : List ℕ} {l′ : Logs} {d′ : Decoder} {v′ : List Device} {g g′ : Format} {b h h′ o o′ : List ℕ} {n r a p : ℕ}
+      → g ≡ g′
+      → import.Imports g b 0 (stand (state d v t l) h) n r a p (stand (state d′ v′ t′ l′) h′)
+      → Keeps (ltb 0 n) w d′ v′ w′
+      → o′ ≡ sets o 0 (n ∷ r ∷ p ∷ [])
+      → ImportKept g′ b w t l h o a w′ t′ l′ h′ o′
+  import-by {w′} {t′} {l′} {d′} {v′} {g} {g′} {b} {h} {h′} {n = n} {r} {a} {p} q x y u =
+      record { taken = n; eights = r; place = p; imports = carried C e f from same y; words = kept-by C e f from same y; told = u }
+    where
+      C : State → State → Type 0
+      C s s′ = import.Imports g′ b 0 (stand s h) n r a p (stand s′ h′)
+
+      from : C (state d v t l) (state d′ v′ t′ l′)
+      from = subst (λ (z : Format). import.Imports z b 0 (stand (state d v t l) h) n r a p (stand (state d′ v′ t′ l′) h′)) q x
+
+      same : C (stateIn w t l) (state d′ v′ t′ l′) → ltb 0 n ≡ false → state d′ v′ t′ l′ ≡ stateIn w t l
+      same i q = ap (λ (s : Stand). s .state) (none-imported i q)
+
+-- an export by the state that the words stand for
+module _ (w : List ℕ) {t : List ℕ} {l : Logs} {d : Decoder} {v : List Device} (e : d ≡ decoderIn w) (f : v ≡ devicesIn w) where
+  loaded : state d v t l ≡ stateIn w t l
+  loaded i = state (e i) (f i) t l
+
+  pub size-by : {o o′ : List ℕ} {r : Exported} → r ≡ sizeIn (state d v t l) → o′ ≡ toldOf r o → SizeTold (stateIn w t l) o (r .answer) o′
+  size-by {o} x y =
+      let z = x ∙ ap sizeIn loaded in
+      record { answer = ap (λ (r : Exported). r .answer) z; told = y ∙ ap (λ (r : Exported). toldOf r o) z }
+
+  pub export-by : {b b′ o o′ : List ℕ} {r : Exported} → ExportsIn (state d v t l) b b′ r → o′ ≡ toldOf r o → ExportTold (stateIn w t l) b o (r .answer) b′ o′
+  export-by {b} {b′} {r = r} x y = record { result = r; exports = subst (λ (s : State). ExportsIn s b b′ r) loaded x; answer = refl; told = y }
 
 -- what is made is stored, also where it is refused
 pub fresh-by : {high : Bool} {w w′ t t′ : List ℕ} {l l′ : Logs} {x : Device} {d′ : Decoder} {v′ : List Device} {a : ℕ}

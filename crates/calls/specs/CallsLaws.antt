@@ -21,7 +21,7 @@ use Rattle.calls.specs.Calls.{stateIn, Kept, FreshKept, PacketKept, Even
 use Rattle.calls.specs.Block.{clockIn, clockWords, BlockKept}
 
 -- words that are kept alike, and stand for the same
-kept-unique : {on on′ : Bool} (w w′ w″ : List ℕ) → on ≡ on′ → Kept on w w′ → Kept on′ w w″ → decoderIn w′ ≡ decoderIn w″ → devicesIn w′ ≡ devicesIn w″ → w′ ≡ w″
+pub kept-unique : {on on′ : Bool} (w w′ w″ : List ℕ) → on ≡ on′ → Kept on w w′ → Kept on′ w w″ → decoderIn w′ ≡ decoderIn w″ → devicesIn w′ ≡ devicesIn w″ → w′ ≡ w″
 kept-unique w w′ w″ q x y d v = x ∙ ((λ i. cond (q i) (stored w (d i) (v i)) w) ∙ sym y)
 
 -- words that are not stored, as those of a refused call, are as they were

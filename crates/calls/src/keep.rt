@@ -57,7 +57,7 @@ fn store_ticks(ticks: &mut Ticks, c: Clock)
     ticks[2] = c.time;
 }
 
-fn put_told(told: &mut Told, taken: usize, eights: usize, place: usize)
+pub fn put_told(told: &mut Told, taken: usize, eights: usize, place: usize)
     ensures { λ r. ⌜ now (told .exit) ≡ sets (now (told .entry)) 0 (taken ∷ eights ∷ place ∷ []) ⌝ }
 {
     told[0] = taken as u64;

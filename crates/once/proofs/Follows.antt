@@ -23,11 +23,12 @@ use Rattle.sound.proofs.Keeps.{room-left}
 use Rattle.ledger.specs.Account.{entered, isEarning, statusIn, earns, isSettled, Among}
 use Rattle.ledger.specs.Ledger.{Fate, Line, Ledger, isCounted, lengthsOf, sum, turns}
 use Rattle.ledger.proofs.Laws.{laws}
-use Rattle.once.specs.Once.{packetBytes, bytesOf, ledgerOf}
+use Rattle.reading.specs.Packets.{packetBytes}
+use Rattle.reading.specs.PacketsLaws.{Laid, beyond, old-packet, new-packet}
+use Rattle.once.specs.Once.{bytesOf, ledgerOf}
 use Rattle.once.specs.OnceLaws.{bytesBy, Follows}
 use Rattle.once.proofs.Keeps.{Keeps, keeps, account-after, small-after, rows-left, data-left, number-left}
 use Rattle.once.proofs.Logged.{rowBy}
-use Rattle.once.proofs.Packets.{Laid, beyond, old-packet, new-packet}
 use Rattle.once.proofs.Once.{bytes-are, once}
 use Rattle.once.proofs.Sums.{sumAll, sum-line}
 

@@ -34,11 +34,13 @@ use Rattle.demands.proofs.Told.{began, counts-left}
 use Rattle.ledger.specs.Account.{heldBy, Tally, tally, blank, View, view, Account, entered, enters, InsideAt}
 use Rattle.ledger.specs.Ledger.{Ledger, isData, turns}
 use Rattle.ledger.proofs.Laws.{laws}
-use Rattle.once.specs.Once.{packetBytes, ledgerOf}
+use Rattle.reading.specs.Packets.{packetBytes}
+use Rattle.reading.specs.PacketsLaws.{Laid, old-packet, new-packet, laid-more}
+use Rattle.once.specs.Once.{ledgerOf}
 use Rattle.once.specs.OnceLaws.{bytesBy}
 use Rattle.once.proofs.Logged.{rowBy, bytes-are, rows-are}
 use Rattle.once.proofs.Sums.{sumAll}
-use Rattle.once.proofs.Packets.{Laid, old-packet, new-packet, laid-more, dataPackets, data-same, no-data}
+use Rattle.once.proofs.Packets.{dataPackets, data-same, no-data}
 
 -- ---- the packet log
 

@@ -1,4 +1,4 @@
--- The packet bytes and the packet row that each call appends.
+-- The packet bytes, the packet row and the event row that each call appends.
 use Prim.Native.Nat.{ℕ, zero, suc, pred}
 use mathlib.Core.Bool.{Bool, true, false}
 use mathlib.Core.List.{List, [], _∷_, _++_, append-nil}
@@ -30,8 +30,8 @@ use Rattle.plan.proofs.Frame.{row-log, act-log, when-keeps}
 use Rattle.plan.proofs.Packet.{packet-is, dropped-is}
 use Rattle.plan.proofs.Played.{log-untouched, ended-keeps, played-log}
 
--- a log that only the packet's own rows go to: 0 or 3
-module _ (k : ℕ) (one : eqb 1 k ≡ false) (two : eqb 2 k ≡ false) (four : eqb 4 k ≡ false) (five : eqb 5 k ≡ false) (six : eqb 6 k ≡ false) (seven : eqb 7 k ≡ false) (eight : eqb 8 k ≡ false) (nine : eqb 9 k ≡ false) (ten : eqb 10 k ≡ false) (eleven : eqb 11 k ≡ false) (twelve : eqb 12 k ≡ false) where
+-- a log that only the packet's own rows and the event's go to: 0, 3 or 4
+module _ (k : ℕ) (one : eqb 1 k ≡ false) (two : eqb 2 k ≡ false) (five : eqb 5 k ≡ false) (six : eqb 6 k ≡ false) (seven : eqb 7 k ≡ false) (eight : eqb 8 k ≡ false) (nine : eqb 9 k ≡ false) (ten : eqb 10 k ≡ false) (eleven : eqb 11 k ≡ false) (twelve : eqb 12 k ≡ false) where
   abbrev logged : World → List ℕ
   logged w = log k (w .journal)
 
@@ -82,16 +82,18 @@ module _ (k : ℕ) (one : eqb 1 k ≡ false) (two : eqb 2 k ≡ false) (four : e
       by true = subgroup-log n w
       by false = group-log n true w
 
-  event-log : (kind code time : ℕ) (w : World) → logged (handleEvent kind code time w) ≡ logged w ++ pick (eqb 3 k) (w .bytes ∷ time ∷ []) []
+  event-log : (kind code time : ℕ) (w : World) → logged (handleEvent kind code time w) ≡ (logged w ++ pick (eqb 3 k) (w .bytes ∷ time ∷ []) []) ++ pick (eqb 4 k) (w .packets ∷ code ∷ []) []
   unfolding handleEvent eventUpdate
   event-log kind code time w = by (eqb kind 0)
     where
-      go : (u : World) → logged u ≡ logged w → logged (eventUpdate (w .packets) kind (push (EventRow (w .packets) code) (pushPacket (w .bytes) time u))) ≡ logged w ++ pick (eqb 3 k) (w .bytes ∷ time ∷ []) []
+      go : (u : World) → logged u ≡ logged w
+          → logged (eventUpdate (w .packets) kind (push (EventRow (w .packets) code) (pushPacket (w .bytes) time u))) ≡ (logged w ++ pick (eqb 3 k) (w .bytes ∷ time ∷ []) []) ++ pick (eqb 4 k) (w .packets ∷ code ∷ []) []
       go u h =
           act-is (turnOf (u .eventState) kind .act) (w .packets) (push (EventRow (w .packets) code) (pushPacket (w .bytes) time u))
-          ∙ (row-log k (EventRow (w .packets) code) (PacketRow (w .bytes) time ∷ u .journal) four ∙ ap (λ (l : List ℕ). l ++ pick (eqb 3 k) (w .bytes ∷ time ∷ []) []) h)
+          ∙ ap (λ (l : List ℕ). (l ++ pick (eqb 3 k) (w .bytes ∷ time ∷ []) []) ++ pick (eqb 4 k) (w .packets ∷ code ∷ []) []) h
 
-      by : (b : Bool) → logged (eventUpdate (w .packets) kind (push (EventRow (w .packets) code) (pushPacket (w .bytes) time (pick b (suspend (stamped time 0 w)) (endAll (stamped time 0 w)))))) ≡ logged w ++ pick (eqb 3 k) (w .bytes ∷ time ∷ []) []
+      by : (b : Bool) → logged (eventUpdate (w .packets) kind (push (EventRow (w .packets) code) (pushPacket (w .bytes) time (pick b (suspend (stamped time 0 w)) (endAll (stamped time 0 w))))))
+          ≡ (logged w ++ pick (eqb 3 k) (w .bytes ∷ time ∷ []) []) ++ pick (eqb 4 k) (w .packets ∷ code ∷ []) []
       by true = go (suspend (stamped time 0 w)) refl
       by false =
           let v = transactionEnd false false (stamped time 0 w) in
@@ -117,14 +119,28 @@ rowBy finishing n = []
 
 pub bytes-are : (high : Bool) (k : Call) (w : World) → w .journal ≡ [] → log 0 (call high k w .journal) ≡ bytesBy k
 unfolding handleDetail finish
-bytes-are high (packet p time shelf) w h = packet-log 0 refl refl refl refl refl refl refl refl refl refl refl high p time (withShelf shelf w) ∙ rw h (append-nil p)
-bytes-are high (event kind code time) w h = event-log 0 refl refl refl refl refl refl refl refl refl refl refl kind code time w ∙ rw h
-bytes-are high (detail address number direction kind max) w h = detail-log 0 refl refl refl refl refl refl refl refl refl refl refl (deviceFor address w) number direction kind max w ∙ rw h
-bytes-are high finishing w h = end-log 0 refl refl refl refl refl refl refl refl refl refl refl (lastStamped w) ∙ rw h
+bytes-are high (packet p time shelf) w h = packet-log 0 refl refl refl refl refl refl refl refl refl refl high p time (withShelf shelf w) ∙ rw h (append-nil p)
+bytes-are high (event kind code time) w h = event-log 0 refl refl refl refl refl refl refl refl refl refl kind code time w ∙ rw h
+bytes-are high (detail address number direction kind max) w h = detail-log 0 refl refl refl refl refl refl refl refl refl refl (deviceFor address w) number direction kind max w ∙ rw h
+bytes-are high finishing w h = end-log 0 refl refl refl refl refl refl refl refl refl refl (lastStamped w) ∙ rw h
 
 pub rows-are : (high : Bool) (k : Call) (w : World) → w .journal ≡ [] → log 3 (call high k w .journal) ≡ rowBy k (w .bytes)
 unfolding handleDetail finish
-rows-are high (packet p time shelf) w h = packet-log 3 refl refl refl refl refl refl refl refl refl refl refl high p time (withShelf shelf w) ∙ rw h
-rows-are high (event kind code time) w h = event-log 3 refl refl refl refl refl refl refl refl refl refl refl kind code time w ∙ rw h
-rows-are high (detail address number direction kind max) w h = detail-log 3 refl refl refl refl refl refl refl refl refl refl refl (deviceFor address w) number direction kind max w ∙ rw h
-rows-are high finishing w h = end-log 3 refl refl refl refl refl refl refl refl refl refl refl (lastStamped w) ∙ rw h
+rows-are high (packet p time shelf) w h = packet-log 3 refl refl refl refl refl refl refl refl refl refl high p time (withShelf shelf w) ∙ rw h
+rows-are high (event kind code time) w h = event-log 3 refl refl refl refl refl refl refl refl refl refl kind code time w ∙ rw h
+rows-are high (detail address number direction kind max) w h = detail-log 3 refl refl refl refl refl refl refl refl refl refl (deviceFor address w) number direction kind max w ∙ rw h
+rows-are high finishing w h = end-log 3 refl refl refl refl refl refl refl refl refl refl (lastStamped w) ∙ rw h
+
+-- a call's event row, where n packet rows stood before it
+abbrev pub eventBy : Call → ℕ → List ℕ
+eventBy (packet p time shelf) n = []
+eventBy (event kind code time) n = n ∷ code ∷ []
+eventBy (detail address number direction kind max) n = []
+eventBy finishing n = []
+
+pub events-are : (high : Bool) (k : Call) (w : World) → w .journal ≡ [] → log 4 (call high k w .journal) ≡ eventBy k (w .packets)
+unfolding handleDetail finish
+events-are high (packet p time shelf) w h = packet-log 4 refl refl refl refl refl refl refl refl refl refl high p time (withShelf shelf w) ∙ rw h
+events-are high (event kind code time) w h = event-log 4 refl refl refl refl refl refl refl refl refl refl kind code time w ∙ rw h
+events-are high (detail address number direction kind max) w h = detail-log 4 refl refl refl refl refl refl refl refl refl refl (deviceFor address w) number direction kind max w ∙ rw h
+events-are high finishing w h = end-log 4 refl refl refl refl refl refl refl refl refl refl (lastStamped w) ∙ rw h

@@ -20,10 +20,12 @@ use Rattle.demands.specs.Sequence.{Sequence, Told, linkRows}
 use Rattle.demands.proofs.Kept.{kept}
 use Rattle.ledger.specs.Account.{heldBy, entered}
 use Rattle.ledger.specs.Ledger.{Ledger, isWaiting, isCounted, lengthsOf, sum, running, isData}
-use Rattle.once.specs.Once.{packetBytes, bytesOf, dataBytes, totals, totalsBefore, isUncounted, linesOf, ledgerOf, Once}
+use Rattle.reading.specs.Packets.{packetBytes}
+use Rattle.reading.specs.PacketsLaws.{beyond}
+use Rattle.once.specs.Once.{bytesOf, dataBytes, totals, totalsBefore, isUncounted, linesOf, ledgerOf, Once}
 use Rattle.once.proofs.DataRows.{data-rows}
 use Rattle.once.proofs.Keeps.{Keeps, keeps}
-use Rattle.once.proofs.Packets.{beyond, dataPackets, data-same, no-data}
+use Rattle.once.proofs.Packets.{dataPackets, data-same, no-data}
 use Rattle.once.proofs.Sums.{sumAll, upTo, up-same, spread, sum-data, timesIn, lines-in, times-data, long-data, each-data}
 
 held-is : (s : Slot) (f : Bool) (n : ℕ) → heldBy s f n ≡ pick (holds s && f) (n ∷ []) []

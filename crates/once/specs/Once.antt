@@ -1,14 +1,15 @@
 -- To be believed: no byte is counted twice (02, 8): what is claimed of the ledger (ledger, Ledger) of every sequence of calls, on the packet log, the D rows, the totals and
 -- the record that the calls leave. proofs/Once.antt proves it. Words in quotation marks are those of 02, 8.
 -- Hold it to: 02, 8, sentence by sentence
-use Prim.Native.Nat.{ℕ, zero, suc, _+_, _-_, _*_, _<_, min}
+use Prim.Native.Nat.{ℕ, zero, suc, _+_, _-_, _*_, _<_}
 use mathlib.Core.Bool.{Bool, true, false, _&&_}
 use mathlib.Core.List.{List, [], _∷_}
 use mathlib.Core.Path.{_≡_}
-use lib.Dec.{eqb, ltb}
-use lib.ListN.{length, take, drop, getD}
+use lib.Dec.{eqb}
+use lib.ListN.{length, take}
 use Rattle.rows.specs.One.{one}
 use Rattle.rows.specs.Widths.{packetWidth}
+use Rattle.reading.specs.Packets.{packetBytes}
 use Rattle.transaction.specs.Table.{pick}
 use Rattle.endpoints.specs.Table.{entryAt}
 use Rattle.rules.specs.Rows.{Row}
@@ -25,17 +26,7 @@ ledgerOf (then {js} {s} k a s′ q d) = pick (accepts a) (turns (s .decoder .hig
 
 -- ---- the packet log
 
--- where packet row k of n starts; behind the last, the end. No start is past the end
-abbrev pub startOf : ℕ → ℕ → List ℕ → ℕ → ℕ
-startOf k n rows end = pick (ltb k n) (min (getD rows (k * packetWidth) 0) end) end
-
--- the bytes of packet row k: from its start up to the next one's
-abbrev pub packetBytes : ℕ → ℕ → List ℕ → List ℕ → List ℕ
-packetBytes k n rows bytes =
-    let start = startOf k n rows (length bytes) in
-    take (startOf (suc k) n rows (length bytes) - start) (drop start bytes)
-
--- in the logs, as far as they are counted
+-- the bytes of packet row k, as a reader takes them from the logs, as far as they are counted
 abbrev pub bytesOf : ℕ → State → List ℕ
 bytesOf k s =
     let n = s .decoder .counts in

@@ -8,7 +8,7 @@ use borrow.Author.Tests.{le-ltb}
 use lib.ListN.{length}
 use lib.Seq.{slice}
 use Rattle.pcap.specs.Pcap.{nextAt}
-use Rattle.pcap.specs.File.{Read, stop, onward, readFrom}
+use Rattle.pcap.specs.Reading.{Read, stop, onward, readFrom}
 use Rattle.pcap.specs.PcapLaws.{Grown, grown}
 use Rattle.pcap.specs.declared.Format.{Format}
 use Rattle.pcap.specs.declared.Next.{Next}

@@ -10,7 +10,9 @@ use lib.ListN.{length, drop, length-append}
 use lib.Seq.{slice, take-at, drop-append-add}
 use Rattle.pcap.specs.Numbers.{number, numberAt}
 use Rattle.pcap.specs.Pcap.{headOf, nextAt}
-use Rattle.pcap.specs.File.{four, Item, format, headBytes, heading, itemBytes, bodyOf, fileOf, Read, onward, readFrom, readOf, opened, readFile, recordsOf, Fit, Fits}
+use Rattle.pcap.specs.File.{four, Item, format, headBytes, heading, itemBytes, bodyOf, fileOf}
+use Rattle.pcap.specs.Fits.{Fit, Fits}
+use Rattle.pcap.specs.Reading.{Read, onward, readFrom, readOf, opened, readFile, recordsOf}
 use Rattle.pcap.specs.PcapLaws.{packet-of}
 use Rattle.pcap.specs.declared.Format.{Format}
 use Rattle.pcap.specs.declared.Head.the-variants.{Fine}

@@ -1,5 +1,8 @@
-// A classic pcap file of USB packets (link type 288): its head, and its records taken one at a time. Both byte orders, and times in
-// microseconds or nanoseconds.
+// A classic pcap file of USB packets (link type 288): its head, and its records taken one at a time, in both byte orders, and with times in
+// microseconds or nanoseconds; and such a file written from the packet log.
+mod logs;
+mod write;
+
 ghost use mathlib.Core.Path.{_≡_};
 ghost use Prim.Native.Nat.{_+_, _*_, _%_, _^_, _≤_, _<_};
 ghost use mathlib.Core.List.{[], _∷_};
@@ -7,6 +10,8 @@ ghost use lib.ListN.{length};
 ghost use Rattle.usb.specs.Bits.{number};
 ghost use Rattle.pcap.specs.Numbers.{numberAt};
 ghost use Rattle.pcap.specs.Pcap.{unitOf, linked, headOf, headAnswer, headPlace, bodyAt, nextAt, answerOf, timeOf};
+ghost use Rattle.pcap.specs.Export.{sourceOf, sizeOf, Exports, refusal, lent};
+ghost use Rattle.pcap.specs.Inner.{acceptedBy, Within};
 
 // The byte order of every number of the file, and the nanoseconds in one unit of a record's fraction.
 pub struct Format {
@@ -33,6 +38,34 @@ pub enum Next {
     Fraction,
     End,
 }
+
+// What an export gives: the answer, the file's length, the packets in it and the events that it left behind; refused, nothing but the answer.
+pub struct Exported {
+    pub answer: u8,
+    pub length: usize,
+    pub packets: usize,
+    pub events: usize,
+}
+
+// How much of the lent logs an export goes by: packet bytes, packet rows, event rows.
+pub struct Extent {
+    pub bytes: usize,
+    pub rows: usize,
+    pub marks: usize,
+}
+
+// What a file would have: whether seconds do not fit it, its length, and how many packets and events were met.
+pub struct Survey {
+    pub late: bool,
+    pub length: usize,
+    pub packets: usize,
+    pub events: usize,
+}
+
+// Answers: no room, and seconds that do not fit.
+const FULL: u8 = 7;
+
+const LATE: u8 = 18;
 
 // Bytes of the head, and of a record before the packet.
 const HEAD: usize = 24;
@@ -209,4 +242,98 @@ pub fn time(f: Format, seconds: u32, fraction: u32) -> u64
     let whole = seconds as u64 * SECOND;
     let part = fraction as u64 * unit as u64;
     std::num::wrapping_add_u64(whole, part)
+}
+
+fn refuse(answer: u8) -> Exported
+    ensures { λ r. ⌜ r ≡ refusal answer ⌝ }
+{
+    Exported {
+        answer,
+        length: 0,
+        packets: 0,
+        events: 0,
+    }
+}
+
+fn accept(s: Survey) -> Exported
+    ensures { λ r. ⌜ r ≡ acceptedBy s ⌝ }
+{
+    Exported {
+        answer: 0,
+        length: s.length,
+        packets: s.packets,
+        events: s.events,
+    }
+}
+
+// By counts that the logs have.
+fn size_rows(bytes: &[u8], n: usize, packets: &[u64], marks: usize, events: &[u64]) -> Exported
+    requires { ⌜ Within (lent (now bytes) n (now packets) marks (now events)) ⌝ }
+    ensures { λ r. ⌜ r ≡ sizeOf (lent (now (bytes .entry)) n (now (packets .entry)) marks (now (events .entry))) ⌝ }
+{
+    let s = logs::survey_rows(bytes, n, packets, marks, events);
+    let late = s.late;
+    if late {
+        return refuse(LATE);
+    }
+    accept(s)
+}
+
+// How long a file `export` would write: of the first m packet bytes, n packet rows and e event rows.
+pub fn export_size(
+    m: usize,
+    bytes: &[u8],
+    n: usize,
+    packets: &[u64],
+    e: usize,
+    events: &[u64],
+) -> Exported
+    ensures { λ r. ⌜ r ≡ sizeOf (sourceOf m (now (bytes .entry)) n (now (packets .entry)) e (now (events .entry))) ⌝ }
+{
+    let x = logs::extent_of(m, bytes.len(), n, packets.len(), e, events.len());
+    let end = x.bytes;
+    size_rows(&bytes[..end], x.rows, packets, x.marks, events)
+}
+
+// By counts that the logs have. Nothing is written before it is known that all of it fits.
+fn export_rows(
+    bytes: &[u8],
+    n: usize,
+    packets: &[u64],
+    marks: usize,
+    events: &[u64],
+    out: &mut [u8],
+) -> Exported
+    requires { ⌜ Within (lent (now bytes) n (now packets) marks (now events)) ⌝ }
+    ensures { λ r. ⌜ Exports (lent (now (bytes .entry)) n (now (packets .entry)) marks (now (events .entry))) (now (out .entry)) (now (out .exit)) r ⌝ }
+{
+    let s = logs::survey_rows(bytes, n, packets, marks, events);
+    let late = s.late;
+    if late {
+        return refuse(LATE);
+    }
+    let length = s.length;
+    if out.len() < length {
+        return refuse(FULL);
+    }
+    let next = write::write_head(out, 0);
+    write::write_rows(out, next, bytes, n, packets, marks, events);
+    accept(s)
+}
+
+// The packet log as a file, from the start of a lent buffer: of the first m packet bytes, n packet rows and e event rows.
+pub fn export(
+    m: usize,
+    bytes: &[u8],
+    n: usize,
+    packets: &[u64],
+    e: usize,
+    events: &[u64],
+    out: &mut [u8],
+) -> Exported
+    ensures { λ r. ⌜ Exports (sourceOf m (now (bytes .entry)) n (now (packets .entry)) e (now (events .entry))) (now (out .entry)) (now (out .exit)) r ⌝ }
+{
+    let x = logs::extent_of(m, bytes.len(), n, packets.len(), e, events.len());
+    let end = x.bytes;
+    export_rows(&bytes[..end], x.rows, packets, x.marks, events, out)
 }

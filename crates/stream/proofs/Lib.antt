@@ -1,3 +1,6 @@
 pub mod Addresses
-pub mod Leading
+pub mod Pieces
+pub mod Finding
+pub mod Staying
 pub mod Streaming
+pub mod Rounding

@@ -1,11 +1,10 @@
 -- The laws of the loop over packets: what holds before each of them, that it lets packet_in be called, and how one packet more carries it on.
 use Prim.Native.Nat.{ℕ, _+_, _-_, _<_, _≤_}
 use native.Mathlib.Omega.{arith}
-use mathlib.Core.Bool.{Bool, true, false, _&&_, cond, true≢false}
+use mathlib.Core.Bool.{Bool, true, false, true≢false}
 use mathlib.Core.List.{List}
 use mathlib.Core.Path.{_≡_, refl, sym, ap, subst, _∙_}
-use borrow.Author.Tests.{leb-true}
-use lib.Dec.{eqb, leb, ltb}
+use lib.Dec.{eqb}
 use lib.ListN.{length, getD, take, drop, length-drop}
 use lib.Seq.{length-take-le}
 use Rattle.rows.specs.One.{one}
@@ -17,14 +16,7 @@ use Rattle.details.specs.declared.Device.{Device}
 use Rattle.details.specs.declared.Found.{Found}
 use Rattle.endpoints.specs.Table.{entryAt}
 use Rattle.endpoints.specs.declared.Endpoint.{Endpoint}
-use Rattle.record.specs.Bools.{both}
 use Rattle.plan.specs.Packet.{oldEndpoint}
-use Rattle.trace.specs.Clock.{tickOf}
-use Rattle.trace.specs.Laws.{packet-inside}
-use Rattle.trace.specs.Trace.{nextAt}
-use Rattle.trace.specs.declared.Cursor.{Cursor}
-use Rattle.trace.specs.declared.Next.{Next}
-use Rattle.trace.specs.declared.Next.the-variants.{Packet, Event, Detail, Unknown, Cut, End}
 use Rattle.trace.specs.declared.clock.Clock.{Clock}
 use Rattle.call.specs.Outcome.{isIll, accepts}
 use Rattle.call.specs.OutcomeLaws.{sound}
@@ -36,76 +28,49 @@ use Rattle.decide.specs.declared.near.Near.{Near}
 use Rattle.decide.proofs.Bounds.{old-there}
 use Rattle.decide.proofs.Places.{number-small, place-few, seen-by}
 use Rattle.packet.specs.Call.{PacketCall}
+use Rattle.packet.specs.CallLaws.{packet-kept}
 use Rattle.packet.specs.Lent.{Lent}
 use Rattle.packet.proofs.Answers.{withRequests}
-use Rattle.sound.specs.Sound.{isSound}
 use Rattle.sound.proofs.Keeps.{kept}
 use Rattle.stream.specs.Addresses.{Addressed, foundAddress, sightOf}
-use Rattle.step.specs.Block.{Stand, stand, clockAfter, behind, Gives, Takes}
-use Rattle.step.specs.BlockLaws.{gives-same}
-use Rattle.step.specs.Block.Takes.{stops}
-use Rattle.stream.specs.Part.{isShort, partOf}
-use Rattle.step.specs.Step.{Goes}
-use Rattle.stream.specs.Leads.{Fits, Leads, Runs}
+use Rattle.step.specs.Block.{Stand, stand}
+use Rattle.stream.specs.Led.{Fits, bytesOf, Calls, Led, Refused, Runs}
+use Rattle.stream.specs.Led.Led.{none, more}
+use Rattle.stream.specs.Part.{clockBy}
 use Rattle.stream.specs.declared.part.Part.{Part}
+use Rattle.stream.specs.declared.part.Reader.{Reader}
 use Rattle.stream.specs.declared.sight.Sight.{Sight}
 use Rattle.stream.proofs.Addresses.{found-same}
-use Rattle.stream.proofs.Leading.{leads-start, leads-one, leads-then, leads-over}
-use Rattle.step.proofs.Stepping.{here}
-
--- ---- a packet that is taken
-
-pub record IsPart (b : Bool) (n : Next) (p : Part) : Type 0 where
-  pub ready : b ≡ true
-  pub next : Cursor
-  pub found : n ≡ Packet (p .ticks) (p .start) (p .end) next
-  pub place : p .next ≡ next .at
-  pub short : p .end - p .start ≤ 4096
-
-short-by : (start end : ℕ) (b : Bool) → cond b false (leb (end - start) 4096) ≡ true → end - start ≤ 4096
-short-by start end true h = absurd (true≢false (sym h))
-short-by start end false h = leb-true _ _ h
-
-part-by : (b : Bool) (n : Next) → partOf b n .taken ≡ true → IsPart b n (partOf b n)
-part-by b (Packet ticks start end next) h =
-    let g = both b (isShort start end) h in
-    record { ready = g .0; next = next; found = refl; place = refl; short = short-by start end (ltb end start) (g .1) }
-part-by b (Event ticks kind code next) h = absurd (true≢false (sym h))
-part-by b (Detail address number direction kind max next) h = absurd (true≢false (sym h))
-part-by b Unknown h = absurd (true≢false (sym h))
-part-by b Cut h = absurd (true≢false (sym h))
-part-by b End h = absurd (true≢false (sym h))
-
-pub part-is : (b : Bool) {n : Next} (n′ : Next) {p : Part} → n ≡ n′ → p ≡ partOf b n → p .taken ≡ true → IsPart b n′ p
-part-is b {n} n′ {p} q e h =
-    subst (λ (x : Next). IsPart b x p) q (subst (λ (x : Part). IsPart b n x) (sym e) (part-by b n (sym (ap (λ (x : Part). x .taken) e) ∙ h)))
+use Rattle.stream.proofs.Finding.{Inside, finds-inside, IsPart}
+use Rattle.stream.proofs.Staying.{eight-small, packet-stays, stays-fit}
 
 -- ---- the loop's invariant
 
 -- the packets so far lead from s₀ to s, whose state no packet finds ill or finished where the loop is ready, and a has the addresses of its devices
-pub record Streaming (typed : Bool) (b : Bool) (t : List ℕ) (at₀ : ℕ) (c₀ : Clock) (s₀ : Stand) (n e at : ℕ) (c : Clock) (s : Stand) (a : List ℕ) : Type 0 where
-  pub leads : Leads typed t at₀ c₀ s₀ n e at c s
+pub record Streaming (r : Reader) (b : Bool) (t : List ℕ) (at₀ : ℕ) (c₀ : Clock) (s₀ : Stand) (n e at : ℕ) (c : Clock) (s : Stand) (a : List ℕ) : Type 0 where
+  pub led : Led r t at₀ c₀ s₀ n e at c s
+  pub few : n + at₀ ≤ at
+  pub eights : e ≤ n
   pub sizes : SameSizes (s₀ .state .logs) (s .state .logs)
   pub fits : Fits b (s .state)
   pub many : length (s .state .devices) ≡ 64
   pub addressed : Addressed 64 a (s .state .devices)
 
--- whether typed-in details are obeyed or not
-abbrev pub StreamingEither : Bool → List ℕ → ℕ → Clock → Stand → ℕ → ℕ → ℕ → Clock → Stand → List ℕ → Type 0
-StreamingEither b t at₀ c₀ s₀ n e at c s a = (typed : Bool) → Streaming typed b t at₀ c₀ s₀ n e at c s a
+pub streaming-start : {r : Reader} {b : Bool} (t : List ℕ) (at : ℕ) (c : Clock) {s : Stand} {a : List ℕ} → Fits b (s .state) → length (s .state .devices) ≡ 64 → Addressed 64 a (s .state .devices) → Streaming r b t at c s 0 0 at c s a
+streaming-start t at c {s} f m d = record { led = none; few = omega arith; eights = omega arith; sizes = λ k u. refl; fits = f; many = m; addressed = d }
 
-pub streaming-start : {typed : Bool} {b : Bool} (t : List ℕ) (at : ℕ) (c : Clock) {s : Stand} {a : List ℕ} → Fits b (s .state) → length (s .state .devices) ≡ 64 → Addressed 64 a (s .state .devices) → Streaming typed b t at c s 0 0 at c s a
-streaming-start t at c {s} f m d = record { leads = leads-start t at c s; sizes = λ k u. refl; fits = f; many = m; addressed = d }
+-- with other words for the 8 and the clock
+more-by : {r : Reader} {t : List ℕ} {at n e at′ a u : ℕ} {c c′ c″ : Clock} {s s′ s″ : Stand} (p : Part) → Led r t at c s n e at′ c′ s′ → Calls r t at′ c′ s′ p a s″ → accepts a ≡ true → u ≡ one (eqb a 8) → c″ ≡ clockBy p
+    → Led r t at c s (n + 1) (e + u) (p .next) c″ s″
+more-by {r} {t} {at} {n} {e} {at′} {a} {u} {c} {c′} {c″} {s} {s′} {s″} p l x h q k =
+    subst (λ (v : Clock). Led r t at c s (n + 1) (e + u) (p .next) v s″) (sym k) (subst (λ (f : ℕ). Led r t at c s (n + 1) (e + f) (p .next) (clockBy p) s″) (sym q) (more p a l x h))
 
 -- a record that the loop does not take
-pub streaming-ends : {typed : Bool} {b : Bool} {t a : List ℕ} {at₀ n e at : ℕ} {c₀ c : Clock} {s₀ s : Stand} → Streaming typed b t at₀ c₀ s₀ n e at c s a
-    → Runs typed t at₀ c₀ s₀ (record { going = true; answer = 0; taken = n; eights = e; place = at; clock = c; decoder = s .state .decoder; devices = s .state .devices }) (s .state .table) (s .state .logs) (s .shelf)
-streaming-ends g = record { leads = λ z. g .leads; over = λ z. absurd (true≢false z); counted = (g .leads .few, g .leads .eights) }
+pub streaming-ends : {r : Reader} {b : Bool} {t a : List ℕ} {at₀ n e at : ℕ} {c₀ c : Clock} {s₀ s : Stand} → Streaming r b t at₀ c₀ s₀ n e at c s a
+    → Runs r t at₀ c₀ s₀ (record { going = true; answer = 0; taken = n; eights = e; place = at; clock = c; decoder = s .state .decoder; devices = s .state .devices }) (s .state .table) (s .state .logs) (s .shelf)
+streaming-ends g = record { led = g .led; over = λ z. absurd (true≢false z); counted = (g .few, g .eights) }
 
-abbrev pub bytesOf : List ℕ → Part → List ℕ
-bytesOf t p = take (p .end - p .start) (drop (p .start) t)
-
-module _ {typed : Bool} {b : Bool} {t a : List ℕ} {at₀ n e at : ℕ} {c₀ c : Clock} {s₀ s : Stand} {p : Part} (g : Streaming typed b t at₀ c₀ s₀ n e at c s a) (k : IsPart b (nextAt t at) p) where
+module _ {r : Reader} {b : Bool} {t a : List ℕ} {at₀ n e at : ℕ} {c₀ c : Clock} {s₀ s : Stand} {p : Part} (g : Streaming r b t at₀ c₀ s₀ n e at c s a) (k : IsPart r b t at c p) where
   pub streaming-unfinished : s .state .decoder .finished ≡ false
   streaming-unfinished = g .fits .unfinished (k .ready)
 
@@ -115,24 +80,20 @@ module _ {typed : Bool} {b : Bool} {t a : List ℕ} {at₀ n e at : ℕ} {c₀ c
   pub streaming-ready : Ready (s .state .decoder) (s .state .table)
   streaming-ready = let w = sound (s .state) well in ready (s .state .decoder) (s .state .devices) (s .state .table) (roomOf (s .state .logs)) (w .0)
 
+  inside : Inside t at p
+  inside = finds-inside r t at c p (k .finds)
+
   pub streaming-bounds : (p .start ≤ p .end) × (p .end ≤ length t)
-  streaming-bounds =
-      let i = packet-inside t at (p .ticks) (p .start) (p .end) (k .next) (sym (k .found)) in
-      let last = i .last in
-      let stays = i .whole .stays in
-      (i .part, omega arith)
+  streaming-bounds = (inside .part, inside .ends)
 
   pub streaming-further : (at < p .next) × (p .next ≤ length t)
-  streaming-further =
-      let i = packet-inside t at (p .ticks) (p .start) (p .end) (k .next) (sym (k .found)) .whole in
-      let h = k .place in
-      (omega (arith, i .grows), omega (arith, i .stays))
+  streaming-further = (inside .grows, inside .stays)
 
   -- the counts stay below the place
   pub streaming-counts : (n + 1 ≤ length t) × (e + 1 ≤ length t)
   streaming-counts =
       let f = streaming-further in
-      (omega (arith, g .leads .few), omega (arith, g .leads .few, g .leads .eights))
+      (omega (arith, g .few), omega (arith, g .few, g .eights))
 
   pub streaming-short : length (bytesOf t p) ≤ 4096
   streaming-short =
@@ -176,34 +137,40 @@ module _ {typed : Bool} {b : Bool} {t a : List ℕ} {at₀ n e at : ℕ} {c₀ c
 
   -- ---- what a packet leaves
 
-  module _ {answer : ℕ} {s′ : State} {h′ : List ℕ} {c′ : Clock} (tick : c′ ≡ tickOf c (p .ticks)) (x : PacketCall (bytesOf t p) (c′ .time) (s .state) (s .shelf) answer s′ h′) where
-    gives : Gives typed t (nextAt t at) c s answer (stand s′ h′)
-    gives =
-        here typed t at c s (Packet (p .ticks) (p .start) (p .end) (k .next)) answer (stand s′ h′) (k .found)
-        (subst (λ (u : Clock). PacketCall (bytesOf t p) (u .time) (s .state) (s .shelf) answer s′ h′) tick x)
-
-    -- a refused packet leaves what is the loop's, too, as it was: the devices, the log of requests and the shelf
-    left : accepts answer ≡ false → Takes typed t at₀ c₀ s₀ n e answer at c (stand (state (s′ .decoder) (s .state .devices) (s′ .table) (withRequests (s .state .logs .requests) (s′ .logs))) (s .shelf))
+  module _ {answer : ℕ} {s′ : State} {h′ : List ℕ} (x : PacketCall (bytesOf t p) (p .time) (s .state) (s .shelf) answer s′ h′) where
+    -- a refused packet leaves all as it was, what is the loop's too: the devices, the log of requests and the shelf
+    left : accepts answer ≡ false → stand (state (s′ .decoder) (s .state .devices) (s′ .table) (withRequests (s .state .logs .requests) (s′ .logs))) (s .shelf) ≡ s
     left h =
-        let same = gives-same typed t (nextAt t at) c s answer (stand s′ h′) gives h in
-        subst (Takes typed t at₀ c₀ s₀ n e answer at c) (λ i. stand (state (s′ .decoder) (same i .state .devices) (s′ .table) (withRequests (same i .state .logs .requests) (s′ .logs))) (same i .shelf))
-        (leads-over (g .leads) (stops gives h))
+        let same = packet-kept (bytesOf t p) (p .time) (s .state) (s .shelf) x h .0 in
+        λ i. stand (state (same i .decoder) (s .state .devices) (same i .table) (withRequests (s .state .logs .requests) (same i .logs))) (s .shelf)
 
-    pub streaming-stops : accepts answer ≡ false → Runs typed t at₀ c₀ s₀ (record { going = false; answer = answer; taken = n; eights = e; place = at; clock = c; decoder = s′ .decoder; devices = s .state .devices }) (s′ .table) (withRequests (s .state .logs .requests) (s′ .logs)) (s .shelf)
-    streaming-stops h = record { leads = λ z. absurd (true≢false (sym z)); over = λ z. left h; counted = (g .leads .few, g .leads .eights) }
-
-    goes : accepts answer ≡ true → Goes typed t at c s answer (p .next) c′ (stand s′ h′)
-    goes h =
+    refuses : accepts answer ≡ false → Refused r t at c s answer
+    refuses h =
+        let same = packet-kept (bytesOf t p) (p .time) (s .state) (s .shelf) x h in
         record {
-          gives = gives;
-          accepted = h;
-          place = k .place ∙ ap (λ (m : Next). behind m at) (sym (k .found));
-          clock = tick ∙ ap (λ (m : Next). clockAfter m c) (sym (k .found));
-          further = streaming-further;
+          part = p;
+          calls = record { finds = k .finds; call = subst (λ (u : Stand). PacketCall (bytesOf t p) (p .time) (s .state) (s .shelf) answer (u .state) (u .shelf)) (λ i. stand (same .0 i) (same .1 i)) x };
+          refused = h;
         }
 
-    pub streaming-more : {a′ : List ℕ} {u : ℕ} → accepts answer ≡ true → u ≡ one (eqb answer 8) → Addressed 64 a′ (s′ .devices) → SameSizes (s .state .logs) (s′ .logs)
-        → Streaming typed b t at₀ c₀ s₀ (n + 1) (e + u) (p .next) c′ (stand s′ h′) a′
-    streaming-more h q d z =
-        let l = leads-one (goes h) in
-        record { leads = leads-then (g .leads) (subst (λ (f : ℕ). Leads typed t at c s 1 f (p .next) c′ (stand s′ h′)) (sym q) l); sizes = λ j u. z j u ∙ g .sizes j u; fits = l .fits b (g .fits); many = l .many ∙ g .many; addressed = d }
+    pub streaming-stops : accepts answer ≡ false → Runs r t at₀ c₀ s₀ (record { going = false; answer = answer; taken = n; eights = e; place = at; clock = c; decoder = s′ .decoder; devices = s .state .devices }) (s′ .table) (withRequests (s .state .logs .requests) (s′ .logs)) (s .shelf)
+    streaming-stops h =
+        record {
+          led = subst (Led r t at₀ c₀ s₀ n e at c) (sym (left h)) (g .led);
+          over = λ z. subst (λ (u : Stand). Refused r t at c u answer) (sym (left h)) (refuses h);
+          counted = (g .few, g .eights);
+        }
+
+    pub streaming-more : {a′ : List ℕ} {u : ℕ} {c′ : Clock} → c′ ≡ clockBy p → accepts answer ≡ true → u ≡ one (eqb answer 8) → Addressed 64 a′ (s′ .devices) → SameSizes (s .state .logs) (s′ .logs)
+        → Streaming r b t at₀ c₀ s₀ (n + 1) (e + u) (p .next) c′ (stand s′ h′) a′
+    streaming-more k′ h q d z =
+        let o = packet-stays (bytesOf t p) (p .time) (s .state) (s .shelf) answer s′ h′ x h in
+        record {
+          led = more-by p (g .led) (record { finds = k .finds; call = x }) h q k′;
+          few = omega (arith, g .few, inside .grows);
+          eights = omega (arith, g .eights, eight-small answer q);
+          sizes = λ j w. z j w ∙ g .sizes j w;
+          fits = stays-fit o b (g .fits);
+          many = o .many ∙ g .many;
+          addressed = d;
+        }

@@ -1,3 +1,5 @@
 pub mod Addresses
+pub mod Piece
 pub mod Part
-pub mod Leads
+pub mod Led
+pub mod Rounds

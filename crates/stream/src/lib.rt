@@ -1,10 +1,13 @@
-// The packets that the block takes by the inner call, one after the other, in a loop that owns the devices and is lent the shelf.
+// The packets that a block or an import takes by the inner call, one after the other, in a loop that owns the devices and is lent the shelf.
 mod address;
-mod part;
+pub mod part;
+pub mod piece;
+pub mod rounds;
 mod sight;
 
 use crate::address::addresses_of;
-use crate::part::part_of;
+use crate::part::Reader;
+use crate::part::part_at;
 use crate::sight::near_by;
 use crate::sight::sight_of;
 use details::Device;
@@ -21,15 +24,11 @@ use shelving::sized;
 use step::eight;
 use step::goes_on;
 use trace::clock::Clock;
-use trace::clock::tick;
-use trace::reader::record_at;
-ghost use mathlib.Core.Bool.{true};
-ghost use mathlib.Core.Path.{_≡_};
 ghost use Rattle.call.specs.State.{state, logs};
 ghost use Rattle.step.specs.Block.{stand};
-ghost use Rattle.stream.specs.Leads.{Fits, RunsEither};
+ghost use Rattle.stream.specs.Led.{Fits, Runs};
 
-// Where it ends: at a record that it doesn't take, so the block goes on there; or at a packet that was refused, with that answer.
+// Where it ends: at a record that it doesn't take, so its caller goes on there; or at a packet that was refused, with that answer.
 pub struct Run {
     pub going: bool,
     pub answer: u8,
@@ -41,8 +40,9 @@ pub struct Run {
     pub devices: [Device; 64],
 }
 
-// The packets from the place `at` on, up to one that is refused or to another record. Where `ready` is false, none.
+// The packets from the place `at` on, as the reader finds them, up to one that is refused or to another record. Where `ready` is false, none.
 pub fn run_packets(
+    reader: Reader,
     ready: bool,
     d: Decoder,
     devices: [Device; 64],
@@ -65,7 +65,7 @@ pub fn run_packets(
     shelf: &mut Shelf,
 ) -> Run
     requires { ⌜ Fits ready (state d devices (now table) (logs (now bytes) (now «device_rows») (now «endpoint_rows») (now packets) (now events) (now transactions) (now groups) (now statebytes) (now states) (now items) (now links) (now requests))) ⌝ }
-    ensures { λ r. ⌜ RunsEither (now (records .entry)) at clock (stand (state d devices (now (table .entry)) (logs (now (bytes .entry)) (now («device_rows» .entry)) (now («endpoint_rows» .entry)) (now (packets .entry)) (now (events .entry)) (now (transactions .entry)) (now (groups .entry)) (now (statebytes .entry)) (now (states .entry)) (now (items .entry)) (now (links .entry)) (now (requests .entry)))) (now (shelf .entry))) r (now (table .exit)) (logs (now (bytes .exit)) (now («device_rows» .exit)) (now («endpoint_rows» .exit)) (now (packets .exit)) (now (events .entry)) (now (transactions .exit)) (now (groups .exit)) (now (statebytes .exit)) (now (states .exit)) (now (items .exit)) (now (links .exit)) (now (requests .exit))) (now (shelf .exit)) ⌝ }
+    ensures { λ r. ⌜ Runs reader (now (records .entry)) at clock (stand (state d devices (now (table .entry)) (logs (now (bytes .entry)) (now («device_rows» .entry)) (now («endpoint_rows» .entry)) (now (packets .entry)) (now (events .entry)) (now (transactions .entry)) (now (groups .entry)) (now (statebytes .entry)) (now (states .entry)) (now (items .entry)) (now (links .entry)) (now (requests .entry)))) (now (shelf .entry))) r (now (table .exit)) (logs (now (bytes .exit)) (now («device_rows» .exit)) (now («endpoint_rows» .exit)) (now (packets .exit)) (now (events .entry)) (now (transactions .exit)) (now (groups .exit)) (now (statebytes .exit)) (now (states .exit)) (now (items .exit)) (now (links .exit)) (now (requests .exit))) (now (shelf .exit)) ⌝ }
 {
     let mut decoder = d;
     let mut addresses = addresses_of(devices);
@@ -75,7 +75,7 @@ pub fn run_packets(
     let mut taken: usize = 0;
     let mut eights: usize = 0;
     loop {
-        let part = part_of(ready, record_at(records, at));
+        let part = part_at(reader, ready, clock, records, at);
         if !part.taken {
             return Run {
                 going: true,
@@ -90,18 +90,18 @@ pub fn run_packets(
         }
         let begin = part.start;
         let end = part.end;
-        let sight = sight_of(addresses, decoder, table, &records[begin..end]);
+        let packet = &records[begin..end];
+        let sight = sight_of(addresses, decoder, table, packet);
         let place = sight.place;
         let owner = sight.owner;
         let row = devices[place];
         let held = devices[owner];
         let near = near_by(sight, row, held);
-        let ticked = tick(clock, part.ticks);
         let r = quick_in(
             decoder,
             near,
-            &records[begin..end],
-            ticked.time,
+            packet,
+            part.time,
             table,
             bytes,
             device_rows,
@@ -116,12 +116,11 @@ pub fn run_packets(
             links,
             requests,
         );
-        let answer = r.answer;
         let left = r.decoder;
-        if !goes_on(answer) {
+        if !goes_on(r.answer) {
             return Run {
                 going: false,
-                answer,
+                answer: r.answer,
                 taken,
                 eights,
                 place: at,
@@ -131,10 +130,14 @@ pub fn run_packets(
             };
         }
         decoder = left;
-        clock = ticked;
+        clock = Clock {
+            started: true,
+            last: part.ticks,
+            time: part.time,
+        };
         at = part.next;
         taken += 1;
-        eights += eight(answer);
+        eights += eight(r.answer);
         let c = r.change;
         // Row by row, as make_change (packet) does it: handed to that, all devices would be copied in and out, and all addresses taken anew (docs/SPEED.md).
         if is_change(c) {
@@ -145,6 +148,7 @@ pub fn run_packets(
             devices[place] = row;
             addresses[place] = row.address;
             let place = t.place;
+            // A slice of its own: lent `packet`, which is not inlined there, the loop would keep that in memory (docs/SPEED.md).
             let s = shelve(shelf, t, devices[place], &records[begin..end]);
             let kept = s.row;
             devices[place] = kept;

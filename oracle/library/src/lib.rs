@@ -6,7 +6,7 @@ pub mod entries;
 
 use oracle::blocks::Input;
 use oracle::decoder::machine::State;
-use oracle::lent::Lent;
+use oracle::lent::{Lent, Slice};
 use oracle::singles::{Call, RECORD, Told};
 
 /// The port's packet check.
@@ -76,6 +76,14 @@ mod single {
             shelf: *mut u8, told: *mut u64
         ) -> u8
     );
+    entry!(
+        pivotspark_pcap_records(
+            record: *mut u64, format: *const u64, records: *const u8, records_len: usize;
+            shelf: *mut u8, told: *mut u64
+        ) -> u8
+    );
+    entry!(pivotspark_pcap_size(record: *const u64; told: *mut u64) -> u8);
+    entry!(pivotspark_pcap_export(record: *const u64; out: *mut u8, out_len: usize, told: *mut u64) -> u8);
 
     const GUARD: u64 = u64::MAX;
 
@@ -108,6 +116,11 @@ mod single {
                     (told.clock, told.block) = (unguarded(ticks), unguarded(block));
                     answer
                 }
+                Call::Records { ref format, records } => {
+                    told.block = [u64::MAX; 3];
+                    let (format, block) = (format.as_ptr(), told.block.as_mut_ptr());
+                    pivotspark_pcap_records(record, format, records.as_ptr(), records.len(), lent, lent.shelf, block)
+                }
             }
         };
         told
@@ -119,9 +132,27 @@ mod single {
         entries::counts(record, &mut counts);
         counts
     }
+
+    /// The head of a pcap file: the answer and the place.
+    pub fn pcap_head(file: &[u8], format: &mut [u64; 2]) -> (u8, u64) {
+        super::told(entries::pcap_head(file, format))
+    }
+
+    /// The packets as a pcap file in `out`, or, without it, how long that would be.
+    ///
+    /// # Safety
+    /// As for `call`, and `out` has as many bytes as is said.
+    pub unsafe fn pcap_export(record: *const u64, lent: &Lent, out: Option<Slice<u8>>, told: &mut [u64; 3]) -> u8 {
+        unsafe {
+            match out {
+                Some((out, length)) => pivotspark_pcap_export(record, lent, out, length, told.as_mut_ptr()),
+                None => pivotspark_pcap_size(record, lent, told.as_mut_ptr()),
+            }
+        }
+    }
 }
 
-pub use single::{call, counts};
+pub use single::{call, counts, pcap_export, pcap_head};
 
 /// Records without header in blocks, as `blocks::Blocks` says, on a record that is made fresh; gives the answer of fresh. The tick state before them is the last
 /// counter and its time, 0 and 0 before the first. Of each block that was called six words are told: answer, taken, eights, place in the block, last

@@ -8,7 +8,8 @@ use Rattle.rows.specs.WidthsLaws.{each-log, log-number}
 use Rattle.call.specs.State.{State, state, Logs, logs}
 use Rattle.step.specs.Block.{stand}
 use Rattle.call.specs.StateLaws.{SameSizes}
-use Rattle.block.proofs.Taking.{Taking, fits-by, taking-start, taken-from, taking-counts, taking-stops, taking-further, taking-more}
+use Rattle.stream.proofs.Rounding.{fits-by}
+use Rattle.block.proofs.Taking.{Taking, taking-start, taken-from, taking-counts, taking-stops, taking-further, taking-more}
 use Rattle.block.proofs.records.Statement.{statement}
 use Rattle.block.proofs.records.Tie as tie
 mod Places

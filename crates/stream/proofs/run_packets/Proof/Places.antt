@@ -5,67 +5,64 @@ abbrev pub At-loop·Start : {Inv : tie.InvT-loop} {μ : tie.MeasureT-loop} → t
 At-loop·Start c = c .before .before .before .before .before .before .before .before .before .before .before .before .before .before .before
 
 abbrev pub quick-in·Start : {Inv : tie.InvT-loop} {μ : tie.MeasureT-loop} → tie.After-quick-in Inv μ → tie.Start Inv μ
-quick-in·Start c = c .before .before .before .before .before .before .before .before .before .before .before .before .before .before .before .before .before .before .before .before .before .before .before .before .before .before .before .before .before .before .before .before .before .before .before .before .before .before .before .before
+quick-in·Start c = c .before .before .before .before .before .before .before .before .before .before .before .before .before .before .before .before .before .before .before .before .before .before .before .before .before .before .before .before .before .before .before .before .before .before .before .before .before
 
 abbrev pub quick-in·At-loop : {Inv : tie.InvT-loop} {μ : tie.MeasureT-loop} → tie.After-quick-in Inv μ → tie.At-loop Inv μ
-quick-in·At-loop c = c .before .before .before .before .before .before .before .before .before .before .before .before .before .before .before .before .before .before .before .before .before .before .before .before .before
+quick-in·At-loop c = c .before .before .before .before .before .before .before .before .before .before .before .before .before .before .before .before .before .before .before .before .before .before
 
 abbrev pub loop-holds·Start : {Inv : tie.InvT-loop} {μ : tie.MeasureT-loop} → tie.After-addresses-of Inv μ → tie.Start Inv μ
 loop-holds·Start c = c .before .before .before .before .before .before .before .before .before .before .before .before .before .before
 
 abbrev pub returns·At-loop : {Inv : tie.InvT-loop} {μ : tie.MeasureT-loop} → tie.Then1 Inv μ → tie.At-loop Inv μ
-returns·At-loop c = c .before .before .before .before
+returns·At-loop c = c .before .before .before
 
 abbrev pub Else1·Start : {Inv : tie.InvT-loop} {μ : tie.MeasureT-loop} → tie.Else1 Inv μ → tie.Start Inv μ
-Else1·Start c = c .before .before .before .before .before .before .before .before .before .before .before .before .before .before .before .before .before .before .before
+Else1·Start c = c .before .before .before .before .before .before .before .before .before .before .before .before .before .before .before .before .before .before
 
 abbrev pub Else1·At-loop : {Inv : tie.InvT-loop} {μ : tie.MeasureT-loop} → tie.Else1 Inv μ → tie.At-loop Inv μ
-Else1·At-loop c = c .before .before .before .before
+Else1·At-loop c = c .before .before .before
 
-abbrev pub Else1·part-of : {Inv : tie.InvT-loop} {μ : tie.MeasureT-loop} → tie.Else1 Inv μ → tie.After-part-of Inv μ
-Else1·part-of c = c .before .before
+abbrev pub Else1·part-at : {Inv : tie.InvT-loop} {μ : tie.MeasureT-loop} → tie.Else1 Inv μ → tie.After-part-at Inv μ
+Else1·part-at c = c .before .before
 
-abbrev pub Else1·record-at : {Inv : tie.InvT-loop} {μ : tie.MeasureT-loop} → tie.Else1 Inv μ → tie.After-record-at Inv μ
-Else1·record-at c = c .before .before .before
+abbrev pub sub-packet·At-loop : {Inv : tie.InvT-loop} {μ : tie.MeasureT-loop} → tie.Else1 Inv μ → tie.At-loop Inv μ
+sub-packet·At-loop c = c .before .before .before
 
-abbrev pub sub-sight-of·At-loop : {Inv : tie.InvT-loop} {μ : tie.MeasureT-loop} → tie.After-sight-of-arg Inv μ → tie.At-loop Inv μ
-sub-sight-of·At-loop c = c .before .before .before .before .before
+abbrev pub sub-packet·Else1 : {Inv : tie.InvT-loop} {μ : tie.MeasureT-loop} → tie.Else1 Inv μ → tie.Else1 Inv μ
+sub-packet·Else1 c = c
 
-abbrev pub sub-sight-of·Else1 : {Inv : tie.InvT-loop} {μ : tie.MeasureT-loop} → tie.After-sight-of-arg Inv μ → tie.Else1 Inv μ
-sub-sight-of·Else1 c = c .before
+abbrev pub part-packet-start·At-loop : {Inv : tie.InvT-loop} {μ : tie.MeasureT-loop} → tie.Else1 Inv μ → tie.At-loop Inv μ
+part-packet-start·At-loop c = c .before .before .before
 
-abbrev pub part-sight-of-start·At-loop : {Inv : tie.InvT-loop} {μ : tie.MeasureT-loop} → tie.After-sight-of-arg Inv μ → tie.At-loop Inv μ
-part-sight-of-start·At-loop c = c .before .before .before .before .before
+abbrev pub part-packet-start·Else1 : {Inv : tie.InvT-loop} {μ : tie.MeasureT-loop} → tie.Else1 Inv μ → tie.Else1 Inv μ
+part-packet-start·Else1 c = c
 
-abbrev pub part-sight-of-start·Else1 : {Inv : tie.InvT-loop} {μ : tie.MeasureT-loop} → tie.After-sight-of-arg Inv μ → tie.Else1 Inv μ
-part-sight-of-start·Else1 c = c .before
+abbrev pub part-packet-end·At-loop : {Inv : tie.InvT-loop} {μ : tie.MeasureT-loop} → tie.Else1 Inv μ → tie.At-loop Inv μ
+part-packet-end·At-loop c = c .before .before .before
 
-abbrev pub part-sight-of-end·At-loop : {Inv : tie.InvT-loop} {μ : tie.MeasureT-loop} → tie.After-sight-of-arg Inv μ → tie.At-loop Inv μ
-part-sight-of-end·At-loop c = c .before .before .before .before .before
+abbrev pub part-packet-end·Else1 : {Inv : tie.InvT-loop} {μ : tie.MeasureT-loop} → tie.Else1 Inv μ → tie.Else1 Inv μ
+part-packet-end·Else1 c = c
 
-abbrev pub part-sight-of-end·Else1 : {Inv : tie.InvT-loop} {μ : tie.MeasureT-loop} → tie.After-sight-of-arg Inv μ → tie.Else1 Inv μ
-part-sight-of-end·Else1 c = c .before
+abbrev pub sight-of-requires·At-loop : {Inv : tie.InvT-loop} {μ : tie.MeasureT-loop} → tie.After-sight-of-arg Inv μ → tie.At-loop Inv μ
+sight-of-requires·At-loop c = c .before .before .before .before .before
 
-abbrev pub sight-of-requires·At-loop : {Inv : tie.InvT-loop} {μ : tie.MeasureT-loop} → tie.After-sight-of-arg2 Inv μ → tie.At-loop Inv μ
-sight-of-requires·At-loop c = c .before .before .before .before .before .before
-
-abbrev pub sight-of-requires·Else1 : {Inv : tie.InvT-loop} {μ : tie.MeasureT-loop} → tie.After-sight-of-arg2 Inv μ → tie.Else1 Inv μ
+abbrev pub sight-of-requires·Else1 : {Inv : tie.InvT-loop} {μ : tie.MeasureT-loop} → tie.After-sight-of-arg Inv μ → tie.Else1 Inv μ
 sight-of-requires·Else1 c = c .before .before
 
 abbrev pub sight-of·At-loop : {Inv : tie.InvT-loop} {μ : tie.MeasureT-loop} → tie.After-sight-of Inv μ → tie.At-loop Inv μ
-sight-of·At-loop c = c .before .before .before .before .before .before .before
+sight-of·At-loop c = c .before .before .before .before .before .before
 
 abbrev pub sight-of·Else1 : {Inv : tie.InvT-loop} {μ : tie.MeasureT-loop} → tie.After-sight-of Inv μ → tie.Else1 Inv μ
 sight-of·Else1 c = c .before .before .before
 
 abbrev pub near-by·Start : {Inv : tie.InvT-loop} {μ : tie.MeasureT-loop} → tie.After-near-by Inv μ → tie.Start Inv μ
-near-by·Start c = c .before .before .before .before .before .before .before .before .before .before .before .before .before .before .before .before .before .before .before .before .before .before .before .before .before
+near-by·Start c = c .before .before .before .before .before .before .before .before .before .before .before .before .before .before .before .before .before .before .before .before .before .before .before .before
 
-abbrev pub near-by·part-of : {Inv : tie.InvT-loop} {μ : tie.MeasureT-loop} → tie.After-near-by Inv μ → tie.After-part-of Inv μ
-near-by·part-of c = c .before .before .before .before .before .before .before .before
+abbrev pub near-by·part-at : {Inv : tie.InvT-loop} {μ : tie.MeasureT-loop} → tie.After-near-by Inv μ → tie.After-part-at Inv μ
+near-by·part-at c = c .before .before .before .before .before .before .before .before
 
 abbrev pub near-by·At-loop : {Inv : tie.InvT-loop} {μ : tie.MeasureT-loop} → tie.After-near-by Inv μ → tie.At-loop Inv μ
-near-by·At-loop c = c .before .before .before .before .before .before .before .before .before .before
+near-by·At-loop c = c .before .before .before .before .before .before .before .before .before
 
 abbrev pub near-by·Else1 : {Inv : tie.InvT-loop} {μ : tie.MeasureT-loop} → tie.After-near-by Inv μ → tie.Else1 Inv μ
 near-by·Else1 c = c .before .before .before .before .before .before
@@ -73,50 +70,32 @@ near-by·Else1 c = c .before .before .before .before .before .before
 abbrev pub near-by·sight-of : {Inv : tie.InvT-loop} {μ : tie.MeasureT-loop} → tie.After-near-by Inv μ → tie.After-sight-of Inv μ
 near-by·sight-of c = c .before .before .before
 
-abbrev pub sub-quick-in·At-loop : {Inv : tie.InvT-loop} {μ : tie.MeasureT-loop} → tie.After-tick Inv μ → tie.At-loop Inv μ
-sub-quick-in·At-loop c = c .before .before .before .before .before .before .before .before .before .before .before
+abbrev pub quick-in-requires·At-loop : {Inv : tie.InvT-loop} {μ : tie.MeasureT-loop} → tie.After-quick-in-arg12 Inv μ → tie.At-loop Inv μ
+quick-in-requires·At-loop c = c .before .before .before .before .before .before .before .before .before .before .before .before .before .before .before .before .before .before .before .before .before
 
-abbrev pub sub-quick-in·Else1 : {Inv : tie.InvT-loop} {μ : tie.MeasureT-loop} → tie.After-tick Inv μ → tie.Else1 Inv μ
-sub-quick-in·Else1 c = c .before .before .before .before .before .before .before
+abbrev pub quick-in-requires·Else1 : {Inv : tie.InvT-loop} {μ : tie.MeasureT-loop} → tie.After-quick-in-arg12 Inv μ → tie.Else1 Inv μ
+quick-in-requires·Else1 c = c .before .before .before .before .before .before .before .before .before .before .before .before .before .before .before .before .before .before
 
-abbrev pub part-quick-in-start·At-loop : {Inv : tie.InvT-loop} {μ : tie.MeasureT-loop} → tie.After-tick Inv μ → tie.At-loop Inv μ
-part-quick-in-start·At-loop c = c .before .before .before .before .before .before .before .before .before .before .before
-
-abbrev pub part-quick-in-start·Else1 : {Inv : tie.InvT-loop} {μ : tie.MeasureT-loop} → tie.After-tick Inv μ → tie.Else1 Inv μ
-part-quick-in-start·Else1 c = c .before .before .before .before .before .before .before
-
-abbrev pub part-quick-in-end·At-loop : {Inv : tie.InvT-loop} {μ : tie.MeasureT-loop} → tie.After-tick Inv μ → tie.At-loop Inv μ
-part-quick-in-end·At-loop c = c .before .before .before .before .before .before .before .before .before .before .before
-
-abbrev pub part-quick-in-end·Else1 : {Inv : tie.InvT-loop} {μ : tie.MeasureT-loop} → tie.After-tick Inv μ → tie.Else1 Inv μ
-part-quick-in-end·Else1 c = c .before .before .before .before .before .before .before
-
-abbrev pub quick-in-requires·At-loop : {Inv : tie.InvT-loop} {μ : tie.MeasureT-loop} → tie.After-quick-in-arg13 Inv μ → tie.At-loop Inv μ
-quick-in-requires·At-loop c = c .before .before .before .before .before .before .before .before .before .before .before .before .before .before .before .before .before .before .before .before .before .before .before .before
-
-abbrev pub quick-in-requires·Else1 : {Inv : tie.InvT-loop} {μ : tie.MeasureT-loop} → tie.After-quick-in-arg13 Inv μ → tie.Else1 Inv μ
-quick-in-requires·Else1 c = c .before .before .before .before .before .before .before .before .before .before .before .before .before .before .before .before .before .before .before .before
-
-abbrev pub quick-in-requires·near-by : {Inv : tie.InvT-loop} {μ : tie.MeasureT-loop} → tie.After-quick-in-arg13 Inv μ → tie.After-near-by Inv μ
-quick-in-requires·near-by c = c .before .before .before .before .before .before .before .before .before .before .before .before .before .before
+abbrev pub quick-in-requires·near-by : {Inv : tie.InvT-loop} {μ : tie.MeasureT-loop} → tie.After-quick-in-arg12 Inv μ → tie.After-near-by Inv μ
+quick-in-requires·near-by c = c .before .before .before .before .before .before .before .before .before .before .before .before
 
 abbrev pub sub-shelve·At-loop : {Inv : tie.InvT-loop} {μ : tie.MeasureT-loop} → tie.After-shelve-arg2 Inv μ → tie.At-loop Inv μ
-sub-shelve·At-loop c = c .before .before .before .before .before .before .before .before .before .before .before .before .before .before .before .before .before .before .before .before .before .before .before .before .before .before .before .before .before .before .before .before .before .before .before .before .before .before .before .before .before .before .before .before .before .before .before .before .before .before .before .before .before .before .before .before .before .before .before
+sub-shelve·At-loop c = c .before .before .before .before .before .before .before .before .before .before .before .before .before .before .before .before .before .before .before .before .before .before .before .before .before .before .before .before .before .before .before .before .before .before .before .before .before .before .before .before .before .before .before .before .before .before .before .before .before .before .before .before .before .before .before .before
 
 abbrev pub sub-shelve·Else1 : {Inv : tie.InvT-loop} {μ : tie.MeasureT-loop} → tie.After-shelve-arg2 Inv μ → tie.Else1 Inv μ
-sub-shelve·Else1 c = c .before .before .before .before .before .before .before .before .before .before .before .before .before .before .before .before .before .before .before .before .before .before .before .before .before .before .before .before .before .before .before .before .before .before .before .before .before .before .before .before .before .before .before .before .before .before .before .before .before .before .before .before .before .before .before
+sub-shelve·Else1 c = c .before .before .before .before .before .before .before .before .before .before .before .before .before .before .before .before .before .before .before .before .before .before .before .before .before .before .before .before .before .before .before .before .before .before .before .before .before .before .before .before .before .before .before .before .before .before .before .before .before .before .before .before .before
 
 abbrev pub part-shelve-start·At-loop : {Inv : tie.InvT-loop} {μ : tie.MeasureT-loop} → tie.After-shelve-arg2 Inv μ → tie.At-loop Inv μ
-part-shelve-start·At-loop c = c .before .before .before .before .before .before .before .before .before .before .before .before .before .before .before .before .before .before .before .before .before .before .before .before .before .before .before .before .before .before .before .before .before .before .before .before .before .before .before .before .before .before .before .before .before .before .before .before .before .before .before .before .before .before .before .before .before .before .before
+part-shelve-start·At-loop c = c .before .before .before .before .before .before .before .before .before .before .before .before .before .before .before .before .before .before .before .before .before .before .before .before .before .before .before .before .before .before .before .before .before .before .before .before .before .before .before .before .before .before .before .before .before .before .before .before .before .before .before .before .before .before .before .before
 
 abbrev pub part-shelve-start·Else1 : {Inv : tie.InvT-loop} {μ : tie.MeasureT-loop} → tie.After-shelve-arg2 Inv μ → tie.Else1 Inv μ
-part-shelve-start·Else1 c = c .before .before .before .before .before .before .before .before .before .before .before .before .before .before .before .before .before .before .before .before .before .before .before .before .before .before .before .before .before .before .before .before .before .before .before .before .before .before .before .before .before .before .before .before .before .before .before .before .before .before .before .before .before .before .before
+part-shelve-start·Else1 c = c .before .before .before .before .before .before .before .before .before .before .before .before .before .before .before .before .before .before .before .before .before .before .before .before .before .before .before .before .before .before .before .before .before .before .before .before .before .before .before .before .before .before .before .before .before .before .before .before .before .before .before .before .before
 
 abbrev pub part-shelve-end·At-loop : {Inv : tie.InvT-loop} {μ : tie.MeasureT-loop} → tie.After-shelve-arg2 Inv μ → tie.At-loop Inv μ
-part-shelve-end·At-loop c = c .before .before .before .before .before .before .before .before .before .before .before .before .before .before .before .before .before .before .before .before .before .before .before .before .before .before .before .before .before .before .before .before .before .before .before .before .before .before .before .before .before .before .before .before .before .before .before .before .before .before .before .before .before .before .before .before .before .before .before
+part-shelve-end·At-loop c = c .before .before .before .before .before .before .before .before .before .before .before .before .before .before .before .before .before .before .before .before .before .before .before .before .before .before .before .before .before .before .before .before .before .before .before .before .before .before .before .before .before .before .before .before .before .before .before .before .before .before .before .before .before .before .before .before
 
 abbrev pub part-shelve-end·Else1 : {Inv : tie.InvT-loop} {μ : tie.MeasureT-loop} → tie.After-shelve-arg2 Inv μ → tie.Else1 Inv μ
-part-shelve-end·Else1 c = c .before .before .before .before .before .before .before .before .before .before .before .before .before .before .before .before .before .before .before .before .before .before .before .before .before .before .before .before .before .before .before .before .before .before .before .before .before .before .before .before .before .before .before .before .before .before .before .before .before .before .before .before .before .before .before
+part-shelve-end·Else1 c = c .before .before .before .before .before .before .before .before .before .before .before .before .before .before .before .before .before .before .before .before .before .before .before .before .before .before .before .before .before .before .before .before .before .before .before .before .before .before .before .before .before .before .before .before .before .before .before .before .before .before .before .before .before
 
 abbrev pub shelve-requires·quick-in : {Inv : tie.InvT-loop} {μ : tie.MeasureT-loop} → tie.After-shelve-arg3 Inv μ → tie.After-quick-in Inv μ
 shelve-requires·quick-in c = c .before .before .before .before .before .before .before .before .before .before .before .before .before .before .before .before .before .before .before .before .before .before .before .before .before .before .before .before .before .before .before .before .before .before .before
@@ -125,49 +104,46 @@ abbrev pub shelve-requires·sized : {Inv : tie.InvT-loop} {μ : tie.MeasureT-loo
 shelve-requires·sized c = c .before .before .before .before .before
 
 abbrev pub returns-2·At-loop : {Inv : tie.InvT-loop} {μ : tie.MeasureT-loop} → tie.Then2 Inv μ → tie.At-loop Inv μ
-returns-2·At-loop c = c .before .before .before .before .before .before .before .before .before .before .before .before .before .before .before .before .before .before .before .before .before .before .before .before .before .before .before .before .before .before .before .before .before .before .before .before .before .before .before .before .before .before .before .before .before .before .before .before
+returns-2·At-loop c = c .before .before .before .before .before .before .before .before .before .before .before .before .before .before .before .before .before .before .before .before .before .before .before .before .before .before .before .before .before .before .before .before .before .before .before .before .before .before .before .before .before .before .before .before .before
 
 abbrev pub returns-2·Else1 : {Inv : tie.InvT-loop} {μ : tie.MeasureT-loop} → tie.Then2 Inv μ → tie.Else1 Inv μ
-returns-2·Else1 c = c .before .before .before .before .before .before .before .before .before .before .before .before .before .before .before .before .before .before .before .before .before .before .before .before .before .before .before .before .before .before .before .before .before .before .before .before .before .before .before .before .before .before .before .before
-
-abbrev pub returns-2·tick : {Inv : tie.InvT-loop} {μ : tie.MeasureT-loop} → tie.Then2 Inv μ → tie.After-tick Inv μ
-returns-2·tick c = c .before .before .before .before .before .before .before .before .before .before .before .before .before .before .before .before .before .before .before .before .before .before .before .before .before .before .before .before .before .before .before .before .before .before .before .before .before
+returns-2·Else1 c = c .before .before .before .before .before .before .before .before .before .before .before .before .before .before .before .before .before .before .before .before .before .before .before .before .before .before .before .before .before .before .before .before .before .before .before .before .before .before .before .before .before .before
 
 abbrev pub returns-2·quick-in : {Inv : tie.InvT-loop} {μ : tie.MeasureT-loop} → tie.Then2 Inv μ → tie.After-quick-in Inv μ
 returns-2·quick-in c = c .before .before .before .before .before .before .before .before .before .before .before .before .before .before .before .before .before .before .before .before .before .before .before
 
 abbrev pub returns-2·near-by : {Inv : tie.InvT-loop} {μ : tie.MeasureT-loop} → tie.Then2 Inv μ → tie.After-near-by Inv μ
-returns-2·near-by c = c .before .before .before .before .before .before .before .before .before .before .before .before .before .before .before .before .before .before .before .before .before .before .before .before .before .before .before .before .before .before .before .before .before .before .before .before .before .before
+returns-2·near-by c = c .before .before .before .before .before .before .before .before .before .before .before .before .before .before .before .before .before .before .before .before .before .before .before .before .before .before .before .before .before .before .before .before .before .before .before .before
 
 abbrev pub returns-2·goes-on : {Inv : tie.InvT-loop} {μ : tie.MeasureT-loop} → tie.Then2 Inv μ → tie.After-goes-on Inv μ
 returns-2·goes-on c = c .before
 
 abbrev pub add-taken·Else1 : {Inv : tie.InvT-loop} {μ : tie.MeasureT-loop} → tie.Else2 Inv μ → tie.Else1 Inv μ
-add-taken·Else1 c = c .before .before .before .before .before .before .before .before .before .before .before .before .before .before .before .before .before .before .before .before .before .before .before .before .before .before .before .before .before .before .before .before .before .before .before .before .before .before .before .before .before .before .before .before
+add-taken·Else1 c = c .before .before .before .before .before .before .before .before .before .before .before .before .before .before .before .before .before .before .before .before .before .before .before .before .before .before .before .before .before .before .before .before .before .before .before .before .before .before .before .before .before .before
 
 abbrev pub add-eights·Else1 : {Inv : tie.InvT-loop} {μ : tie.MeasureT-loop} → tie.After-eight Inv μ → tie.Else1 Inv μ
-add-eights·Else1 c = c .before .before .before .before .before .before .before .before .before .before .before .before .before .before .before .before .before .before .before .before .before .before .before .before .before .before .before .before .before .before .before .before .before .before .before .before .before .before .before .before .before .before .before .before .before
+add-eights·Else1 c = c .before .before .before .before .before .before .before .before .before .before .before .before .before .before .before .before .before .before .before .before .before .before .before .before .before .before .before .before .before .before .before .before .before .before .before .before .before .before .before .before .before .before .before
 
 abbrev pub add-eights·quick-in : {Inv : tie.InvT-loop} {μ : tie.MeasureT-loop} → tie.After-eight Inv μ → tie.After-quick-in Inv μ
 add-eights·quick-in c = c .before .before .before .before .before .before .before .before .before .before .before .before .before .before .before .before .before .before .before .before .before .before .before .before
 
 abbrev pub loop-less·At-loop : {Inv : tie.InvT-loop} {μ : tie.MeasureT-loop} → tie.After-added-by Inv μ → tie.At-loop Inv μ
-loop-less·At-loop c = c .before .before .before .before .before .before .before .before .before .before .before .before .before .before .before .before .before .before .before .before .before .before .before .before .before .before .before .before .before .before .before .before .before .before .before .before .before .before .before .before .before .before .before .before .before .before .before .before .before .before .before .before .before .before .before .before .before .before .before .before .before .before .before .before .before .before .before .before
+loop-less·At-loop c = c .before .before .before .before .before .before .before .before .before .before .before .before .before .before .before .before .before .before .before .before .before .before .before .before .before .before .before .before .before .before .before .before .before .before .before .before .before .before .before .before .before .before .before .before .before .before .before .before .before .before .before .before .before .before .before .before .before .before .before .before .before .before .before .before .before
 
 abbrev pub loop-less·Else1 : {Inv : tie.InvT-loop} {μ : tie.MeasureT-loop} → tie.After-added-by Inv μ → tie.Else1 Inv μ
-loop-less·Else1 c = c .before .before .before .before .before .before .before .before .before .before .before .before .before .before .before .before .before .before .before .before .before .before .before .before .before .before .before .before .before .before .before .before .before .before .before .before .before .before .before .before .before .before .before .before .before .before .before .before .before .before .before .before .before .before .before .before .before .before .before .before .before .before .before .before
+loop-less·Else1 c = c .before .before .before .before .before .before .before .before .before .before .before .before .before .before .before .before .before .before .before .before .before .before .before .before .before .before .before .before .before .before .before .before .before .before .before .before .before .before .before .before .before .before .before .before .before .before .before .before .before .before .before .before .before .before .before .before .before .before .before .before .before .before
 
 abbrev pub added-by·quick-in : {Inv : tie.InvT-loop} {μ : tie.MeasureT-loop} → tie.After-added-by Inv μ → tie.After-quick-in Inv μ
 added-by·quick-in c = c .before .before .before .before .before .before .before .before .before .before .before .before .before .before .before .before .before .before .before .before .before .before .before .before .before .before .before .before .before .before .before .before .before .before .before .before .before .before .before .before .before .before .before
 
 abbrev pub added-by·Start : {Inv : tie.InvT-loop} {μ : tie.MeasureT-loop} → tie.After-added-by Inv μ → tie.Start Inv μ
-added-by·Start c = c .before .before .before .before .before .before .before .before .before .before .before .before .before .before .before .before .before .before .before .before .before .before .before .before .before .before .before .before .before .before .before .before .before .before .before .before .before .before .before .before .before .before .before .before .before .before .before .before .before .before .before .before .before .before .before .before .before .before .before .before .before .before .before .before .before .before .before .before .before .before .before .before .before .before .before .before .before .before .before .before .before .before .before
+added-by·Start c = c .before .before .before .before .before .before .before .before .before .before .before .before .before .before .before .before .before .before .before .before .before .before .before .before .before .before .before .before .before .before .before .before .before .before .before .before .before .before .before .before .before .before .before .before .before .before .before .before .before .before .before .before .before .before .before .before .before .before .before .before .before .before .before .before .before .before .before .before .before .before .before .before .before .before .before .before .before .before .before .before
 
-abbrev pub added-by·part-of : {Inv : tie.InvT-loop} {μ : tie.MeasureT-loop} → tie.After-added-by Inv μ → tie.After-part-of Inv μ
-added-by·part-of c = c .before .before .before .before .before .before .before .before .before .before .before .before .before .before .before .before .before .before .before .before .before .before .before .before .before .before .before .before .before .before .before .before .before .before .before .before .before .before .before .before .before .before .before .before .before .before .before .before .before .before .before .before .before .before .before .before .before .before .before .before .before .before .before .before .before .before
+abbrev pub added-by·part-at : {Inv : tie.InvT-loop} {μ : tie.MeasureT-loop} → tie.After-added-by Inv μ → tie.After-part-at Inv μ
+added-by·part-at c = c .before .before .before .before .before .before .before .before .before .before .before .before .before .before .before .before .before .before .before .before .before .before .before .before .before .before .before .before .before .before .before .before .before .before .before .before .before .before .before .before .before .before .before .before .before .before .before .before .before .before .before .before .before .before .before .before .before .before .before .before .before .before .before .before
 
 abbrev pub added-by·At-loop : {Inv : tie.InvT-loop} {μ : tie.MeasureT-loop} → tie.After-added-by Inv μ → tie.At-loop Inv μ
-added-by·At-loop c = c .before .before .before .before .before .before .before .before .before .before .before .before .before .before .before .before .before .before .before .before .before .before .before .before .before .before .before .before .before .before .before .before .before .before .before .before .before .before .before .before .before .before .before .before .before .before .before .before .before .before .before .before .before .before .before .before .before .before .before .before .before .before .before .before .before .before .before .before
+added-by·At-loop c = c .before .before .before .before .before .before .before .before .before .before .before .before .before .before .before .before .before .before .before .before .before .before .before .before .before .before .before .before .before .before .before .before .before .before .before .before .before .before .before .before .before .before .before .before .before .before .before .before .before .before .before .before .before .before .before .before .before .before .before .before .before .before .before .before .before
 
 abbrev pub added-by·row-by : {Inv : tie.InvT-loop} {μ : tie.MeasureT-loop} → tie.After-added-by Inv μ → tie.After-row-by Inv μ
 added-by·row-by c = c .before .before .before .before .before .before .before .before .before .before .before
@@ -179,7 +155,7 @@ abbrev pub added-by·put-request : {Inv : tie.InvT-loop} {μ : tie.MeasureT-loop
 added-by·put-request c = c .before .before .before .before
 
 abbrev pub loop-again·At-loop : {Inv : tie.InvT-loop} {μ : tie.MeasureT-loop} → tie.After-added-by Inv μ → tie.At-loop Inv μ
-loop-again·At-loop c = c .before .before .before .before .before .before .before .before .before .before .before .before .before .before .before .before .before .before .before .before .before .before .before .before .before .before .before .before .before .before .before .before .before .before .before .before .before .before .before .before .before .before .before .before .before .before .before .before .before .before .before .before .before .before .before .before .before .before .before .before .before .before .before .before .before .before .before .before
+loop-again·At-loop c = c .before .before .before .before .before .before .before .before .before .before .before .before .before .before .before .before .before .before .before .before .before .before .before .before .before .before .before .before .before .before .before .before .before .before .before .before .before .before .before .before .before .before .before .before .before .before .before .before .before .before .before .before .before .before .before .before .before .before .before .before .before .before .before .before .before
 
 abbrev pub loop-again·quick-in : {Inv : tie.InvT-loop} {μ : tie.MeasureT-loop} → tie.After-added-by Inv μ → tie.After-quick-in Inv μ
 loop-again·quick-in c = c .before .before .before .before .before .before .before .before .before .before .before .before .before .before .before .before .before .before .before .before .before .before .before .before .before .before .before .before .before .before .before .before .before .before .before .before .before .before .before .before .before .before .before
@@ -188,13 +164,10 @@ abbrev pub loop-again·put-request : {Inv : tie.InvT-loop} {μ : tie.MeasureT-lo
 loop-again·put-request c = c .before .before .before .before
 
 abbrev pub loop-again·Else1 : {Inv : tie.InvT-loop} {μ : tie.MeasureT-loop} → tie.After-added-by Inv μ → tie.Else1 Inv μ
-loop-again·Else1 c = c .before .before .before .before .before .before .before .before .before .before .before .before .before .before .before .before .before .before .before .before .before .before .before .before .before .before .before .before .before .before .before .before .before .before .before .before .before .before .before .before .before .before .before .before .before .before .before .before .before .before .before .before .before .before .before .before .before .before .before .before .before .before .before .before
-
-abbrev pub loop-again·tick : {Inv : tie.InvT-loop} {μ : tie.MeasureT-loop} → tie.After-added-by Inv μ → tie.After-tick Inv μ
-loop-again·tick c = c .before .before .before .before .before .before .before .before .before .before .before .before .before .before .before .before .before .before .before .before .before .before .before .before .before .before .before .before .before .before .before .before .before .before .before .before .before .before .before .before .before .before .before .before .before .before .before .before .before .before .before .before .before .before .before .before .before
+loop-again·Else1 c = c .before .before .before .before .before .before .before .before .before .before .before .before .before .before .before .before .before .before .before .before .before .before .before .before .before .before .before .before .before .before .before .before .before .before .before .before .before .before .before .before .before .before .before .before .before .before .before .before .before .before .before .before .before .before .before .before .before .before .before .before .before .before
 
 abbrev pub loop-again·near-by : {Inv : tie.InvT-loop} {μ : tie.MeasureT-loop} → tie.After-added-by Inv μ → tie.After-near-by Inv μ
-loop-again·near-by c = c .before .before .before .before .before .before .before .before .before .before .before .before .before .before .before .before .before .before .before .before .before .before .before .before .before .before .before .before .before .before .before .before .before .before .before .before .before .before .before .before .before .before .before .before .before .before .before .before .before .before .before .before .before .before .before .before .before .before
+loop-again·near-by c = c .before .before .before .before .before .before .before .before .before .before .before .before .before .before .before .before .before .before .before .before .before .before .before .before .before .before .before .before .before .before .before .before .before .before .before .before .before .before .before .before .before .before .before .before .before .before .before .before .before .before .before .before .before .before .before .before
 
 abbrev pub loop-again·goes-on : {Inv : tie.InvT-loop} {μ : tie.MeasureT-loop} → tie.After-added-by Inv μ → tie.After-goes-on Inv μ
 loop-again·goes-on c = c .before .before .before .before .before .before .before .before .before .before .before .before .before .before .before .before .before .before .before .before .before
@@ -212,34 +185,31 @@ abbrev pub loop-again·shelve : {Inv : tie.InvT-loop} {μ : tie.MeasureT-loop} �
 loop-again·shelve c = c .before .before .before .before .before .before .before
 
 abbrev pub loop-less-2·At-loop : {Inv : tie.InvT-loop} {μ : tie.MeasureT-loop} → tie.Else3 Inv μ → tie.At-loop Inv μ
-loop-less-2·At-loop c = c .before .before .before .before .before .before .before .before .before .before .before .before .before .before .before .before .before .before .before .before .before .before .before .before .before .before .before .before .before .before .before .before .before .before .before .before .before .before .before .before .before .before .before .before .before .before .before .before .before .before .before .before
+loop-less-2·At-loop c = c .before .before .before .before .before .before .before .before .before .before .before .before .before .before .before .before .before .before .before .before .before .before .before .before .before .before .before .before .before .before .before .before .before .before .before .before .before .before .before .before .before .before .before .before .before .before .before .before .before
 
 abbrev pub loop-less-2·Else1 : {Inv : tie.InvT-loop} {μ : tie.MeasureT-loop} → tie.Else3 Inv μ → tie.Else1 Inv μ
-loop-less-2·Else1 c = c .before .before .before .before .before .before .before .before .before .before .before .before .before .before .before .before .before .before .before .before .before .before .before .before .before .before .before .before .before .before .before .before .before .before .before .before .before .before .before .before .before .before .before .before .before .before .before .before
+loop-less-2·Else1 c = c .before .before .before .before .before .before .before .before .before .before .before .before .before .before .before .before .before .before .before .before .before .before .before .before .before .before .before .before .before .before .before .before .before .before .before .before .before .before .before .before .before .before .before .before .before .before
 
 abbrev pub loop-again-2·At-loop : {Inv : tie.InvT-loop} {μ : tie.MeasureT-loop} → tie.Else3 Inv μ → tie.At-loop Inv μ
-loop-again-2·At-loop c = c .before .before .before .before .before .before .before .before .before .before .before .before .before .before .before .before .before .before .before .before .before .before .before .before .before .before .before .before .before .before .before .before .before .before .before .before .before .before .before .before .before .before .before .before .before .before .before .before .before .before .before .before
+loop-again-2·At-loop c = c .before .before .before .before .before .before .before .before .before .before .before .before .before .before .before .before .before .before .before .before .before .before .before .before .before .before .before .before .before .before .before .before .before .before .before .before .before .before .before .before .before .before .before .before .before .before .before .before .before
 
 abbrev pub loop-again-2·quick-in : {Inv : tie.InvT-loop} {μ : tie.MeasureT-loop} → tie.Else3 Inv μ → tie.After-quick-in Inv μ
 loop-again-2·quick-in c = c .before .before .before .before .before .before .before .before .before .before .before .before .before .before .before .before .before .before .before .before .before .before .before .before .before .before .before
 
 abbrev pub loop-again-2·Start : {Inv : tie.InvT-loop} {μ : tie.MeasureT-loop} → tie.Else3 Inv μ → tie.Start Inv μ
-loop-again-2·Start c = c .before .before .before .before .before .before .before .before .before .before .before .before .before .before .before .before .before .before .before .before .before .before .before .before .before .before .before .before .before .before .before .before .before .before .before .before .before .before .before .before .before .before .before .before .before .before .before .before .before .before .before .before .before .before .before .before .before .before .before .before .before .before .before .before .before .before .before
+loop-again-2·Start c = c .before .before .before .before .before .before .before .before .before .before .before .before .before .before .before .before .before .before .before .before .before .before .before .before .before .before .before .before .before .before .before .before .before .before .before .before .before .before .before .before .before .before .before .before .before .before .before .before .before .before .before .before .before .before .before .before .before .before .before .before .before .before .before .before
 
-abbrev pub loop-again-2·part-of : {Inv : tie.InvT-loop} {μ : tie.MeasureT-loop} → tie.Else3 Inv μ → tie.After-part-of Inv μ
-loop-again-2·part-of c = c .before .before .before .before .before .before .before .before .before .before .before .before .before .before .before .before .before .before .before .before .before .before .before .before .before .before .before .before .before .before .before .before .before .before .before .before .before .before .before .before .before .before .before .before .before .before .before .before .before .before
+abbrev pub loop-again-2·part-at : {Inv : tie.InvT-loop} {μ : tie.MeasureT-loop} → tie.Else3 Inv μ → tie.After-part-at Inv μ
+loop-again-2·part-at c = c .before .before .before .before .before .before .before .before .before .before .before .before .before .before .before .before .before .before .before .before .before .before .before .before .before .before .before .before .before .before .before .before .before .before .before .before .before .before .before .before .before .before .before .before .before .before .before .before
 
 abbrev pub loop-again-2·is-change : {Inv : tie.InvT-loop} {μ : tie.MeasureT-loop} → tie.Else3 Inv μ → tie.After-is-change Inv μ
 loop-again-2·is-change c = c .before
 
 abbrev pub loop-again-2·Else1 : {Inv : tie.InvT-loop} {μ : tie.MeasureT-loop} → tie.Else3 Inv μ → tie.Else1 Inv μ
-loop-again-2·Else1 c = c .before .before .before .before .before .before .before .before .before .before .before .before .before .before .before .before .before .before .before .before .before .before .before .before .before .before .before .before .before .before .before .before .before .before .before .before .before .before .before .before .before .before .before .before .before .before .before .before
-
-abbrev pub loop-again-2·tick : {Inv : tie.InvT-loop} {μ : tie.MeasureT-loop} → tie.Else3 Inv μ → tie.After-tick Inv μ
-loop-again-2·tick c = c .before .before .before .before .before .before .before .before .before .before .before .before .before .before .before .before .before .before .before .before .before .before .before .before .before .before .before .before .before .before .before .before .before .before .before .before .before .before .before .before .before
+loop-again-2·Else1 c = c .before .before .before .before .before .before .before .before .before .before .before .before .before .before .before .before .before .before .before .before .before .before .before .before .before .before .before .before .before .before .before .before .before .before .before .before .before .before .before .before .before .before .before .before .before .before
 
 abbrev pub loop-again-2·near-by : {Inv : tie.InvT-loop} {μ : tie.MeasureT-loop} → tie.Else3 Inv μ → tie.After-near-by Inv μ
-loop-again-2·near-by c = c .before .before .before .before .before .before .before .before .before .before .before .before .before .before .before .before .before .before .before .before .before .before .before .before .before .before .before .before .before .before .before .before .before .before .before .before .before .before .before .before .before .before
+loop-again-2·near-by c = c .before .before .before .before .before .before .before .before .before .before .before .before .before .before .before .before .before .before .before .before .before .before .before .before .before .before .before .before .before .before .before .before .before .before .before .before .before .before .before .before
 
 abbrev pub loop-again-2·goes-on : {Inv : tie.InvT-loop} {μ : tie.MeasureT-loop} → tie.Else3 Inv μ → tie.After-goes-on Inv μ
 loop-again-2·goes-on c = c .before .before .before .before .before
@@ -257,7 +227,7 @@ abbrev pub array-copy-out-held·sight-of : {Inv : tie.InvT-loop} {μ : tie.Measu
 array-copy-out-held·sight-of c = c .before
 
 abbrev pub near-by-requires·At-loop : {Inv : tie.InvT-loop} {μ : tie.MeasureT-loop} → tie.After-held Inv μ → tie.At-loop Inv μ
-near-by-requires·At-loop c = c .before .before .before .before .before .before .before .before .before
+near-by-requires·At-loop c = c .before .before .before .before .before .before .before .before
 
 abbrev pub near-by-requires·Else1 : {Inv : tie.InvT-loop} {μ : tie.MeasureT-loop} → tie.After-held Inv μ → tie.Else1 Inv μ
 near-by-requires·Else1 c = c .before .before .before .before .before

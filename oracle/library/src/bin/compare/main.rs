@@ -1,5 +1,5 @@
 //! The proved port, linked as a static library, beside the Rust: packets through both packet checks, states through both `group_status`,
-//! whole traces through the library and through the program, blocks and single calls through the library.
+//! whole traces through the library and through the program, blocks, single calls and pcap files through the library.
 
 mod port;
 
@@ -186,8 +186,9 @@ const USAGE: &str = "usage: compare COMMAND
   inputs N SEED [PROGRAM] N inputs to the program, most of them damaged
   blocks N SEED           N traces in blocks through the library: what each block answers, all rows and bytes
   calls N SEED            N single calls through the library, refused ones among them: after each the answer, the counts, the rows
+  pcap N SEED             the packets of N sequences of calls exported and imported by the library, in all formats and damaged: files, answers, rows
 PROGRAM is the program `listing` (target/bin/listing)
-With --high behind traces, table, blocks or calls the library and the program are compared in the mode of change request 6";
+With --high behind traces, table, blocks, calls or pcap the library and the program are compared in the mode of change request 6";
 
 /// Whole traces in a mode.
 fn traces<D: Mode>(table: bool, n: u64, seed: u64, rest: &[&str]) -> Result<bool, String> {
@@ -202,6 +203,10 @@ fn blocks<D: Mode>(n: u64, seed: u64) -> bool {
 
 fn calls<D: Mode>(n: u64, seed: u64) -> bool {
     report::calls(&oracle::singles::singles::<D>(&mut Library::new(D::HIGH), n, seed))
+}
+
+fn pcap<D: Mode>(n: u64, seed: u64) -> bool {
+    report::files(&oracle::files::files::<D>(&mut Library::new(D::HIGH), n, seed))
 }
 
 fn run(words: &[&str]) -> Result<bool, String> {
@@ -222,6 +227,8 @@ fn run(words: &[&str]) -> Result<bool, String> {
         ["blocks", "--high", n, seed] => Ok(blocks::<High>(number(n)?, number(seed)?)),
         ["calls", n, seed] => Ok(calls::<Plain>(number(n)?, number(seed)?)),
         ["calls", "--high", n, seed] => Ok(calls::<High>(number(n)?, number(seed)?)),
+        ["pcap", n, seed] => Ok(pcap::<Plain>(number(n)?, number(seed)?)),
+        ["pcap", "--high", n, seed] => Ok(pcap::<High>(number(n)?, number(seed)?)),
         _ => Err(USAGE.to_string()),
     }
 }

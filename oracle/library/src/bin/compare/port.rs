@@ -94,4 +94,14 @@ impl Entries for Library {
         let record: &[u64; RECORD] = memory.record.cells().try_into().expect("the words of a record");
         library::counts(record)
     }
+
+    fn pcap_head(&mut self, file: &[u8], format: &mut [u64; 2]) -> (u8, u64) {
+        library::pcap_head(file, format)
+    }
+
+    fn pcap_export(&mut self, memory: &mut Memory, out: Option<&mut Log<u8>>, told: &mut [u64; 3]) -> u8 {
+        let (record, out) = (memory.record.lend().0, out.map(Log::lend));
+        // As for `call`; `out` has the bytes that it lends.
+        memory.logs.lend(|lent| unsafe { library::pcap_export(record, lent, out, told) })
+    }
 }

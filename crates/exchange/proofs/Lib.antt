@@ -1,0 +1,4 @@
+pub mod Grows
+pub mod Flows
+pub mod Back
+pub mod Answered

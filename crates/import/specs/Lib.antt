@@ -1,0 +1,4 @@
+pub mod Import
+pub mod ImportLaws
+pub mod PieceLaws
+pub mod Steps
