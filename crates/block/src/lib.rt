@@ -1,4 +1,6 @@
 // A block of records in one call (02, change request 3): what the records give one by one, with the record tested once.
+#![tactic(auto)]
+
 mod round;
 
 ghost use Rattle.std.specs.Prelude.{false, ◌≡◌};
@@ -15,7 +17,7 @@ use sound::is_sound;
 use stream::rounds::{none_yet, with_round};
 use trace::clock::Clock;
 
-#[derive(Drop)]
+#[derive(Clone, Copy)]
 pub struct Taken {
     // 0, or the answer of the record that stopped it.
     pub answer: u8,

@@ -1,4 +1,6 @@
 // What every call shares: the answer's type, the room of the lent logs, the first tests, and where it begins to write. What a call may leave is in specs/.
+#![tactic(auto)]
+
 ghost use Rattle.std.specs.Prelude.{◌≡◌, not, ◌||◌};
 ghost use Rattle.rules.specs.World.{stamp};
 ghost use Rattle.record.specs.Formed.{well_formed};
@@ -19,7 +21,7 @@ use write::leaf::last;
 use write::{Firsts, Written};
 
 // What a call gives back; the endpoint table and the logs are lent.
-#[derive(Drop)]
+#[derive(Clone, Copy)]
 pub struct Called {
     // The answer of 01's table.
     pub answer: u8,

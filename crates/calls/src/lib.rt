@@ -1,5 +1,7 @@
 // What C and Rust programs call with a record in lent words, under names that begin with the project's: single calls, blocks of records, a trace's header, pcap
 // files, and the counts.
+#![tactic(auto)]
+
 pub mod blocks;
 pub mod counts;
 pub mod event_entry;

@@ -1,4 +1,6 @@
 // The CRCs of USB packets (USB 2.0, 8.3.5).
+#![tactic(auto)]
+
 ghost use Rattle.std.specs.Prelude.{◌≡◌, ℕ, ◌+◌, ◌/◌, ◌^◌, ◌≤◌, ◌<◌, length, take, drop};
 ghost use Rattle.std.specs.Int.Bits.{bit_xor};
 ghost use Rattle.crc.specs.Fast.{stays_of, passes_of, four};
@@ -129,7 +131,7 @@ fn by_words(from: u64, s: &[u8], at: usize) -> u64
 }
 
 // Four words, 32 bytes, that stand for the register after them; the first holds the first bytes.
-#[derive(Drop)]
+#[derive(Clone, Copy)]
 struct Lanes {
     first: u64,
     second: u64,
@@ -178,7 +180,7 @@ fn one_word(l: Lanes) -> u64
 }
 
 // A word that stands for the register after the bytes before a place.
-#[derive(Drop)]
+#[derive(Clone, Copy)]
 struct Taken {
     word: u64,
     at: usize,

@@ -1,4 +1,6 @@
 // The steps of a call, decided from values alone before anything is written: nothing here writes.
+#![tactic(auto)]
+
 pub mod begin;
 pub mod end;
 pub mod near;

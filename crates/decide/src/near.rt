@@ -17,7 +17,7 @@ use usb::fields::token_of;
 use usb::pid::IN;
 
 // The device that stands for the packet's address; the details of the packet's endpoint there, in either direction; those of the old transaction's.
-#[derive(Drop)]
+#[derive(Clone, Copy)]
 pub struct Near {
     pub found: Found,
     pub inward: Detail,

@@ -8,7 +8,7 @@ use crate::store::count_if;
 use details::Device;
 
 // Which entries a request means: those of a configuration, of all interfaces or of one, at an alternate setting.
-#[derive(Drop)]
+#[derive(Clone, Copy)]
 pub struct Choice {
     pub value: u16,
     pub all: bool,

@@ -15,7 +15,7 @@ use usb::types;
 
 // A request that completes: its setup data, the length of its payload, where its device's part of the shelf begins, and what the device's row says:
 // how many entries it keeps, and which configuration is chosen.
-#[derive(Drop)]
+#[derive(Clone, Copy)]
 pub struct Asked {
     pub setup: u64,
     pub length: u64,
@@ -25,7 +25,7 @@ pub struct Asked {
 }
 
 // The note of its row, and what the device's row says then.
-#[derive(Drop)]
+#[derive(Clone, Copy)]
 pub struct Completed {
     pub note: u64,
     pub kept: u16,

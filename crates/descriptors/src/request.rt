@@ -4,7 +4,7 @@ ghost use Rattle.usb.specs.Fields.{setup_of};
 ghost use Rattle.descriptors.specs.Kind.{is_read, is_set_configuration, is_set_interface, kind_of};
 
 // What a request is to the decoder.
-#[derive(Drop)]
+#[derive(Clone, Copy)]
 pub enum Kind {
     DeviceRead,
     ConfigurationRead,

@@ -10,7 +10,7 @@ ghost use Rattle.descriptors.specs.Steps.{Roomy, Keeps, Forgets, Reads};
 use crate::walk::{Setting, no_setting, read_step, read_value, whole_at};
 
 // What a read left: how many entries the device has, and how many of them the read added.
-#[derive(Drop)]
+#[derive(Clone, Copy)]
 pub struct Kept {
     pub count: usize,
     pub added: usize,

@@ -5,14 +5,14 @@ ghost use Rattle.descriptors.specs.Entries.{is_of, first_of, max_of, value_of, s
 ghost use Rattle.descriptors.specs.Steps.{whole_at, step_at};
 
 // A number that was taken, or none.
-#[derive(Drop)]
+#[derive(Clone, Copy)]
 pub struct Taken {
     pub taken: bool,
     pub number: u8,
 }
 
 // The interface and alternate setting that endpoint descriptors belong to, once there is one.
-#[derive(Drop)]
+#[derive(Clone, Copy)]
 pub struct Setting {
     pub known: bool,
     pub interface: u8,
@@ -20,7 +20,7 @@ pub struct Setting {
 }
 
 // A whole descriptor: whether it gives an entry, where it ends, and the setting behind it.
-#[derive(Drop)]
+#[derive(Clone, Copy)]
 pub struct Step {
     pub whole: bool,
     pub gives: bool,

@@ -1,4 +1,6 @@
 // What is known of devices and their endpoints (endpoint_details and set_endpoint_type of capture.rs, by document 01's rules), and the search for a device.
+#![tactic(auto)]
+
 pub mod find;
 pub mod kind;
 
@@ -9,7 +11,7 @@ ghost use Rattle.details.specs.Lookup.{no_device, detail_answer};
 use usb::types;
 
 // What is known of an endpoint: its type, whether a descriptor gave it, and the largest payload it sends (0 where it is not known).
-#[derive(Drop)]
+#[derive(Clone, Copy)]
 pub struct Detail {
     pub kind: u8,
     pub given: bool,
@@ -18,7 +20,7 @@ pub struct Detail {
 
 // A device row: its address, the configuration that is chosen (256 and more: none is), how many descriptor entries it keeps, and the details of its 16
 // endpoint numbers, out (0 to 15) and then in (16 to 31).
-#[derive(Drop)]
+#[derive(Clone, Copy)]
 pub struct Device {
     pub address: u8,
     pub chosen: u16,
@@ -27,7 +29,7 @@ pub struct Device {
 }
 
 // Where a search ended: at a row, or after the last.
-#[derive(Drop)]
+#[derive(Clone, Copy)]
 pub enum Found {
     At(usize),
     Nothing,

@@ -1,4 +1,6 @@
 // The endpoint table: an entry for each endpoint, the search for one, and the loops over all of them.
+#![tactic(auto)]
+
 pub mod entry;
 pub mod find;
 pub mod link;
@@ -10,7 +12,7 @@ pub mod word;
 pub type Table = [u64; word::TABLE];
 
 // Where the last group of an endpoint stands. The groups before it are closed.
-#[derive(Drop)]
+#[derive(Clone, Copy)]
 pub enum Phase {
     // There is none, or an item has closed it.
     None,
@@ -23,7 +25,7 @@ pub enum Phase {
 }
 
 // An endpoint (EndpointData of the Rust): what a call needs to know of it. No byte or flag stands alone before a word (docs/DECISIONS.md, 102).
-#[derive(Drop)]
+#[derive(Clone, Copy)]
 pub struct Endpoint {
     // The row of its device, and its number, with 128 more where its direction is In.
     pub device: u64,

@@ -1,4 +1,5 @@
 // What an event does to the event endpoint and to the event state, decided from values alone (document 000, event_update).
+#![tactic(auto)]
 
 ghost use Rattle.std.specs.Prelude.{◌≡◌, ◌≤◌, ◌^◌};
 ghost use Rattle.rules.specs.Events.{turn_of, ◌then◌};
@@ -23,7 +24,7 @@ pub const DEVICE_CHIRP_VALID: u8 = 5;
 pub const HOST_CHIRP_VALID: u8 = 6;
 
 // What an event does; the numbers are lines of docs/src/src/decoder.rs.
-#[derive(Drop)]
+#[derive(Clone, Copy)]
 pub enum Act {
     Nothing,
     // event_single: a group with an end row and no start row (655).
@@ -37,7 +38,7 @@ pub enum Act {
 }
 
 // What is done, and the state after it.
-#[derive(Drop)]
+#[derive(Clone, Copy)]
 pub struct Turn {
     pub act: Act,
     pub next: EventState,

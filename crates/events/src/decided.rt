@@ -20,7 +20,7 @@ use plan::Ending;
 use record::{Counts, Decoder};
 use rules::Slot;
 
-#[derive(Drop)]
+#[derive(Clone, Copy)]
 pub struct Decided {
     // Whether the transaction and every active group end; a keepalive only suspends the transaction.
     pub resets: bool,

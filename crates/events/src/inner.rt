@@ -32,7 +32,7 @@ use write_event::event_rows;
 const NO_ROOM: u8 = 7;
 
 // What a call leaves; the devices are the caller's, and stay.
-#[derive(Drop)]
+#[derive(Clone, Copy)]
 pub struct Inner {
     pub answer: u8,
     pub decoder: Decoder,

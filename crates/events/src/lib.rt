@@ -1,4 +1,6 @@
 // The event call and finish (handle_event and finish of decoder.rs). Everything is decided first: a refused call returns before the first write.
+#![tactic(auto)]
+
 mod decided;
 pub mod ending;
 pub mod inner;

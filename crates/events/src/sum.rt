@@ -11,7 +11,7 @@ use record::{Counts, Decoder};
 use tally::add::Tally;
 use tally::{add_counts, has_room_for, tally_ending, tally_keepalive, tally_reset};
 
-#[derive(Drop)]
+#[derive(Clone, Copy)]
 pub struct Sum {
     // Whether there is room; if not, the answer is 7.
     pub fits: bool,

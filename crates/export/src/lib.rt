@@ -1,4 +1,6 @@
 // The packets of a record's logs as a pcap file (02, 4), where the record is not ill: which counts an export goes by, and answer 1.
+#![tactic(auto)]
+
 ghost use Rattle.std.specs.Prelude.{◌≡◌};
 ghost use Rattle.pcap.specs.Export.{refusal};
 ghost use Rattle.call.specs.State.{state, logs};

@@ -16,7 +16,7 @@ use usb::types::COMPLETE;
 const SET_ADDRESS: u8 = 5;
 
 // Which part of a control transfer a token is.
-#[derive(Drop)]
+#[derive(Clone, Copy)]
 pub enum Stage {
     Data,
     Status,

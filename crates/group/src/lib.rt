@@ -1,4 +1,6 @@
 // What the end of a transaction means for the groups of its endpoint (document 000, group_status).
+#![tactic(auto)]
+
 mod control;
 mod data;
 mod setup;
@@ -15,7 +17,7 @@ use usb::pid::SETUP;
 use usb::types::CONTROL;
 
 // GroupStatus of the Rust.
-#[derive(Drop)]
+#[derive(Clone, Copy)]
 pub enum GroupStatus {
     Single,
     New,
@@ -26,7 +28,7 @@ pub enum GroupStatus {
 }
 
 // TransactionSideEffect of the Rust.
-#[derive(Drop)]
+#[derive(Clone, Copy)]
 pub enum Effect {
     NoEffect,
     // A device at this address.
@@ -39,7 +41,7 @@ pub enum Effect {
     IndexData(u64, bool, u64),
 }
 
-#[derive(Drop)]
+#[derive(Clone, Copy)]
 pub struct Grouped {
     pub status: GroupStatus,
     pub effect: Effect,

@@ -11,7 +11,7 @@ use usb::pid::OUT;
 use usb::types::{ISOCHRONOUS, START};
 
 // A payload: of len bytes, where known; where it had waited, of the T row id.
-#[derive(Drop)]
+#[derive(Clone, Copy)]
 pub struct Payload {
     pub known: bool,
     pub len: u64,
@@ -19,7 +19,7 @@ pub struct Payload {
     pub id: u64,
 }
 
-#[derive(Drop)]
+#[derive(Clone, Copy)]
 pub struct Step {
     // ep_type.
     pub kind: u8,

@@ -1,4 +1,6 @@
 // A record, with its devices, in words that a caller lends: what they stand for, and how they are made. Any content stands for some record.
+#![tactic(auto)]
+
 pub mod decoder;
 mod device;
 pub mod place;
@@ -15,7 +17,7 @@ use record::Decoder;
 pub type Record = [u64; place::WORDS];
 
 // What the words stand for.
-#[derive(Drop)]
+#[derive(Clone, Copy)]
 pub struct Loaded {
     pub decoder: Decoder,
     pub devices: [Device; 64],

@@ -6,7 +6,7 @@ use rules::{EventState, Slot};
 use transaction::Style;
 
 // A style's number, and the bytes that it has; 0 for those that it has not.
-#[derive(Drop)]
+#[derive(Clone, Copy)]
 pub struct Numbers {
     pub style: u64,
     pub sc: u8,

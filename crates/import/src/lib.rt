@@ -1,4 +1,6 @@
 // The packets of a pcap file as packet calls, in the file's order (02, 4), on the record that is given, like a block.
+#![tactic(auto)]
+
 mod round;
 
 ghost use Rattle.std.specs.Prelude.{◌≡◌};
@@ -18,7 +20,7 @@ use sound::is_sound;
 use stream::rounds::{none_yet, with_round};
 use trace::clock::fresh;
 
-#[derive(Drop)]
+#[derive(Clone, Copy)]
 pub struct Imported {
     // 0, or the answer that stopped it: the head's, a record's, or its call's.
     pub answer: u8,

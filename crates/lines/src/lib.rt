@@ -1,4 +1,6 @@
 // The whole listing (document 01, "Trace and listing"): a line for each row of the logs, kind by kind, in a lent buffer.
+#![tactic(auto)]
+
 pub mod state;
 
 ghost use Rattle.std.specs.Prelude.{[], ◌≡◌, ◌*◌, ◌<◌, ◌≤◌, length};
@@ -10,7 +12,7 @@ use record::Counts;
 use rows::width;
 
 // The rows whose line is made of their own words; a state row's is made of state bytes.
-#[derive(Drop)]
+#[derive(Clone, Copy)]
 pub enum Kind {
     Device,
     Endpoint,

@@ -1,5 +1,7 @@
 // The program `listing` (01, "Trace and listing"): reads a trace from standard input, and writes its rows, or the line that refuses it, to standard output.
 // Started with `--high` it decodes in the mode for high-bandwidth isochronous data (02, change request 6).
+#![tactic(auto)]
+
 ghost use Rattle.std.specs.Prelude.{◌≤◌, [], length};
 ghost use Rattle.text.specs.Append.{Room, Appended};
 ghost use Rattle.call.specs.State.{logs};
@@ -170,7 +172,7 @@ fn print(high: bool, trace: &[u8], out: &mut [u8]) -> usize
 }
 
 // What was read: how many bytes, and whether the input came to its end, or filled the buffer, before a read failed.
-#[derive(Drop)]
+#[derive(Clone, Copy)]
 struct Input {
     len: usize,
     whole: bool,

@@ -12,7 +12,7 @@ use plan::Plan;
 use shelving::{Reading, Shelf, no_reading, put_request, reading_of, shelve, sized};
 
 // First row `place`, then what is read, then row `at`; where neither row changes, both are 0.
-#[derive(Drop)]
+#[derive(Clone, Copy)]
 pub struct Change {
     pub place: usize,
     pub at: usize,

@@ -26,7 +26,7 @@ use transaction::payload::start_pid;
 use write_packet::{Hand, perform};
 
 // What the call leaves; the devices, the shelf and the log of requests are the caller's, who makes the change.
-#[derive(Drop)]
+#[derive(Clone, Copy)]
 pub struct Inner {
     pub answer: u8,
     pub decoder: Decoder,

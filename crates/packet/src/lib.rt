@@ -1,4 +1,6 @@
 // The packet call (handle_raw_packet of decoder.rs). Everything is decided first: a refused call returns before the first write.
+#![tactic(auto)]
+
 pub mod change;
 pub mod inner;
 mod sum;

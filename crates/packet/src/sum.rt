@@ -16,7 +16,7 @@ const TOTAL: u8 = 9;
 // How many endpoints there may be, whatever the room.
 const MOST_ENDPOINTS: usize = 128;
 
-#[derive(Drop)]
+#[derive(Clone, Copy)]
 pub struct Sum {
     // 0, or why the packet is refused.
     pub answer: u8,

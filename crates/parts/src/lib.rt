@@ -1,4 +1,6 @@
 // The listing in parts (document 01, "Trace and listing"), for a program whose buffer does not hold all of it: whole lines of rows, from a row on.
+#![tactic(auto)]
+
 ghost use Rattle.std.specs.Prelude.{◌≡◌, ◌<◌};
 ghost use Rattle.text.specs.Append.{Room, Appended};
 ghost use Rattle.parts.specs.Parts.{row_line, rows_of, state_row, state_rows, state_end, named_of, Told};
@@ -10,21 +12,21 @@ use lines::{Kind, state};
 pub const LONGEST: usize = 156;
 
 // Where a part stops: the row behind its last one, and how many bytes it has.
-#[derive(Drop)]
+#[derive(Clone, Copy)]
 pub struct Part {
     pub next: usize,
     pub len: usize,
 }
 
 // The kind of a log's number: packet bytes have no lines, and states have their own function.
-#[derive(Drop)]
+#[derive(Clone, Copy)]
 pub enum Named {
     Of(Kind),
     Nothing,
 }
 
 // Which rows a log has: those whose line is made of their own words, or states.
-#[derive(Drop)]
+#[derive(Clone, Copy)]
 enum Lent {
     Words(Kind),
     States,

@@ -1,5 +1,7 @@
 // A classic pcap file of USB packets (link type 288): its head, and its records taken one at a time, in both byte orders, and with times in
 // microseconds or nanoseconds; and such a file written from the packet log.
+#![tactic(auto)]
+
 mod logs;
 mod write;
 
@@ -11,14 +13,14 @@ ghost use Rattle.pcap.specs.Export.{source_of, size_of, Exports, refusal, lent};
 ghost use Rattle.pcap.specs.Inner.{accepted_by, Within};
 
 // The byte order of every number of the file, and the nanoseconds in one unit of a record's fraction.
-#[derive(Drop)]
+#[derive(Clone, Copy)]
 pub struct Format {
     pub big: bool,
     pub unit: u32,
 }
 
 // What the head says: the format, or which part of it is wrong or missing.
-#[derive(Drop)]
+#[derive(Clone, Copy)]
 pub enum Head {
     Fine(Format),
     Mark,
@@ -26,7 +28,7 @@ pub enum Head {
 }
 
 // What stands at a place of the file. A packet's bytes are the part of the file from `start` up to `end`, where the next record starts.
-#[derive(Drop)]
+#[derive(Clone, Copy)]
 pub enum Next {
     Packet {
         seconds: u32,
@@ -40,7 +42,7 @@ pub enum Next {
 }
 
 // What an export gives: the answer, the file's length, the packets in it and the events that it left behind; refused, nothing but the answer.
-#[derive(Drop)]
+#[derive(Clone, Copy)]
 pub struct Exported {
     pub answer: u8,
     pub length: usize,
@@ -49,7 +51,7 @@ pub struct Exported {
 }
 
 // How much of the lent logs an export goes by: packet bytes, packet rows, event rows.
-#[derive(Drop)]
+#[derive(Clone, Copy)]
 pub struct Extent {
     pub bytes: usize,
     pub rows: usize,
@@ -57,7 +59,7 @@ pub struct Extent {
 }
 
 // What a file would have: whether seconds do not fit it, its length, and how many packets and events were met.
-#[derive(Drop)]
+#[derive(Clone, Copy)]
 pub struct Survey {
     pub late: bool,
     pub length: usize,

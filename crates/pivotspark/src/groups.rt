@@ -9,7 +9,7 @@ use group::{Effect, GroupStatus};
 use transaction::{Style, Transaction};
 
 // The numbers of an effect: which it is, its number, and of IndexData the other two.
-#[derive(Drop)]
+#[derive(Clone, Copy)]
 pub struct Numbers {
     pub kind: u64,
     pub number: u64,

@@ -1,4 +1,6 @@
 // A call as a few steps, decided from values alone before anything is written: the types. What they mean on a world is in specs/.
+#![tactic(auto)]
+
 use details::Detail;
 use endpoints::Endpoint;
 use group::Effect;
@@ -7,7 +9,7 @@ use transaction::Transaction;
 use update::Update;
 
 // A transaction begins, is resumed, or goes on (transaction_start; transaction_update, 714 to 724; transaction_append).
-#[derive(Drop)]
+#[derive(Clone, Copy)]
 pub struct Begin {
     // A transaction row.
     pub row: bool,
@@ -28,7 +30,7 @@ pub struct Begin {
 }
 
 // A transaction ends (group_update).
-#[derive(Drop)]
+#[derive(Clone, Copy)]
 pub struct End {
     // Its endpoint's entry as group_status leaves it.
     pub entry: Endpoint,
@@ -37,7 +39,7 @@ pub struct End {
 }
 
 // The endpoint of a packet (packet_endpoint).
-#[derive(Drop)]
+#[derive(Clone, Copy)]
 pub struct Place {
     // Its number, and whether it is new.
     pub x: usize,
@@ -52,7 +54,7 @@ pub struct Place {
 }
 
 // The step of a packet's transaction, with the entry and the details of its endpoint then, by which its end is decided.
-#[derive(Drop)]
+#[derive(Clone, Copy)]
 pub struct Middle {
     pub begin: Begin,
     pub entry: Endpoint,
@@ -60,7 +62,7 @@ pub struct Middle {
 }
 
 // The steps of a packet, in this order.
-#[derive(Drop)]
+#[derive(Clone, Copy)]
 pub struct Plan {
     // A suspended transaction is resumed.
     pub resumes: bool,
@@ -82,7 +84,7 @@ pub struct Plan {
 }
 
 // The end of the current transaction, on endpoint `old`, where there is one (transaction_end, by an event or by finish).
-#[derive(Drop)]
+#[derive(Clone, Copy)]
 pub struct Ending {
     pub ends: bool,
     pub old: usize,

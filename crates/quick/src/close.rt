@@ -30,7 +30,7 @@ use usb::reason::NONE;
 use write_packet::{Hand, end_if};
 
 // Whether the packet is taken, and the rows that it adds.
-#[derive(Drop)]
+#[derive(Clone, Copy)]
 pub struct Close {
     // It ends the transaction, there is room, no byte total passes 2^64 - 1, no device is added, and no request completes.
     pub taken: bool,

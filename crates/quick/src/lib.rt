@@ -1,4 +1,6 @@
 // Two shapes of packet that are taken without a plan, since their plan has one step: the commonest packets (specs/Begin.antt, specs/Close.antt). Most handshakes are close-only with a light end, which has a way of its own (specs/Light.antt).
+#![tactic(auto)]
+
 mod begin;
 mod close;
 mod light;

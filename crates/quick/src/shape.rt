@@ -33,7 +33,7 @@ use usb::pid::{MALFORMED, SOF, SPLIT};
 const FRAMING_EP_ID: usize = 2;
 
 // How a packet is taken; where neither `begins` nor `closes` is set, it has to have a plan.
-#[derive(Drop)]
+#[derive(Clone, Copy)]
 pub struct Shape {
     // Begin-only, with a transaction row and a T row where these say so.
     pub begins: bool,

@@ -1,4 +1,6 @@
 // The decoder's record: what it holds, when it is well formed, and whether its counts fit the lent logs.
+#![tactic(auto)]
+
 pub mod formed;
 pub mod fresh;
 pub mod room;
@@ -7,7 +9,7 @@ use rules::{EventState, Slot};
 use transaction::Transaction;
 
 // A number for each log, by the Rust's names: those of the next rows, how many rows the lent logs hold, or how many they have room for. A packet or state byte is a row.
-#[derive(Drop)]
+#[derive(Clone, Copy)]
 pub struct Counts {
     // packet_data.
     pub bytes: usize,
@@ -39,7 +41,7 @@ pub struct Counts {
 pub const NO_ITEM: usize = 128;
 
 // Decoder of the Rust. Beside it stand the devices, and the endpoint table with endpoint_data and last_endpoint_state.
-#[derive(Drop)]
+#[derive(Clone, Copy)]
 pub struct Decoder {
     pub counts: Counts,
     pub transaction: Transaction,

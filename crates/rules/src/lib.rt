@@ -1,7 +1,8 @@
 // The grouping as rules on a world (specs/): only the types that the crates above share.
+#![tactic(auto)]
 
 // The one transaction that a decoder may hold: transaction_state or suspended_transaction of the Rust, never both.
-#[derive(Drop)]
+#[derive(Clone, Copy)]
 pub enum Slot {
     Empty,
     Current,
@@ -10,7 +11,7 @@ pub enum Slot {
 }
 
 // EventState of the Rust.
-#[derive(Drop)]
+#[derive(Clone, Copy)]
 pub enum EventState {
     Idle,
     LsKeepaliveGroup,
@@ -23,7 +24,7 @@ pub enum EventState {
 }
 
 // What the call that is running brings: the number of its packet row, its time, and the reason that the packet is malformed; 0 where it is valid, or an event.
-#[derive(Drop)]
+#[derive(Clone, Copy)]
 pub struct Stamp {
     pub packet: u64,
     pub time: u64,

@@ -1,4 +1,6 @@
 // A whole trace through the calls (01, "Trace and listing"): its header, a fresh decoder, its records as one block, and finish.
+#![tactic(auto)]
+
 ghost use Rattle.std.specs.Prelude.{◌≡◌};
 ghost use Rattle.trace.specs.Clock.{stopped};
 ghost use Rattle.call.specs.State.{state, logs};
@@ -16,7 +18,7 @@ use start::fresh::fresh;
 use trace::{check_header, first, header_answer, header_place};
 
 // A run's end: the answer (0: finished), its place in the trace, and the decoder.
-#[derive(Drop)]
+#[derive(Clone, Copy)]
 pub struct Done {
     pub answer: u8,
     pub place: usize,

@@ -1,5 +1,7 @@
 // What a packet does to the shelf and to the row of a device (change request 2): the payload that it brings to a read is laid by, and a request that completes is
 // read. As of the devices, flags and numbers are told by the packet's plan, and the caller, who has the shelf and the devices, does it when the packet is accepted.
+#![tactic(auto)]
+
 ghost use Rattle.std.specs.Prelude.{◌≡◌, ◌<◌, ◌≤◌, length};
 ghost use Rattle.transaction.specs.Table.{pick};
 ghost use Rattle.plan.specs.Devices.{asks, length_of};
@@ -35,7 +37,7 @@ pub fn sized(shelf: &Shelf)
 
 // The packet's payload is laid by where `keeps`: in the part of the device `device`, behind `count` bytes. A request completes where `asks`: on the device `place`,
 // with these setup data and a payload of this length, on the endpoint `endpoint`. Where not, the device is the first.
-#[derive(Drop)]
+#[derive(Clone, Copy)]
 pub struct Reading {
     pub device: usize,
     pub count: usize,
@@ -48,7 +50,7 @@ pub struct Reading {
 }
 
 // The note of the request's row, 0 where none completes, and the device's row then.
-#[derive(Drop)]
+#[derive(Clone, Copy)]
 pub struct Shelved {
     pub note: u64,
     pub row: Device,

@@ -1,4 +1,6 @@
 // One record by its public call, which tests the record anew; and what stands where there is no whole record.
+#![tactic(auto)]
+
 ghost use Rattle.std.specs.Prelude.{◌≡◌};
 ghost use Rattle.trace.specs.Trace.{next_at};
 ghost use Rattle.call.specs.State.{state, logs};

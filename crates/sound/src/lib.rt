@@ -1,5 +1,7 @@
 // An invariant of the decoder that every call keeps, and its test. Well formed alone (01) is not kept by every call on every record: payloads
 // that are each within the packet bytes logged may pass them once they are added up.
+#![tactic(auto)]
+
 ghost use Rattle.std.specs.Prelude.{◌+◌, ◌<◌, ◌≤◌, leb, ◌≡◌};
 ghost use Rattle.transaction.specs.Table.{pick};
 ghost use Rattle.record.specs.Formed.{every, holds};

@@ -1,4 +1,6 @@
 // What one record of a block leaves, and whether the block goes on behind it. What a block of records gives is in specs/Block.antt.
+#![tactic(auto)]
+
 ghost use Rattle.std.specs.Prelude.{◌≡◌, eqb};
 ghost use Rattle.rows.specs.One.{one};
 ghost use Rattle.call.specs.Outcome.{accepts};
@@ -11,7 +13,7 @@ use trace::Cursor;
 use trace::clock::Clock;
 
 // What one record leaves: whether the block goes on, from where and with which clock; and the answer.
-#[derive(Drop)]
+#[derive(Clone, Copy)]
 pub struct Stepped {
     pub going: bool,
     pub answer: u8,

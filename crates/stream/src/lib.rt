@@ -1,4 +1,6 @@
 // The packets that a block or an import takes by the inner call, one after the other, in a loop that owns the devices and is lent the shelf.
+#![tactic(auto)]
+
 mod address;
 pub mod part;
 pub mod piece;
@@ -22,7 +24,7 @@ use step::{eight, goes_on};
 use trace::clock::Clock;
 
 // Where it ends: at a record that it doesn't take, so its caller goes on there; or at a packet that was refused, with that answer.
-#[derive(Drop)]
+#[derive(Clone, Copy)]
 pub struct Run {
     pub going: bool,
     pub answer: u8,

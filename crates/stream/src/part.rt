@@ -14,14 +14,14 @@ use trace::reader::record_at;
 const MOST: usize = 4096;
 
 // Whose records they are: a trace's, or those of a pcap file of this format.
-#[derive(Drop)]
+#[derive(Clone, Copy)]
 pub enum Reader {
     Trace,
     Pcap(Format),
 }
 
 // A packet, from `start` up to `end`, with its ticks, its time and the place of the next record; where `taken` is false, the rest is not read.
-#[derive(Drop)]
+#[derive(Clone, Copy)]
 pub struct Part {
     pub taken: bool,
     pub ticks: u32,

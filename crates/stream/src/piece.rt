@@ -5,7 +5,7 @@ ghost use Rattle.stream.specs.Piece.{no_piece, piece_of, Short};
 use pcap::{Format, Next};
 
 // A record's packet, from `start` up to `end`, with its time; or, where `taken` is false, none, and the answer to that.
-#[derive(Drop)]
+#[derive(Clone, Copy)]
 pub struct Piece {
     pub taken: bool,
     pub answer: u8,

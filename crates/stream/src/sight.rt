@@ -13,7 +13,7 @@ use record::Decoder;
 use usb::fields::token_of;
 
 // The device that stands for the packet's address, its place, and the number in the packet's token; the device and the address of the old transaction's endpoint.
-#[derive(Drop)]
+#[derive(Clone, Copy)]
 pub struct Sight {
     pub found: Found,
     pub place: usize,

@@ -7,7 +7,7 @@ use group::Effect;
 use update::Update;
 
 // The rows so far, in the order of the logs.
-#[derive(Drop)]
+#[derive(Clone, Copy)]
 pub struct Tally {
     // Packet bytes.
     pub bytes: usize,

@@ -1,4 +1,6 @@
 // How many rows a call adds, reckoned from its steps before anything is written, so that answers 7 and 9 are exact.
+#![tactic(auto)]
+
 pub mod add;
 
 ghost use Rattle.std.specs.Prelude.{◌≡◌, false, not, ◌+◌, ◌-◌, ◌≤◌, ◌^◌, leb};

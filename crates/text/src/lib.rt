@@ -1,4 +1,6 @@
 // The lines of the listing (document 01, "Trace and listing"), appended to a lent buffer from a place on; each function gives the next place.
+#![tactic(auto)]
+
 mod number;
 mod state;
 

@@ -3,7 +3,7 @@ ghost use Rattle.std.specs.Prelude.{◌≡◌};
 ghost use Rattle.trace.specs.Clock.{stopped, tick_of};
 
 // Whether there was a tick, the last counter, and its time. A record without ticks leaves it as it is.
-#[derive(Drop)]
+#[derive(Clone, Copy)]
 pub struct Clock {
     pub started: bool,
     pub last: u32,

@@ -7,7 +7,7 @@ use crate::reader::record_at;
 use crate::{HEADER, Next};
 
 // A record that is passed: whether it is whole, where the next one starts, and 1 for a detail.
-#[derive(Drop)]
+#[derive(Clone, Copy)]
 struct Passed {
     whole: bool,
     next: usize,

@@ -1,4 +1,6 @@
 // The UTL trace (document 01, "Trace and listing"): its header, its records taken one at a time, and their times.
+#![tactic(auto)]
+
 pub mod clock;
 pub mod details;
 pub mod reader;
@@ -7,7 +9,7 @@ ghost use Rattle.std.specs.Prelude.{◌≡◌, ◌+◌, ◌<◌, ◌≤◌, leng
 ghost use Rattle.trace.specs.Trace.{starts, little_endian, header_of, header_answer, header_place, packet_at, event_at, detail_at, next_at, answer_of};
 
 // What the header says: all is well, or which part of it is wrong or missing.
-#[derive(Drop)]
+#[derive(Clone, Copy)]
 pub enum Header {
     Fine,
     Mark,
@@ -15,13 +17,13 @@ pub enum Header {
 }
 
 // A place in the trace, where a record starts.
-#[derive(Drop)]
+#[derive(Clone, Copy)]
 pub struct Cursor {
     pub at: usize,
 }
 
 // What stands at a cursor. A packet's bytes are the part of the trace from `start` up to `end`; `next` is behind the record.
-#[derive(Drop)]
+#[derive(Clone, Copy)]
 pub enum Next {
     Packet {
         ticks: u32,

@@ -1,4 +1,6 @@
 // Transactions: whether the next packet begins, continues or ends one (document 000, transaction_status).
+#![tactic(auto)]
+
 pub mod payload;
 mod simple;
 mod split;
@@ -11,7 +13,7 @@ use usb::pid::MALFORMED;
 use usb::reason::NONE;
 
 // TransactionStatus of the Rust.
-#[derive(Drop)]
+#[derive(Clone, Copy)]
 pub enum Status {
     New,
     Continue,
@@ -23,7 +25,7 @@ pub enum Status {
 }
 
 // TransactionStyle of the Rust, with its None for "no transaction".
-#[derive(Drop)]
+#[derive(Clone, Copy)]
 pub enum Style {
     Nothing,
     // The PID of the first packet.
@@ -36,7 +38,7 @@ pub enum Style {
 
 // TransactionState of the Rust. Bytes and flags stand together: a byte that stands alone before a word has seven bytes of padding, which are copied by two moves that
 // overlap, and the next copy waits for both (docs/SPEED.md).
-#[derive(Drop)]
+#[derive(Clone, Copy)]
 pub struct Transaction {
     // style.
     pub style: Style,
@@ -60,7 +62,7 @@ pub struct Transaction {
 }
 
 // The PID of a packet, what the packet is to the transaction, and why it is malformed; 0 where it is not.
-#[derive(Drop)]
+#[derive(Clone, Copy)]
 pub struct Judged {
     pub pid: u8,
     pub status: Status,

@@ -1,5 +1,7 @@
 // The detail record of an old trace (01, "Details and tables"; 02, 13): the type and the max of one endpoint of the device that stands for an address. No call
 // for users: descriptors give these now, and no typed-in detail overrides one.
+#![tactic(auto)]
+
 ghost use Rattle.std.specs.Prelude.{not, ◌||◌};
 ghost use Rattle.details.specs.Lookup.{found_device};
 ghost use Rattle.record.specs.Formed.{well_formed};
@@ -15,7 +17,7 @@ use endpoints::Table;
 use record::{Counts, Decoder};
 
 // The answer and, where that is 0, the row of the device.
-#[derive(Drop)]
+#[derive(Clone, Copy)]
 struct Verdict {
     answer: u8,
     at: usize,

@@ -1,4 +1,6 @@
 // What a call does to the groups of one endpoint, decided from values alone before anything is written (document 000, from group_early_start on).
+#![tactic(auto)]
+
 pub mod effect;
 pub mod entry;
 
@@ -14,7 +16,7 @@ use transaction::Transaction;
 use usb::pid::{IN, MALFORMED, OUT, SETUP, SOF};
 
 // What becomes of the endpoint's group once it has its rows.
-#[derive(Drop)]
+#[derive(Clone, Copy)]
 pub enum Then {
     // Nothing.
     Keep,
@@ -29,7 +31,7 @@ pub enum Then {
 }
 
 // What is done to an endpoint, in this order; the numbers are lines of docs/src/src/decoder.rs.
-#[derive(Drop)]
+#[derive(Clone, Copy)]
 pub struct Update {
     // A group that is still early ends, with no row (918).
     pub over: bool,

@@ -27,14 +27,14 @@ pub fn three(packet: &[u8]) -> u32
 }
 
 // What an OUT, IN, SETUP or PING packet names: `TokenFields` of the Rust.
-#[derive(Drop)]
+#[derive(Clone, Copy)]
 pub struct Token {
     pub address: u8,
     pub number: u8,
 }
 
 // `SplitFields` of the Rust; `kind` is the endpoint type.
-#[derive(Drop)]
+#[derive(Clone, Copy)]
 pub struct Split {
     pub hub: u8,
     pub sc: u8,
@@ -45,7 +45,7 @@ pub struct Split {
 }
 
 // `SetupFields` of the Rust; `kind` is bmRequestType, its `RequestTypeFields`.
-#[derive(Drop)]
+#[derive(Clone, Copy)]
 pub struct Setup {
     pub kind: u8,
     pub request: u8,

@@ -3,6 +3,8 @@
 // the residual, in the register (8.3.5). docs/DIFFERENCES.md says where each vector is published.
 // The file stdout, which the output must equal, does not come from this program: its numbers were reckoned bit by bit, the register not
 // mirrored, by a script that shares nothing with the port.
+#![tactic(auto)]
+
 ghost use Rattle.std.specs.Prelude.{◌*◌, ◌≤◌, ◌<◌};
 
 use libc::STDOUT_FILENO;

@@ -1,4 +1,6 @@
 // What carries the steps of the rules out on memory: the rows of groups, states, items and links, and the endpoint table.
+#![tactic(auto)]
+
 pub mod entries;
 pub mod leaf;
 pub mod steps;
@@ -6,7 +8,7 @@ pub mod steps;
 use rules::Stamp;
 
 // The first numbers of the logs whose rows other rows name: a row's number is its place behind that.
-#[derive(Drop)]
+#[derive(Clone, Copy)]
 pub struct Firsts {
     pub groups: u64,
     pub statebytes: u64,
@@ -14,7 +16,7 @@ pub struct Firsts {
 }
 
 // What a call brings, and how far it has written: the rows that the five logs hold which groups go to, the last item's endpoint, and the transaction's T row.
-#[derive(Drop)]
+#[derive(Clone, Copy)]
 pub struct Written {
     pub stamp: Stamp,
     pub firsts: Firsts,

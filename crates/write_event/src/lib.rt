@@ -1,5 +1,7 @@
 // The rows of an event on the event endpoint, once the old transaction has ended or is suspended (document 000, event_add_group and
 // event_subgroup_start). The transaction row itself is the caller's.
+#![tactic(auto)]
+
 ghost use Rattle.std.specs.Prelude.{◌≡◌, ◌+◌, ◌*◌, ◌^◌, ◌<◌, ◌≤◌, length};
 ghost use Rattle.rows.specs.One.{one};
 ghost use Rattle.rows.specs.Widths.{link_width};

@@ -1,4 +1,6 @@
 // The steps of a call (plan) carried out on memory.
+#![tactic(auto)]
+
 mod leaf;
 
 ghost use Rattle.std.specs.Prelude.{[], ◌≡◌};
@@ -13,7 +15,7 @@ use transaction::payload::start_pid;
 use write::Written;
 
 // How far a call has written: the rows of the logs that groups go to (write), and those of the other three that steps go to. The row of a request that completes is its caller's (shelving).
-#[derive(Drop)]
+#[derive(Clone, Copy)]
 pub struct Hand {
     pub written: Written,
     pub transactions: usize,

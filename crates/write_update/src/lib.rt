@@ -1,4 +1,6 @@
 // An update carried out on memory: its steps in the order of `act` (update).
+#![tactic(auto)]
+
 ghost use Rattle.std.specs.Prelude.{◌≡◌, ◌+◌, ◌^◌, ◌<◌, ◌≤◌};
 ghost use Rattle.rows.specs.One.{one};
 ghost use Rattle.endpoints.specs.Table.{entry_at};

@@ -1,0 +1,18 @@
+use Prim.Native.Nat.{◌-◌, ◌^◌, ◌<◌}
+use native.Mathlib.Omega.{arith}
+use mathlib.Core.Path.{◌≡◌, refl, ◌∙◌}
+use borrow.Author.Tests.{not_true, not_false}
+use lib.ListN.{length}
+use Rattle.rows.specs.WidthsLaws.{each-log, log-number}
+use Rattle.call.specs.State.{State, state, Logs, logs}
+use Rattle.step.specs.Block.{stand}
+use Rattle.call.specs.StateLaws.{SameSizes}
+use Rattle.stream.proofs.Rounding.{fits_by}
+use Rattle.block.proofs.Taking.{Taking, taking-start, taken-from, taking-counts, taking_stops, taking_further, taking-more}
+use Rattle.block.proofs.records.Given as goal
+
+abbrev pub invariant-loop-run : goal.invariant-loop-run
+invariant-loop-run l = Taking l.typed l.ready l.records l.initial.run.place l.initial.run.clock (stand (state l.initial.run.decoder l.initial.run.devices l.initial.table (logs l.initial.bytes l.initial.device_rows l.initial.endpoint_rows l.initial.packets l.initial.events l.initial.transactions l.initial.groups l.initial.statebytes l.initial.states l.initial.items l.initial.links l.initial.requests)) l.initial.shelf) l.run l.table (logs l.bytes l.device_rows l.endpoint_rows l.packets l.events l.transactions l.groups l.statebytes l.states l.items l.links l.requests) l.shelf
+
+abbrev pub decreases-loop-run : goal.decreases-loop-run
+decreases-loop-run l = length l.records - l.run.place

@@ -1,0 +1,14 @@
+use Prim.Native.Nat.{◌-◌, ◌≤◌}
+use native.Mathlib.Omega.{arith}
+use mathlib.Core.Path.{◌≡◌, refl, sym, ◌∙◌}
+use Rattle.endpoints.specs.Find.{is_endpoint, found_endpoint}
+use Rattle.details.specs.Search.{first_from}
+use Rattle.details.specs.declared.Found.TheVariants.{At}
+use Rattle.details.proofs.Searches.{first_hit, first_miss}
+use Rattle.endpoints.proofs.find.find_endpoint.Given as goal
+
+abbrev pub invariant-loop-i : goal.invariant-loop-i
+invariant-loop-i l = (l.i ≤ l.n) × (first_from (is_endpoint l.table l.device l.address) 0 l.n ≡ first_from (is_endpoint l.table l.device l.address) l.i (l.n - l.i))
+
+abbrev pub decreases-loop-i : goal.decreases-loop-i
+decreases-loop-i l = l.n - l.i

@@ -1,0 +1,12 @@
+use Prim.Native.Nat.{◌-◌, ◌≤◌}
+use native.Mathlib.Omega.{arith}
+use mathlib.Core.Path.{refl}
+use Rattle.stream.specs.Addresses.{Addressed}
+use Rattle.stream.proofs.Addresses.{addressed-none, addressed-next, addressed-all}
+use Rattle.stream.proofs.address.addresses_of.Given as goal
+
+abbrev pub invariant-loop-i : goal.invariant-loop-i
+invariant-loop-i l = (l.i ≤ 64) × Addressed l.i l.addresses l.devices
+
+abbrev pub decreases-loop-i : goal.decreases-loop-i
+decreases-loop-i l = 64 - l.i
