@@ -46,10 +46,10 @@ row_next l l' rest row a b c d p = let e : (row + 1) * 4 ≡ suc (suc (suc (suc 
 abbrev pub row_from : ℕ → Bool → List ℕ → ℕ → ℕ → List ℕ
 row_from endpoint start t i n = state_bytes (each word.state (state_word endpoint start) t i n) i n
 
-pub row-turn : (t : List ℕ) (n i endpoint : ℕ) (start : Bool) (r : ℕ) → i < n → n ≤ 128 → length t ≡ word.table → r ≡ state_word endpoint start i (word_at t i word.state)
-    → row_from endpoint start t i (n - i) ≡ r ∷ row_from endpoint start (set t (i * word.width + word.state) r) (i + 1) (n - (i + 1))
-row-turn t n i endpoint start r h g l e =
-    rw (left n i h, e, add-one) (ap (λ (x : ℕ). x ∷ state_bytes later (suc i) (n - suc i)) (ap byte_of same ∙ state_byte (eqb i endpoint) (eqb endpoint 0) start (byte_of (word_at t i word.state))))
+row_step : (t : List ℕ) (i m endpoint : ℕ) (start : Bool) (r : ℕ) → i < 128 → length t ≡ word.table → r ≡ state_word endpoint start i (word_at t i word.state)
+    → row_from endpoint start t i (suc m) ≡ r ∷ row_from endpoint start (set t (i * word.width + word.state) r) (suc i) m
+row_step t i m endpoint start r h l e =
+    rw e (ap (λ (x : ℕ). x ∷ state_bytes later (suc i) m) (ap byte_of same ∙ state_byte (eqb i endpoint) (eqb endpoint 0) start (byte_of (word_at t i word.state))))
   where
     f : ℕ → ℕ → ℕ
     f = state_word endpoint start
@@ -58,9 +58,16 @@ row-turn t n i endpoint start r h g l e =
     stored = set t (i * word.width + word.state) (f i (word_at t i word.state))
 
     later : List ℕ
-    later = each word.state f stored (suc i) (n - suc i)
+    later = each word.state f stored (suc i) m
 
     same : word_at later i word.state ≡ f i (word_at t i word.state)
     same =
-        each_else word.state f (n - suc i) stored (suc i) (i * word.width + word.state) (λ j u v w. omega arith)
+        each_else word.state f m stored (suc i) (i * word.width + word.state) (λ j u v w. omega arith)
         ∙ get_or-set_same t (i * word.width + word.state) (f i (word_at t i word.state)) 0 (omega arith)
+
+pub row-turn : (t : List ℕ) (n i endpoint : ℕ) (start : Bool) (r : ℕ) → i < n → n ≤ 128 → length t ≡ word.table → r ≡ state_word endpoint start i (word_at t i word.state)
+    → row_from endpoint start t i (n - i) ≡ r ∷ row_from endpoint start (set t (i * word.width + word.state) r) (i + 1) (n - (i + 1))
+row-turn t n i endpoint start r h g l e =
+    let left : n - i ≡ suc (n - suc i) = omega arith in
+    let next : i + 1 ≡ suc i = omega arith in
+    rw (left, next) (row_step t i (n - suc i) endpoint start r (omega arith) l e)

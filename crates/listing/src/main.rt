@@ -9,10 +9,12 @@ ghost use Rattle.listing.specs.Prints.{no_rows, shown, Printed, text_room};
 ghost use Rattle.listing.specs.Shows.{Listable, Shows};
 
 use endpoints::{Table, word};
-use libc::{STDERR_FILENO, STDIN_FILENO, STDOUT_FILENO};
 use record::Counts;
 use run::run;
 use shelving::Shelf;
+use std::env::{Env, FillError};
+use std::io;
+use std::io::{Read, Write};
 use trace::details::count_details;
 
 // The longest trace (docs/SIZES.md).
@@ -178,17 +180,15 @@ struct Input {
     whole: bool,
 }
 
-// Reads standard input into buf. io::read_full does not tell an end from a failure.
-fn read_input(buf: &mut [u8]) -> Input
+// Reads standard input into buf. Read::read_exact does not tell an end from a failure.
+fn read_input(from: &mut impl Read, buf: &mut [u8]) -> Input
     ensures { result.len ≤ length buf.new }
 {
     let mut len: usize = 0;
     while len < buf.len() {
-        let got = libc::read(STDIN_FILENO, &mut buf[len..]);
-        if got < 0 {
+        let Ok(n) = from.read(&mut buf[len..]) else {
             return Input { len, whole: false };
-        }
-        let n = io::count(got, &buf[len..]);
+        };
         if n == 0 {
             return Input { len, whole: true };
         }
@@ -197,34 +197,45 @@ fn read_input(buf: &mut [u8]) -> Input
     Input { len, whole: true }
 }
 
-// What failed, said on standard error: a program has no exit status to say it by (docs/DECISIONS.md, 73).
-fn fail(line: &[u8]) {
-    io::write_all(STDERR_FILENO, line);
+// What failed, said on standard error: the program's exit status does not say it (docs/DECISIONS.md, 73).
+fn fail(rt: &impl Eprint, line: &str) {
+    let _ = rt.eprintln(line);
 }
 
-// Whether `--high` is the one argument that the program was started with. A longer one gives the length 0.
-fn is_high() -> bool {
+// Whether the program was started with an argument of this number.
+fn has_arg(rt: &impl Env, i: usize) -> bool {
+    let mut start = [0u8; 6];
+    match rt.arg(i, &mut start) {
+        Err(FillError::NotPresent) => false,
+        _ => true,
+    }
+}
+
+// Whether `--high` is the one argument that the program was started with. A longer one does not fit.
+fn is_high(rt: &impl Env) -> bool {
     let mut first = [0u8; 6];
-    let n = os::arg(1, &mut first);
-    (os::arg_count() == 2) & check::same(&first[..n], b"--high")
+    let Ok(n) = rt.arg(1, &mut first) else {
+        return false;
+    };
+    first[..n] == b"--high"[..] && !has_arg(rt, 2)
 }
 
-fn main() {
-    let high = is_high();
-    if !high & (1 < os::arg_count()) {
-        fail(b"usage: listing [--high] < TRACE.utl\n");
+fn main(rt: HostRuntime) {
+    let high = is_high(&rt);
+    if !high && has_arg(&rt, 1) {
+        fail(&rt, "usage: listing [--high] < TRACE.utl");
         return;
     }
     // One byte more tells that the trace is too long.
     let mut input = [0u8; INPUT + 1];
-    let read = read_input(&mut input);
+    let read = read_input(&mut rt.stdin(), &mut input);
     if !read.whole {
-        fail(b"listing: standard input could not be read\n");
+        fail(&rt, "listing: standard input could not be read");
         return;
     }
     let mut out = [0u8; TEXT];
     let end = print(high, &input[..read.len], &mut out);
-    if !io::write_all(STDOUT_FILENO, &out[..end]) {
-        fail(b"listing: standard output could not be written\n");
+    if io::writer(&rt).write_all(&out[..end]).is_err() {
+        fail(&rt, "listing: standard output could not be written");
     }
 }

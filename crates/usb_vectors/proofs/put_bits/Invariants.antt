@@ -1,11 +1,7 @@
 use Rattle.usb_vectors.proofs.put_bits.Given as goal
 
--- PARAMS ['x', 'n', 'rest₀', 'left₀', 't5', 't6', 'rest', 'left'] vs ['l.x', 'l.n', 'l.initial.rest', 'l.initial.left', 'l.rest', 'l.left']
-
 abbrev pub invariant-loop-left : goal.invariant-loop-left
-invariant-loop-left l = Unit
-
--- PARAMS ['x', 'n', 'rest₀', 'left₀', 't5', 't6', 'rest', 'left'] vs ['l.x', 'l.n', 'l.initial.rest', 'l.initial.left', 'l.rest', 'l.left']
+invariant-loop-left _ l = Unit
 
 abbrev pub decreases-loop-left : goal.decreases-loop-left
-decreases-loop-left l = left
+decreases-loop-left _ l = l.left

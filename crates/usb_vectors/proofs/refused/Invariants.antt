@@ -1,6 +1,4 @@
 use Prim.Native.Nat.{◌*◌, ◌-◌, ◌≤◌}
-use native.Mathlib.Omega.{arith}
-use mathlib.Core.Logic.{⊎_elim}
 use Rattle.usb_vectors.proofs.refused.Given as goal
 
 abbrev pub invariant-loop-bit : goal.invariant-loop-bit

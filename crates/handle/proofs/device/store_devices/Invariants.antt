@@ -10,6 +10,9 @@ use Rattle.handle.specs.Words.{rows_stored}
 use Rattle.handle.proofs.Turns.{row-turn, passed-next}
 use Rattle.handle.proofs.device.store_devices.Given as goal
 
+abbrev pub DevicesPassed : ℕ → List Device → Type 0
+DevicesPassed i devices = (j : ℕ) → j < i → DeviceFits (get_or devices j blank)
+
 abbrev pub invariant-loop-i : goal.invariant-loop-i
 invariant-loop-i l = (l.i ≤ 64) × ((length l.devices ≡ 64) × ((rows_stored l.initial.words 0 l.devices ≡ rows_stored l.words l.i (drop l.i l.devices)) × DevicesPassed l.i l.devices))
 

@@ -1,9 +1,9 @@
-use Rattle.std.proofs.Common.{◌≡◌, ℕ, ◌+◌, ◌-◌, ◌*◌, ◌≤◌, length, get_or, sym, refl, ◌∙◌, subst, arith, rules}
-use Rattle.pcap.specs.Export.{Source, lent}
-use Rattle.reading.specs.Packets.{packet_bytes}
-use Rattle.reading.specs.PacketsLaws.{stops, packet_size}
+-- What was met, and what is left, give the whole.
+-- Assumes nothing.
+use Rattle.std.proofs.Common.{◌-◌, ◌≤◌}
+use Rattle.pcap.specs.Export.{lent}
 use Rattle.pcap.specs.Inner.{Small}
-use Rattle.pcap.proofs.Turns.{Owed, owed_start, owed-step, owed_none, small-start, small-step, small-more}
+use Rattle.pcap.proofs.Turns.{Owed}
 use Rattle.pcap.proofs.logs.survey_rows.Given as goal
 
 abbrev pub invariant-loop-k : goal.invariant-loop-k

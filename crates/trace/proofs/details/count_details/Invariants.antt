@@ -1,8 +1,7 @@
-use Rattle.std.proofs.Common.{◌≡◌, ℕ, ◌+◌, ◌-◌, ◌^◌, ◌<◌, true, List, length, ap, ◌∙◌, arith}
-use borrow.Author.Tests.{not_true, not_false}
-use Rattle.trace.specs.Pass.{passed_by}
-use Rattle.trace.specs.Trace.{next_at}
-use Rattle.trace.proofs.Passing.{Counting, counting-start, counting-over, counting-place, counting_few, counting_more}
+-- The loop's invariant is that what was counted and what is left are all.
+-- Assumes nothing.
+use Rattle.std.proofs.Common.{◌-◌, length}
+use Rattle.trace.proofs.Passing.{Counting}
 use Rattle.trace.proofs.details.count_details.Given as goal
 
 abbrev pub invariant-loop-p : goal.invariant-loop-p

@@ -1,0 +1,7 @@
+use Rattle.descriptors.specs.Kind.{is_set_configuration}
+use Rattle.descriptors.proofs.request.is_set_configuration.Goals as goal
+use Rattle.std.proofs.Common.{◌-◌}
+
+pub returns : goal.returns
+unfolding is_set_configuration
+returns c = simp (c.request_type-standard.ensures, c.request-request.ensures, c.value-value.ensures)

@@ -1,0 +1,7 @@
+use Rattle.descriptors.specs.Entries.{value_of}
+use Rattle.descriptors.proofs.walk.read_value.Goals as goal
+use Rattle.descriptors.specs.Entries.{first_of}
+
+pub returns : goal.returns
+unfolding value_of
+returns c = c.first_of.ensures

@@ -1,0 +1,8 @@
+use Rattle.handle.specs.Words.{decoder_in}
+use Rattle.handle.proofs.decoder.load_decoder.Goals as goal
+use Rattle.std.proofs.Common.{◌-◌}
+use Rattle.handle.specs.Place as place
+
+pub returns : goal.returns
+unfolding decoder_in
+returns c = simp (c.event_of-event.ensures, c.slot_of-slot.ensures, c.load_transaction-transaction.ensures, c.load_counts-counts.ensures)

@@ -1,0 +1,19 @@
+use Rattle.write_update.proofs.Rooms.{table-when, end-when, fourth-asks, fifth-asks}
+use Rattle.write.specs.Memory.{memory, altered, end_row, item_row}
+use Rattle.update.specs.Update.{when}
+use Rattle.rules.specs.World.{cleared}
+use Rattle.write_update.specs.Carried.{become, closed}
+use native.Mathlib.Omega.{arith}
+use mathlib.Core.Path.{ap, ◌∙◌}
+use Rattle.write_update.proofs.close_group.Goals as goal
+use Rattle.std.proofs.Common.{◌-◌}
+
+pub end_row_if-d-requires : goal.end_row_if-d-requires
+end_row_if-d-requires c = (c.requires.n_bound, (omega (arith, c.requires.n_bound, c.requires.x_lt_n), fourth-asks c.args.u c.args.n c.args.x c.args.pid (memory c.args.d c.args.table.now c.args.groups.now c.args.statebytes.now c.args.states.now c.args.items.now c.args.links.now) c.requires.room (memory c.args.d c.clear_if.new.1.1.0 c.args.groups.now c.args.statebytes.now c.args.states.now c.args.items.now c.args.links.now) (table-when c.args.u.end c.args.x cleared c.set_group.new.1.1.1.0 c.clear_if.new.1.1.0 c.args.d c.args.groups.now c.args.statebytes.now c.args.states.now c.args.items.now c.args.links.now c.clear_if.ensures ∙ ap (when c.args.u.end (altered c.args.x cleared)) (c.set_group.ensures c.args.d c.args.groups.now c.args.statebytes.now c.args.states.now c.args.items.now c.args.links.now))))
+
+pub item_if-requires : goal.item_if-requires
+item_if-requires c = (c.requires.n_bound, fifth-asks c.args.u c.args.n c.args.x c.args.pid (memory c.args.d c.args.table.now c.args.groups.now c.args.statebytes.now c.args.states.now c.args.items.now c.args.links.now) c.requires.room (memory c.end_row_if-d.result c.end_row_if-d.new.1.1.1.1.0 c.end_row_if-d.new.1.1.1.1.1.0 c.end_row_if-d.new.1.1.1.1.1.1.0 c.end_row_if-d.new.1.1.1.1.1.1.1.0 c.args.items.now c.args.links.now) (c.end_row_if-d.ensures c.args.items.now c.args.links.now ∙ (ap (when c.args.u.end (end_row c.args.n c.args.x)) (table-when c.args.u.end c.args.x cleared c.set_group.new.1.1.1.0 c.clear_if.new.1.1.0 c.args.d c.args.groups.now c.args.statebytes.now c.args.states.now c.args.items.now c.args.links.now c.clear_if.ensures ∙ ap (when c.args.u.end (altered c.args.x cleared)) (c.set_group.ensures c.args.d c.args.groups.now c.args.statebytes.now c.args.states.now c.args.items.now c.args.links.now)) ∙ end-when c.args.u.end c.args.n c.args.x (become c.args.u.group c.args.x c.args.pid (memory c.args.d c.args.table.now c.args.groups.now c.args.statebytes.now c.args.states.now c.args.items.now c.args.links.now)))))
+
+pub returns : goal.returns
+unfolding closed
+returns c = c.item_if.ensures c.end_row_if-d.new.1.1.1.1.1.0 c.end_row_if-d.new.1.1.1.1.1.1.0 c.end_row_if-d.new.1.1.1.1.1.1.1.0 ∙ ap (when c.args.u.item (item_row c.args.n c.args.x)) (c.end_row_if-d.ensures c.args.items.now c.args.links.now ∙ (ap (when c.args.u.end (end_row c.args.n c.args.x)) (table-when c.args.u.end c.args.x cleared c.set_group.new.1.1.1.0 c.clear_if.new.1.1.0 c.args.d c.args.groups.now c.args.statebytes.now c.args.states.now c.args.items.now c.args.links.now c.clear_if.ensures ∙ ap (when c.args.u.end (altered c.args.x cleared)) (c.set_group.ensures c.args.d c.args.groups.now c.args.statebytes.now c.args.states.now c.args.items.now c.args.links.now)) ∙ end-when c.args.u.end c.args.n c.args.x (become c.args.u.group c.args.x c.args.pid (memory c.args.d c.args.table.now c.args.groups.now c.args.statebytes.now c.args.states.now c.args.items.now c.args.links.now))))
