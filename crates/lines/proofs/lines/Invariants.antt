@@ -11,7 +11,7 @@ abbrev pub line_at : Kind → List ℕ → ℕ → List ℕ
 line_at kind log i = line_of kind i (row (width_of kind) log i)
 
 abbrev pub invariant-loop-i : goal.invariant-loop-i
-invariant-loop-i l =     (l.i ≤ l.n) × Left l.initial.out l.at (lines_of l.kind l.n l.log) l.out l.next (each (line_at l.kind l.log) l.i (l.n - l.i))
+invariant-loop-i l = (l.i ≤ l.n) × Left l.initial.out l.at (lines_of l.kind l.n l.log) l.out l.next (each (line_at l.kind l.log) l.i (l.n - l.i))
 
 abbrev pub decreases-loop-i : goal.decreases-loop-i
 decreases-loop-i l = l.n - l.i

@@ -18,3 +18,7 @@ tally_rows-requires c = let ended : Small (c.args.waiting + 4096) c.tally_ending
 pub returns : goal.returns
 unfolding tally_event
 returns c = rw (c.waiting_then-then.ensures, c.tally_ending-t.ensures) at c.tally_rows.ensures
+
+pub waiting_then-then-requires : goal.waiting_then-then-requires
+waiting_then-then-requires c = let ended : Small (c.args.waiting + 4096) c.tally_ending-t.result = rw c.tally_ending-t.ensures (ending_small c.args.e c.args.endpoints c.args.waiting c.requires.endpoints_bound) in
+    let l = c.requires.waiting_bound in let s = (ended).linked in record { waiting_bound = omega (arith, l, s); active_bound = c.requires.active_bound }

@@ -12,7 +12,7 @@ use Rattle.std.proofs.Common.{◌-◌}
 
 pub returns-then-answer-ne0 : goal.returns-then-answer-ne0
 returns-then-answer-ne0 c = let lent : State = state c.args.d c.args.devices c.args.table.now
-    (logs c.args.bytes.now c.args.device-rows.now c.args.endpoint-rows.now c.args.packets.now c.args.events.now c.args.transactions.now c.args.groups.now c.args.statebytes.now c.args.states.now c.args.items.now c.args.links.now c.args.requests.now) in
+    (logs c.args.bytes.now c.args.device_rows.now c.args.endpoint_rows.now c.args.packets.now c.args.events.now c.args.transactions.now c.args.groups.now c.args.statebytes.now c.args.states.now c.args.items.now c.args.links.now c.args.requests.now) in
     let verdict : Judges (is_ill (lent)) c.args.d.finished c.args.number c.args.direction c.args.kind (device_for c.args.address (world_at (lent))) c.judged-verdict.result.answer c.judged-verdict.result.at = let a = c.args in judged_at (lent) a.address a.number a.direction a.kind _ c.room_of-room.ensures _ _ c.judged-verdict.ensures in
     let a = c.args in detail-refused a.address a.number a.direction a.kind a.max (lent) _ _ (verdict) c.if-answer-ne0.true
 
@@ -24,7 +24,7 @@ bounds-devices-at c = ?
 
 pub set_detail-requires : goal.set_detail-requires
 set_detail-requires c = let lent : State = state c.args.d c.args.devices c.args.table.now
-    (logs c.args.bytes.now c.args.device-rows.now c.args.endpoint-rows.now c.args.packets.now c.args.events.now c.args.transactions.now c.args.groups.now c.args.statebytes.now c.args.states.now c.args.items.now c.args.links.now c.args.requests.now) in
+    (logs c.args.bytes.now c.args.device_rows.now c.args.endpoint_rows.now c.args.packets.now c.args.events.now c.args.transactions.now c.args.groups.now c.args.statebytes.now c.args.states.now c.args.items.now c.args.links.now c.args.requests.now) in
     let verdict : Judges (is_ill (lent)) c.args.d.finished c.args.number c.args.direction c.args.kind (device_for c.args.address (world_at (lent))) c.judged-verdict.result.answer c.judged-verdict.result.at = let a = c.args in judged_at (lent) a.address a.number a.direction a.kind _ c.room_of-room.ensures _ _ c.judged-verdict.ensures in
     let told : (is_ill (lent) ≡ false) × ((c.args.number < 16) × (c.args.direction < 2)) = passed (verdict) c.if-answer-ne0.false in
     let the_rest = (told).1 in record { number_bound = the_rest.0; direction_bound = the_rest.1 }
@@ -37,7 +37,7 @@ bounds-changed-at c = ?
 
 pub returns : goal.returns
 returns c = let lent : State = state c.args.d c.args.devices c.args.table.now
-    (logs c.args.bytes.now c.args.device-rows.now c.args.endpoint-rows.now c.args.packets.now c.args.events.now c.args.transactions.now c.args.groups.now c.args.statebytes.now c.args.states.now c.args.items.now c.args.links.now c.args.requests.now) in
+    (logs c.args.bytes.now c.args.device_rows.now c.args.endpoint_rows.now c.args.packets.now c.args.events.now c.args.transactions.now c.args.groups.now c.args.statebytes.now c.args.states.now c.args.items.now c.args.links.now c.args.requests.now) in
     let verdict : Judges (is_ill (lent)) c.args.d.finished c.args.number c.args.direction c.args.kind (device_for c.args.address (world_at (lent))) c.judged-verdict.result.answer c.judged-verdict.result.at = let a = c.args in judged_at (lent) a.address a.number a.direction a.kind _ c.room_of-room.ensures _ _ c.judged-verdict.ensures in
     let told : (is_ill (lent) ≡ false) × ((c.args.number < 16) × (c.args.direction < 2)) = passed (verdict) c.if-answer-ne0.false in
     let placed : device_for c.args.address (world_at (lent)) ≡ At c.judged-verdict.result.at = (verdict).place c.if-answer-ne0.false in

@@ -11,7 +11,7 @@ abbrev pub line_at : ℕ → List ℕ → ℕ → List ℕ → ℕ → List ℕ
 line_at n states m statebytes i = state_line i (state_bytes n states m statebytes i)
 
 abbrev pub invariant-loop-i : goal.invariant-loop-i
-invariant-loop-i l =     (l.i ≤ l.n) × Left l.initial.out l.at (state_lines l.n l.states l.m l.statebytes) l.out l.next (each (line_at l.n l.states l.m l.statebytes) l.i (l.n - l.i))
+invariant-loop-i l = (l.i ≤ l.n) × Left l.initial.out l.at (state_lines l.n l.states l.m l.statebytes) l.out l.next (each (line_at l.n l.states l.m l.statebytes) l.i (l.n - l.i))
 
 abbrev pub decreases-loop-i : goal.decreases-loop-i
 decreases-loop-i l = l.n - l.i
