@@ -28,35 +28,35 @@ const LONGEST: usize = 80;
 const HEADER: &str = "\
 -- Runs of the Rust of docs/src, and the words that it left in each log: written by `oracle lemmas SEED RUNS CALLS` (oracle/), not by hand.
 use mathlib.Core.Path.{refl}
-use mathlib.Core.List.{List, [], _∷_}
-use Rattle·crc.specs.Crc.{step, bits, bytes, crc5Of, crc16Of}
-use Rattle·usb.specs.Bits.{after}
-use Rattle·usb.specs.Packet.{formatOf, formatOk, formatReason, reasonOf, checkedOf}
-use Rattle·transaction.specs.Status.{transactionStatus}
-use Rattle·transaction.specs.Payload.{extractPayload}
-use Rattle·details.specs.Details.{detailsOf, withType, withDetail, fresh}
-use Rattle·descriptors.specs.Kind.{isRead, isSetConfiguration, isSetInterface, kindBy, kindOf}
-use Rattle·descriptors.specs.Laid.{laid}
-use Rattle·descriptors.specs.Whole.{isWhole, wholeIn, whole}
-use Rattle·descriptors.specs.Entries.{isOf, firstOf, maxOf, valueOf}
-use Rattle·descriptors.specs.Store.{chunks}
-use Rattle·descriptors.specs.Chosen.{applied, countSet}
-use Rattle·descriptors.specs.Complete.{noteOf, withMax, deviceAfter, countAfter, shelfAfter, rowAfter}
-use Rattle·group.specs.Control.{setupGroup, controlGroup}
-use Rattle·group.specs.Data.{beginGroup, repeatGroup, otherGroup}
-use Rattle·group.specs.Group.{groupStatus}
-use Rattle·rules.specs.Groups.{groupUpdate, groupEarlyStart, groupEarlyAppend}
-use Rattle·rules.specs.Transactions.{transactionUpdate}
-use Rattle·rules.specs.Events.{eventUpdate}
-use Rattle·rules.specs.Decoder.{handleRawPacket, handleEvent, handleDetail, finish}
-use Rattle·rules.proofs.Runs.{packet, event, detail, finishing, Leaves}
+use mathlib.Core.List.{List, [], ◌∷◌}
+use Rattle.crc.specs.Crc.{step, bits, bytes, crc5_of, crc16_of}
+use Rattle.usb.specs.Bits.{after}
+use Rattle.usb.specs.Packet.{format_of, format_ok, format_reason, reason_of, checked_of}
+use Rattle.transaction.specs.Status.{transaction_status}
+use Rattle.transaction.specs.Payload.{extract_payload}
+use Rattle.details.specs.Details.{details_of, with_type, with_detail, fresh}
+use Rattle.descriptors.specs.Kind.{is_read, is_set_configuration, is_set_interface, kind_by, kind_of}
+use Rattle.descriptors.specs.Laid.{laid}
+use Rattle.descriptors.specs.Whole.{is_whole, whole_in, whole}
+use Rattle.descriptors.specs.Entries.{is_of, first_of, max_of, value_of}
+use Rattle.descriptors.specs.Store.{chunks}
+use Rattle.descriptors.specs.Chosen.{applied, count_set}
+use Rattle.descriptors.specs.Complete.{note_of, with_max, device_after, count_after, shelf_after, row_after}
+use Rattle.group.specs.Control.{setup_group, control_group}
+use Rattle.group.specs.Data.{begin_group, repeat_group, other_group}
+use Rattle.group.specs.Group.{group_status}
+use Rattle.rules.specs.Groups.{group_update, group_early_start, group_early_append}
+use Rattle.rules.specs.Transactions.{transaction_update}
+use Rattle.rules.specs.Events.{event_update}
+use Rattle.rules.specs.Decoder.{handle_raw_packet, handle_event, handle_detail, finish}
+use Rattle.rules.proofs.Runs.{packet, event, detail, finishing, Leaves}
 ";
 
-const PROOF: &str = "unfolding step bits bytes crc5Of crc16Of after formatOf formatOk formatReason reasonOf checkedOf transactionStatus \
-                     extractPayload detailsOf withType withDetail fresh isRead isSetConfiguration isSetInterface kindBy kindOf laid isWhole wholeIn \
-                     whole isOf firstOf maxOf valueOf chunks applied countSet noteOf withMax deviceAfter countAfter shelfAfter rowAfter setupGroup controlGroup beginGroup \
-                     repeatGroup otherGroup groupStatus groupUpdate groupEarlyStart groupEarlyAppend transactionUpdate eventUpdate handleRawPacket \
-                     handleEvent handleDetail finish";
+const PROOF: &str = "unfolding step bits bytes crc5_of crc16_of after format_of format_ok format_reason reason_of checked_of transaction_status \
+                     extract_payload details_of with_type with_detail fresh is_read is_set_configuration is_set_interface kind_by kind_of laid is_whole whole_in \
+                     whole is_of first_of max_of value_of chunks applied count_set note_of with_max device_after count_after shelf_after row_after setup_group control_group begin_group \
+                     repeat_group other_group group_status group_update group_early_start group_early_append transaction_update event_update handle_raw_packet \
+                     handle_event handle_detail finish";
 
 fn list(items: impl Iterator<Item = String>) -> String {
     let mut text: String = items.map(|item| format!("{item} ∷ ")).collect();
@@ -123,7 +123,7 @@ const HIGH_USES: [(&str, &str); 4] = [
     ("of docs/src,", "of docs/src in the mode of change request 6 (oracle/changes/high.txt),"),
     ("`oracle lemmas SEED", "`oracle lemmas --high SEED"),
     ("finishing, Leaves}", "finishing, LeavesIn}"),
-    ("use mathlib.Core.List.{List, [], _∷_}\n", "use mathlib.Core.List.{List, [], _∷_}\nuse mathlib.Core.Bool.{true}\n"),
+    ("use mathlib.Core.List.{List, [], ◌∷◌}\n", "use mathlib.Core.List.{List, [], ◌∷◌}\nuse mathlib.Core.Bool.{true}\n"),
 ];
 
 /// A run is computed with a shelf that has no bytes, so a trace that reads a descriptor to its end is left out.

@@ -82,13 +82,13 @@ pub own_room : text_room no_rows ≡ 379548
 unfolding room_by
 own_room = refl
 
-pub too_long :
+pub too-long :
     {high : Bool} {trace before after : List ℕ} {end : ℕ}
     → most_input < length trace
     → text_room no_rows ≤ length before
     → Appended before 0 too_long after end
     → Printed high trace before after end
-too_long h r x = record { text = too_long; prints = Prints.long h; appended = x; within = omega (arith, own_room, x.place) }
+too-long h r x = record { text = too_long; prints = Prints.long h; appended = x; within = omega (arith, own_room, x.place) }
 
 pub printed : {high : Bool} {trace before after : List ℕ} {end : ℕ} → length trace ≤ most_input → Shows high trace no_table no_rows no_shelf before after end → Printed high trace before after end
 printed {trace} h x =

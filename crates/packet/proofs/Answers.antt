@@ -274,9 +274,9 @@ module _ (packet : List ℕ) (time : ℕ) (s : State) (shelf : List ℕ) (h : Pa
   over_none : is_over world ≡ false
   over_none = totalled-over world (totalled s shelf known)
 
-  sum_by : (fits : Bool) → room_for (held_at s) d.counts t (room_of s.logs) ≡ fits
+  sum-by : (fits : Bool) → room_for (held_at s) d.counts t (room_of s.logs) ≡ fits
       → first_of (tests_of packet time s shelf) ≡ cond fits 8 7
-  sum_by fits e =
+  sum-by fits e =
       answer-is packet time s shelf h
       ∙ (ap (λ (v : World). cond (is_full s v) 7 (cond (is_over v) 9 (cond (is_dropped d.slot d.transaction) 8 0))) world_is
       ∙ (ap (λ (f : Bool). cond f 7 (cond (is_over world) 9 (cond (is_dropped d.slot d.transaction) 8 0))) (state-full s (well packet time s shelf h).begun adds ∙ ap not e)
@@ -324,7 +324,7 @@ module _ (packet : List ℕ) (time : ℕ) (s : State) (shelf : List ℕ) (h : Pa
           let v = q.packets ∙ ap (λ (z : Sum). cond (eqb z.answer 0) (sets s.logs.packets ((held_at s).packets * packet_width) (d.counts.bytes ∷ time ∷ [])) s.logs.packets) q1 in
           record {
             answers =
-                accepted r.answer (a ∙ sym (sum_by true e)) (ap accepts a)
+                accepted r.answer (a ∙ sym (sum-by true e)) (ap accepts a)
                 (subst (λ (x : Decoder). Left (after_call packet time s shelf) d.finished s (state_by x y z)) (sym c)
                 (subst (λ (x : World). Left x d.finished s (state_by (dropped_decoder d time (after.accepted d t)) y z)) (sym world_is) (left-dropped e y z u v)));
             shelf = sym (ap (λ (n : ℕ). cond (accepts n) (after_call packet time s shelf).shelf shelf) a ∙ ap (λ (x : World). x.shelf) world_is);
@@ -336,7 +336,7 @@ module _ (packet : List ℕ) (time : ℕ) (s : State) (shelf : List ℕ) (h : Pa
           let u = q.bytes ∙ ap (λ (z : Sum). cond (eqb z.answer 0) (sets s.logs.bytes (held_at s).bytes packet) s.logs.bytes) q1 in
           let v = q.packets ∙ ap (λ (z : Sum). cond (eqb z.answer 0) (sets s.logs.packets ((held_at s).packets * packet_width) (d.counts.bytes ∷ time ∷ [])) s.logs.packets) q1 in
           record {
-            answers = subst (λ (x : State). Answers (tests_of packet time s shelf) (after_call packet time s shelf) d.finished s r.answer x) (λ i. state_by (sym c i) (sym u i) (sym v i)) (refused r.answer (a ∙ sym (sum_by false e)) (ap accepts a));
+            answers = subst (λ (x : State). Answers (tests_of packet time s shelf) (after_call packet time s shelf) d.finished s r.answer x) (λ i. state_by (sym c i) (sym u i) (sym v i)) (refused r.answer (a ∙ sym (sum-by false e)) (ap accepts a));
             shelf = sym (ap (λ (n : ℕ). cond (accepts n) (after_call packet time s shelf).shelf shelf) a);
           }
 

@@ -173,9 +173,9 @@ module _ (n : Counts) (l : Logs) (rooms : ℕ → List ℕ) (h : Counted n l) (e
       (rooms 8)
       e.states
 
-  pub in_parts : in_parts n l rooms ≡ listing n l
+  pub in-parts : in_parts n l rooms ≡ listing n l
   unfolding in_parts listing
-  in_parts =
+  in-parts =
       λ i. title
       ++ (kind_are Device i
       ++ (kind_are Endpoint i

@@ -143,9 +143,9 @@ act-slot u x s w =
 -- ---- what an update keeps of another endpoint's entry, where only the state changes and an ended group is closed
 
 module _ {A : Type 0} (g : Endpoint → A) (state : (s : ℕ) (e : Endpoint) → g (with_state s e) ≡ g e) (close : (e : Endpoint) → g (close_entry e) ≡ g e) where
-  pub other_after : (u : Update) (x : ℕ) (e : Endpoint) → g (other_after u x e) ≡ g e
+  pub other-after : (u : Update) (x : ℕ) (e : Endpoint) → g (other_after u x e) ≡ g e
   unfolding other_after
-  other_after u x e =
+  other-after u x e =
       let a = when u.cut (row_entry x false) e in
       let b = when u.start (start_other x) a in
       let c = when u.end (row_entry x false) b in
@@ -187,7 +187,7 @@ module _ (g : Endpoint → ℕ) (m n : Bool → ℕ) where
         ∙ ap (λ (z : ℕ). z + m u.link) (when-keeps g u.cut end_entry (λ v. k.state _ _ ∙ k.phase _ v) a ∙ when-keeps g u.over over_entry (k.phase Ended) e)))))
 
     pub other-keeps : (u : Update) (x : ℕ) (e : Endpoint) → g (other_after u x e) ≡ g e
-    other-keeps u x e = other_after g (λ s v. k.state s v) (λ v. k.phase _ v) u x e
+    other-keeps u x e = other-after g (λ s v. k.state s v) (λ v. k.phase _ v) u x e
 
     pub act-adds-own : (u : Update) (x : ℕ) (w : World) → g ((act u x w).endpoints x) ≡ g (w.endpoints x) + m u.link + n u.start
     act-adds-own u x w = ap g (act-entry u x w) ∙ own-adds u (start_pid w.transaction.style) (w.endpoints x)

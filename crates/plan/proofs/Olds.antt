@@ -27,7 +27,7 @@ use Rattle.update.proofs.After.{act-entry, act-other, early-start-closed}
 use Rattle.plan.specs.Step.{ended, end_of}
 use Rattle.plan.specs.Packet.{entry_by, update_for}
 use Rattle.plan.specs.declared.End.{End}
-use Rattle.plan.proofs.Frame.{Rest, act-rest, act_fixed, device_fixed, address_fixed, other_after}
+use Rattle.plan.proofs.Frame.{Rest, act-rest, act_fixed, device_fixed, address_fixed, other-after}
 use Rattle.plan.proofs.Quiet.{no_effect}
 use Rattle.plan.proofs.Alike.{Alike, alike_then}
 
@@ -64,7 +64,7 @@ module _ (pid : ℕ) (t : Transaction) {a b : Endpoint} (n : Near a b) where
 
 other_near : (u : Update) (x : ℕ) (e : Endpoint) → Near (other_after u x e) e
 other_near u x e =
-    record { phase = other_after (λ a. close_phase a.phase) (λ s a. refl) (λ a. close_again a.phase) u x e; first = other_after (λ a. a.first) (λ s a. refl) (λ a. refl) u x e }
+    record { phase = other-after (λ a. close_phase a.phase) (λ s a. refl) (λ a. close_again a.phase) u x e; first = other-after (λ a. a.first) (λ s a. refl) (λ a. refl) u x e }
 
 -- ---- the end without success, of the transaction t on the endpoint x
 

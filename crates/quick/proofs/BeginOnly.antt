@@ -36,7 +36,7 @@ use Rattle.packet.specs.declared.sum.Sum.{Sum}
 use Rattle.quick.specs.Begin.{only_begin, BeginOnly, begin_decoder, begin_table, begin_state}
 use Rattle.quick.specs.Room.{more_rows, RowsFit, RowsRoom}
 use Rattle.quick.proofs.Calls.{Enters, well, left_with, shape-asks, shape-rows, shape-call}
-use Rattle.quick.proofs.Fit.{plain, room_by}
+use Rattle.quick.proofs.Fit.{plain, room-by}
 
 -- ---- the shape
 
@@ -87,11 +87,11 @@ module _ (p : Plan) (t : Transaction) (slot : Slot) (d : Decoder) (len : ℕ) wh
   waiting_by false true = refl
   waiting_by false false = refl
 
-  pub sum_by : (row l : Bool) (held room : Counts) → Within held room → Numbered d.counts → RowsRoom (one row) (one l) len held d.counts room
+  pub sum-by : (row l : Bool) (held room : Counts) → Within held room → Numbered d.counts → RowsRoom (one row) (one l) len held d.counts room
       → sum_plan d held (only_begin p row t l slot) len room ≡ begin_sum row l len d
   unfolding sum_plan plan_passes
-  sum_by row l held room w m f =
-      ap (λ (b : Bool). sum_by b false d (tally_of d (only_begin p row t l slot) len)) (room_by (one row) (one l) len (tally_of d (only_begin p row t l slot) len) held d.counts room (counts_by row l) w m f)
+  sum-by row l held room w m f =
+      ap (λ (b : Bool). sum_by b false d (tally_of d (only_begin p row t l slot) len)) (room-by (one row) (one l) len (tally_of d (only_begin p row t l slot) len) held d.counts room (counts_by row l) w m f)
       ∙ λ i. record { answer = 0; counts = counts_by row l d.counts i; waiting = waiting_by row l i }
 
 -- ---- the steps
@@ -124,7 +124,7 @@ module _ (packet : List ℕ) (time : ℕ) (s : State) (h : Enters packet s) wher
       record {
         plan = only_begin (plan_of s.decoder.high packet (world_at s)) row t l Current;
         is = shape q;
-        summed = sum_by (plan_of s.decoder.high packet (world_at s)) t Current s.decoder (length packet) row l (held_at s) (room_of s.logs) (well packet time s h).counts (well packet time s h).numbered f;
+        summed = sum-by (plan_of s.decoder.high packet (world_at s)) t Current s.decoder (length packet) row l (held_at s) (room_of s.logs) (well packet time s h).counts (well packet time s h).numbered f;
         left = left_by (plan_of s.decoder.high packet (world_at s)) t packet time s row l;
         kept = ap (λ (b : Bool). b || false) (ap (keeps s.decoder.high) (sym (shape q)) ∙ u);
         wants = λ a. (a.begin.there, (a.begin.few, a.begin.transactions));

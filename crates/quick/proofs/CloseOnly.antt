@@ -74,9 +74,9 @@ module _ (p : Plan) (t : Transaction) (e : End) (slot : Slot) (d : Decoder) (len
   unfolding tally_plan tally_begin tally_update close_tally
   tally-by = let same : d.counts.endpoints + 0 ≡ d.counts.endpoints = omega arith in ap (λ (n : ℕ). tally_end e n (nothing d.waiting ▷ add_packet len)) same
 
-  pub sum_by : (held room : Counts) → CloseFits e len d held room → sum_plan d held (only_close p t e slot) len room ≡ accepted d (close_tally e len d)
+  pub sum-by : (held room : Counts) → CloseFits e len d held room → sum_plan d held (only_close p t e slot) len room ≡ accepted d (close_tally e len d)
   unfolding sum_plan plan_passes
-  sum_by held room f =
+  sum-by held room f =
       ap (λ (x : Tally). sum_by (room_for held d.counts x room) (passes e.effect e.entry.total) d x) tally-by
       ∙ λ i. sum_by (f.fits i) (f.total i) d (close_tally e len d)
 
@@ -92,7 +92,7 @@ left_by p t e packet time s = refl
 module _ (packet : List ℕ) (time : ℕ) (s : State) (h : Enters packet s) where
   module _ {t : Transaction} {e : End} (q : CloseOnly (plan_of s.decoder.high packet (world_at s)) t e Empty) (f : CloseFits e (length packet) s.decoder (held_at s) (room_of s.logs)) where
     summed : sum_plan s.decoder (held_at s) (only_close (plan_of s.decoder.high packet (world_at s)) t e Empty) (length packet) (room_of s.logs) ≡ accepted s.decoder (close_tally e (length packet) s.decoder)
-    summed = sum_by (plan_of s.decoder.high packet (world_at s)) t e Empty s.decoder (length packet) (held_at s) (room_of s.logs) f
+    summed = sum-by (plan_of s.decoder.high packet (world_at s)) t e Empty s.decoder (length packet) (held_at s) (room_of s.logs) f
 
     pub close-only-call : keeps s.decoder.high (plan_of s.decoder.high packet (world_at s)) ≡ false → {s' : State} → s' ≡ close_state t e (close_tally e (length packet) s.decoder) packet time s → (shelf : List ℕ) → PacketCall packet time s shelf 0 s' shelf
     close-only-call u c shelf =

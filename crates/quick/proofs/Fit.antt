@@ -55,8 +55,8 @@ numbers_by a b len n m f =
     (record { bytes = f.bytes; packets = f.packets; events = m.events; transactions = f.transactions; groups = m.groups; statebytes = m.statebytes; states = m.states; items = m.items; links = f.links })
 
 -- the room, of rows and numbers that fitted before, for a tally that has no other rows
-pub room_by : (a b len : ℕ) (z : Tally) (held n room : Counts) → ((m : Counts) → add_counts m z ≡ more_rows a b len m) → Within held room → Numbered n → RowsRoom a b len held n room → room_for held n z room ≡ true
-room_by a b len z held n room e w m f =
+pub room-by : (a b len : ℕ) (z : Tally) (held n room : Counts) → ((m : Counts) → add_counts m z ≡ more_rows a b len m) → Within held room → Numbered n → RowsRoom a b len held n room → room_for held n z room ≡ true
+room-by a b len z held n room e w m f =
     let p : fitting (add_counts held z) room ≡ true = ap (λ (c : Counts). fitting c room) (e held) ∙ fits_by a b len held room w f.rows in
     let q : numbered (add_counts n z) ≡ true = ap numbered (e n) ∙ numbers_by a b len n m f.numbers in
     λ i. p i && q i

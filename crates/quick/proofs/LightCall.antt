@@ -38,7 +38,7 @@ use Rattle.quick.specs.Room.{more_rows, RowsRoom}
 use Rattle.quick.specs.declared.shape.Shape.{Shape}
 use Rattle.quick.proofs.Calls.{Enters}
 use Rattle.quick.proofs.CloseOnly.{close-only-call, close-only-asks}
-use Rattle.quick.proofs.Fit.{off, plain, room_by, room_fits}
+use Rattle.quick.proofs.Fit.{off, plain, room-by, room_fits}
 use Rattle.quick.proofs.LightEnd.{quieted, stored, light-is}
 
 -- ---- the entry of the end
@@ -131,7 +131,7 @@ no-request (IndexData n waited i) h = refl
 pub light-closes : (e : End) (len : ℕ) (d : Decoder) (held room : Counts) → Within held room → Numbered d.counts → LightRoom e len held d.counts room → CloseFits e len d held room
 light-closes e len d held room w m l =
     record {
-      fits = room_by 0 (link_rows e.update e.effect) len (close_tally e len d) held d.counts room (light-counts e len d l.quiet l.counts) w m l.fits;
+      fits = room-by 0 (link_rows e.update e.effect) len (close_tally e len d) held d.counts room (light-counts e len d l.quiet l.counts) w m l.fits;
       total = l.total;
       device = no-device e.effect l.counts;
       request = no-request e.effect l.counts;

@@ -52,7 +52,7 @@ use Rattle.packet.specs.declared.sum.Sum.{Sum}
 use Rattle.packet.proofs.Answers.{desk_by}
 use Rattle.quick.specs.Begin.{only_begin, rest_end, unended, BeginRest, Begins}
 use Rattle.quick.specs.Room.{RowsRoom}
-use Rattle.quick.proofs.BeginOnly.{shape, begin_sum, sum_by, left_by, BeginPlan, only-plan}
+use Rattle.quick.proofs.BeginOnly.{shape, begin_sum, sum-by, left_by, BeginPlan, only-plan}
 use Rattle.quick.proofs.Calls.{Enters, well}
 
 -- ---- an entry stored as it was loaded
@@ -132,7 +132,7 @@ module _ (packet : List ℕ) (time : ℕ) (s : State) (h : Enters packet s) wher
           plan = with_rest (only_begin p row t l Current) e;
           is = rest_shape;
           summed = rest_sum p e row t l s.decoder (held_at s) (length packet) (room_of s.logs)
-              ∙ sum_by p t Current s.decoder (length packet) row l (held_at s) (room_of s.logs) (well packet time s h).counts (well packet time s h).numbered f;
+              ∙ sum-by p t Current s.decoder (length packet) row l (held_at s) (room_of s.logs) (well packet time s h).counts (well packet time s h).numbered f;
           left = ap (λ (y : Desk). after z (begun_desk (only_begin p row t l Current).begin y)) rested ∙ left_by p t packet time s row l;
           kept = ap (λ (b : Bool). b || false) (ap (keeps s.decoder.high) (sym rest_shape) ∙ u);
           wants = λ a. let b = subst (λ (y : Desk). BeginAsks (only_begin p row t l Current).begin y) rested a.begin in (b.there, (b.few, b.transactions));

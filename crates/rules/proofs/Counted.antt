@@ -115,15 +115,15 @@ states f i (suc m) = ap suc (states f (suc i) m)
 
 -- closing rows are in the link log, ends in none
 
-close_row : (k : ℕ) → k < 10 → (p : Phase) (x i : ℕ) (js : List Row) → words_in k (close_row p x i js) ≡ words_in k js
-close_row k h None x i js = refl
-close_row k h Early x i js = refl
-close_row k h Active x i js = refl
-close_row k h Ended x i js = rw (ne_eqb 10 k (λ e. omega arith))
+close-row : (k : ℕ) → k < 10 → (p : Phase) (x i : ℕ) (js : List Row) → words_in k (close_row p x i js) ≡ words_in k js
+close-row k h None x i js = refl
+close-row k h Early x i js = refl
+close-row k h Active x i js = refl
+close-row k h Ended x i js = rw (ne_eqb 10 k (λ e. omega arith))
 
 close-rows : (k : ℕ) → k < 10 → (c i : ℕ) (f : ℕ → Endpoint) (js : List Row) → words_in k (close_rows c i f js) ≡ words_in k js
 close-rows k h zero i f js = refl
-close-rows k h (suc c) i f js = close_row k h (f c).phase c i (close_rows c i f js) ∙ close-rows k h c i f js
+close-rows k h (suc c) i f js = close-row k h (f c).phase c i (close_rows c i f js) ∙ close-rows k h c i f js
 
 over-row : (k : ℕ) → k < 10 → (p : Phase) (x i : ℕ) (js : List Row) → words_in k (over_row p x i js) ≡ words_in k js
 over-row k h None x i js = refl

@@ -36,7 +36,7 @@ use Rattle.update.specs.declared.Then.TheVariants.{Keep, Begin, BeginFailed, Las
 use Rattle.update.specs.declared.Update.{Update}
 use Rattle.update.proofs.After.{act-entry, act-other}
 use Rattle.update.proofs.Decided.{early-start-is, early-append-is}
-use Rattle.plan.proofs.Frame.{Parts, by_parts, other_after}
+use Rattle.plan.proofs.Frame.{Parts, by_parts, other-after}
 use Rattle.demands.specs.Shelf.{Agree}
 use Rattle.demands.proofs.Alike.{fewer}
 use Rattle.unread.proofs.Stages.{never, is_data, awaits}
@@ -315,7 +315,7 @@ close-awaits e = ap (λ (b : Bool). b && (e.done && is_data (stage_of (direction
     by Ended = refl
 
 pub other-awaits : (u : Update) (x j : ℕ) (w : World) → (j ≡ x → ⊥) → awaits ((act u x w).endpoints j) ≡ awaits (w.endpoints j)
-other-awaits u x j w ne = ap awaits (act-other x j ne u w) ∙ other_after awaits (λ s e. refl) close-awaits u x (w.endpoints j)
+other-awaits u x j w ne = ap awaits (act-other x j ne u w) ∙ other-after awaits (λ s e. refl) close-awaits u x (w.endpoints j)
 
 -- of its own, where its entry does
 act_tame : (u : Update) (x : ℕ) (w : World) → (awaits (entry_after u (start_pid w.transaction.style) (w.endpoints x)) ≡ true → awaits (w.endpoints x) ≡ true)

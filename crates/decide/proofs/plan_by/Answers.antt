@@ -22,7 +22,7 @@ returns c v seen = let stored-words : (i : ℕ) → i < c.args.d.counts.endpoint
     c.setup_of.ensures
     c.extract_payload-brought.ensures
     c.is_new.ensures
-    (c.decided_end-end.ensures ∙ ap (λ (k : Detail). end_if (c.is_new.result && not (eqb s.x0 0)) (end_of s.x0 c.link_entry-e.result c.extract_payload-brought.result k s.d.new false false) c.link_entry-e.result) seen.old-1)
+    (c.decided_end-end.ensures ∙ ap (λ (k : Detail). end_if (c.is_new.result && not (eqb s.x0 0)) (end_of s.x0 c.link_entry-e.result c.extract_payload-brought.result k s.d.last false false) c.link_entry-e.result) seen.old)
     c.start_pid.ensures
     c.entry_ended-e0.ensures
     c.last_ended-last.ensures

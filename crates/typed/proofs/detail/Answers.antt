@@ -1,4 +1,4 @@
-use Prim.Native.Nat.{◌<◌}
+use Prim.Native.Nat.{ℕ, ◌<◌}
 use mathlib.Core.Path.{◌≡◌}
 use mathlib.Core.Bool.{false}
 use Rattle.details.specs.declared.Found.TheVariants.{At}
@@ -6,9 +6,17 @@ use Rattle.rules.specs.Endpoints.{device_for}
 use Rattle.call.specs.Outcome.{is_ill, world_at}
 use Rattle.call.specs.State.{State, state, logs}
 use Rattle.typed.specs.Judges.{Judges}
-use Rattle.typed.specs.DetailLaws.{judged_at, passed, detail-refused, detail-accepted}
+use Rattle.typed.specs.DetailLaws.{judged_at, passed, detail-refused, detail-accepted, found_below}
 use Rattle.typed.proofs.detail.Goals as goal
-use Rattle.std.proofs.Common.{◌-◌}
+use Rattle.call.specs.OutcomeLaws.{sound}
+use Rattle.std.proofs.Common.{arith, ◌-◌}
+
+-- The row of the device that stands for the address is one of the 64.
+within : (l : State) (address : ℕ) (at : ℕ) → device_for address (world_at l) ≡ At at → is_ill l ≡ false → at < 64
+within l address at placed well =
+    let b = found_below l address at placed in
+    let n = (sound l well).0.counts.few_devices in
+    omega arith
 
 pub returns-then-answer-ne0 : goal.returns-then-answer-ne0
 returns-then-answer-ne0 c = let lent : State = state c.args.d c.args.devices c.args.table.now
@@ -17,10 +25,20 @@ returns-then-answer-ne0 c = let lent : State = state c.args.d c.args.devices c.a
     let a = c.args in detail-refused a.address a.number a.direction a.kind a.max (lent) _ _ (verdict) c.if-answer-ne0.true
 
 pub offset_bounds-devices-at : goal.offset_bounds-devices-at
-offset_bounds-devices-at c = ?
+offset_bounds-devices-at c = let lent : State = state c.args.d c.args.devices c.args.table.now
+    (logs c.args.bytes.now c.args.device_rows.now c.args.endpoint_rows.now c.args.packets.now c.args.events.now c.args.transactions.now c.args.groups.now c.args.statebytes.now c.args.states.now c.args.items.now c.args.links.now c.args.requests.now) in
+    let a = c.args in
+    let verdict = judged_at lent a.address a.number a.direction a.kind _ c.room_of-room.ensures _ _ c.judged-verdict.ensures in
+    let h = within lent a.address _ (verdict.place c.if-answer-ne0.false) (passed verdict c.if-answer-ne0.false).0 in
+    omega arith
 
 pub bounds-devices-at : goal.bounds-devices-at
-bounds-devices-at c = ?
+bounds-devices-at c = let lent : State = state c.args.d c.args.devices c.args.table.now
+    (logs c.args.bytes.now c.args.device_rows.now c.args.endpoint_rows.now c.args.packets.now c.args.events.now c.args.transactions.now c.args.groups.now c.args.statebytes.now c.args.states.now c.args.items.now c.args.links.now c.args.requests.now) in
+    let a = c.args in
+    let verdict = judged_at lent a.address a.number a.direction a.kind _ c.room_of-room.ensures _ _ c.judged-verdict.ensures in
+    let h = within lent a.address _ (verdict.place c.if-answer-ne0.false) (passed verdict c.if-answer-ne0.false).0 in
+    h
 
 pub set_detail-requires : goal.set_detail-requires
 set_detail-requires c = let lent : State = state c.args.d c.args.devices c.args.table.now
@@ -30,10 +48,20 @@ set_detail-requires c = let lent : State = state c.args.d c.args.devices c.args.
     let the_rest = (told).1 in record { number_bound = the_rest.0; direction_bound = the_rest.1 }
 
 pub offset_bounds-changed-at : goal.offset_bounds-changed-at
-offset_bounds-changed-at c = ?
+offset_bounds-changed-at c = let lent : State = state c.args.d c.args.devices c.args.table.now
+    (logs c.args.bytes.now c.args.device_rows.now c.args.endpoint_rows.now c.args.packets.now c.args.events.now c.args.transactions.now c.args.groups.now c.args.statebytes.now c.args.states.now c.args.items.now c.args.links.now c.args.requests.now) in
+    let a = c.args in
+    let verdict = judged_at lent a.address a.number a.direction a.kind _ c.room_of-room.ensures _ _ c.judged-verdict.ensures in
+    let h = within lent a.address _ (verdict.place c.if-answer-ne0.false) (passed verdict c.if-answer-ne0.false).0 in
+    omega arith
 
 pub bounds-changed-at : goal.bounds-changed-at
-bounds-changed-at c = ?
+bounds-changed-at c = let lent : State = state c.args.d c.args.devices c.args.table.now
+    (logs c.args.bytes.now c.args.device_rows.now c.args.endpoint_rows.now c.args.packets.now c.args.events.now c.args.transactions.now c.args.groups.now c.args.statebytes.now c.args.states.now c.args.items.now c.args.links.now c.args.requests.now) in
+    let a = c.args in
+    let verdict = judged_at lent a.address a.number a.direction a.kind _ c.room_of-room.ensures _ _ c.judged-verdict.ensures in
+    let h = within lent a.address _ (verdict.place c.if-answer-ne0.false) (passed verdict c.if-answer-ne0.false).0 in
+    h
 
 pub returns : goal.returns
 returns c = let lent : State = state c.args.d c.args.devices c.args.table.now

@@ -20,12 +20,7 @@ group_event-requires c = let first : Memory = memory c.args.d c.args.table.now c
 
 pub returns : goal.returns
 unfolding event_rows
-returns c = let linked : let a = c.args in OnLinks (when a.row (event_linked a.id)) a.d a.table.now a.links-1.now c.link_event-d.result c.link_event-d.new.table c.link_event-d.new.links = c.link_event-d.ensures in
-    let second : Memory = let s = c in
-    memory c.link_event-d.result c.link_event-d.new.table s.args.groups.now s.args.statebytes.now s.args.states.now s.args.items.now c.link_event-d.new.links in
-    let grouped : memory c.group_event.result c.group_event.new.table c.group_event.new.groups c.group_event.new.statebytes c.group_event.new.states c.group_event.new.items c.group_event.new.links
-    ≡ when c.args.group (event_grouped c.args.n c.args.start) (second) = c.group_event.ensures in
-    let s = c in
-    grouped
-    ∙ ap (when s.args.group (event_grouped s.args.n s.args.start))
-    (linked s.args.groups.now s.args.statebytes.now s.args.states.now s.args.items.now)
+returns c = let s = c.args in
+    c.group_event.ensures
+    ∙ ap (when s.group (event_grouped s.n s.start))
+    (c.link_event-d.ensures s.groups.now s.statebytes.now s.states.now s.items.now)

@@ -5,4 +5,4 @@ use Rattle.std.proofs.Common.{◌-◌}
 
 pub returns-in-At : goal.returns-in-At
 unfolding entry_at found_endpoint
-returns-in-At c = simp c.in-At.is.1 c.find_endpoint.ensures
+returns-in-At c = simp c.in-At.is c.find_endpoint.ensures
