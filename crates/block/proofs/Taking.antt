@@ -9,7 +9,7 @@ use Rattle.record.specs.declared.Decoder.{Decoder}
 use Rattle.details.specs.declared.Device.{Device}
 use Rattle.trace.specs.declared.clock.Clock.{Clock}
 use Rattle.call.specs.State.{Logs, State, state}
-use Rattle.call.specs.StateLaws.{SameSizes}
+use Rattle.call.proofs.StateLaws.{SameSizes}
 use Rattle.step.specs.Block.{Stand, stand, Takes}
 use Rattle.step.specs.Step.{Steps}
 use Rattle.step.specs.declared.Stepped.{Stepped}

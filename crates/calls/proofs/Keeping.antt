@@ -15,24 +15,24 @@ use Rattle.details.specs.declared.Device.{Device}
 use Rattle.endpoints.specs.Table.{flag_of}
 use Rattle.record.specs.declared.Decoder.{Decoder}
 use Rattle.handle.specs.Words.{decoder_in, devices_in, stored}
-use Rattle.handle.specs.WordsLaws.{flag_one}
+use Rattle.handle.proofs.WordsLaws.{flag_one}
 use Rattle.trace.specs.Trace.{next_at}
 use Rattle.trace.specs.declared.clock.Clock.{Clock}
 use Rattle.call.specs.Outcome.{accepts}
 use Rattle.call.specs.State.{Logs, State, state, room_of}
 use Rattle.start.specs.Fresh.{Makes, no_devices}
-use Rattle.start.specs.FreshLaws.{made_on}
+use Rattle.start.proofs.FreshLaws.{made_on}
 use Rattle.packet.specs.Call.{PacketCall}
-use Rattle.packet.specs.CallLaws.{packet-kept}
+use Rattle.packet.proofs.CallLaws.{packet-kept}
 use Rattle.events.specs.Call.{EventCall, FinishCall}
 use Rattle.step.specs.Block.{Stand, stand, Takes}
 use Rattle.step.specs.Block.Takes.{done, stops, goes}
-use Rattle.step.specs.BlockLaws.{gives_same}
+use Rattle.step.proofs.BlockLaws.{gives_same}
 use Rattle.pcap.specs.Pcap as pcap
 use Rattle.pcap.specs.declared.Exported.{Exported}
 use Rattle.pcap.specs.declared.Format.{Format}
 use Rattle.import.specs.Import as import
-use Rattle.import.specs.ImportLaws.{gives-kept}
+use Rattle.import.proofs.ImportLaws.{gives-kept}
 use Rattle.export.specs.Record.{size_in, ExportsIn}
 use Rattle.calls.specs.Block.{clock_in, clock_words, BlockKept}
 use Rattle.calls.specs.Calls.{state_in, Kept, FreshKept, PacketKept, EventKept, FinishKept}

@@ -6,7 +6,7 @@ use Rattle.usb.specs.declared.fields.Token.{Token}
 use Rattle.transaction.specs.Table.{pick, only, ◌or◌}
 use Rattle.details.specs.Search.{first_from, last_of}
 use Rattle.details.specs.Lookup.{found_device}
-use Rattle.details.specs.SearchLaws.{First, Last, first-is, last-is}
+use Rattle.details.proofs.SearchLaws.{First, Last, first-is, last-is}
 use Rattle.details.specs.Details.{bare, details_of}
 use Rattle.details.specs.Kind.{Invalid, Framing}
 use Rattle.details.specs.declared.Detail.{Detail}

@@ -6,7 +6,7 @@ use Rattle.endpoints.specs.Table.{entry_at}
 use Rattle.details.specs.declared.Device.{Device}
 use Rattle.endpoints.specs.declared.Endpoint.{Endpoint}
 use Rattle.record.specs.Formed.{holds}
-use Rattle.record.specs.FormedLaws.{WellFormed}
+use Rattle.record.proofs.FormedLaws.{WellFormed}
 use Rattle.record.specs.declared.Counts.{Counts}
 use Rattle.record.specs.declared.Decoder.{Decoder}
 

@@ -21,7 +21,7 @@ use Rattle.transaction.specs.declared.Style.{Style}
 use Rattle.transaction.specs.declared.Style.TheVariants.{Nothing, Simple, Split, Token}
 use Rattle.transaction.specs.declared.Transaction.{Transaction}
 use Rattle.details.specs.Details.{fresh}
-use Rattle.details.specs.DetailsLaws.{type-kept}
+use Rattle.details.proofs.DetailsLaws.{type-kept}
 use Rattle.details.specs.declared.Detail.{Detail}
 use Rattle.details.specs.declared.Device.{Device}
 use Rattle.details.specs.declared.Found.{Found}

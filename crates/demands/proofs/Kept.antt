@@ -9,24 +9,24 @@ use Rattle.transaction.specs.Table.{pick}
 use Rattle.transaction.specs.declared.Transaction.{Transaction}
 use Rattle.details.specs.Details as details
 use Rattle.endpoints.specs.Table.{word_at, entry_at, new_endpoint, first_at}
-use Rattle.endpoints.specs.TableLaws.{entry_ext}
+use Rattle.endpoints.proofs.TableLaws.{entry_ext}
 use Rattle.endpoints.specs.Word as word
 use Rattle.details.specs.declared.Device.{Device}
 use Rattle.endpoints.specs.declared.Endpoint.{Endpoint}
 use Rattle.rules.specs.Decoder.{fresh}
 use Rattle.rules.specs.Demand.{Call, call}
-use Rattle.rules.specs.Reach.{begin}
+use Rattle.rules.proofs.Reach.{begin}
 use Rattle.rules.specs.Rows.{Row}
 use Rattle.rules.specs.World.{World}
 use Rattle.rules.proofs.Counted.{Counted, counts}
 use Rattle.rules.proofs.Demand.{Sound, Like, sound, sound_like, always}
-use Rattle.record.specs.FreshLaws.{fresh_beyond, fresh-first}
+use Rattle.record.proofs.FreshLaws.{fresh_beyond, fresh-first}
 use Rattle.record.specs.declared.Counts.{Counts}
 use Rattle.record.specs.declared.Decoder.{Decoder}
 use Rattle.call.specs.Outcome.{counts_after, decoder_of, accepts, world_at}
 use Rattle.call.specs.State.{Logs, State}
 use Rattle.start.specs.Fresh.{made as madeState, Makes}
-use Rattle.start.specs.FreshLaws.{fresh_stands}
+use Rattle.start.proofs.FreshLaws.{fresh_stands}
 use Rattle.demands.specs.Sequence.{Sequence, made, then, Told}
 use Rattle.demands.proofs.Steps.{Moved, moved, stayed}
 use Rattle.demands.proofs.Told.{began, counts-left, told-then, told-made}

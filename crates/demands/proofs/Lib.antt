@@ -10,3 +10,4 @@ pub mod Asked
 pub mod Shelves
 pub mod Reasons
 pub mod Mode
+pub mod SequenceLaws

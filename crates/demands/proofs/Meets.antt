@@ -5,12 +5,12 @@ use mathlib.Core.Path.{◌≡◌, refl, sym, ap, ◌∙◌}
 use mathlib.Core.List.{List, [], ◌∷◌, ◌++◌}
 use borrow.Author.Tests.{eq-eqb}
 use lib.ListN.{length, get_or}
-use Rattle.rows.specs.WidthsLaws.{log-number}
+use Rattle.rows.proofs.WidthsLaws.{log-number}
 use Rattle.details.specs.declared.Found.TheVariants.{At}
 use Rattle.endpoints.specs.declared.Phase.{Phase}
 use Rattle.endpoints.specs.declared.Phase.TheVariants.{None, Early, Active, Ended}
 use Rattle.rules.specs.Demand.{Demand3, links_of}
-use Rattle.rules.specs.Reach.{OnLinks}
+use Rattle.rules.proofs.Reach.{OnLinks}
 use Rattle.rules.specs.Marks.{Mark, other, started, ended, item, closed, mark, marks, closings, items, last_ended, Asserted}
 use Rattle.rules.specs.Rows.{Row, E}
 use Rattle.rules.specs.World.{phase}

@@ -5,7 +5,7 @@ use mathlib.Core.Bool.{Bool, true, false}
 use mathlib.Core.List.{List, [], ◌∷◌, map}
 use lib.ListN.{length}
 use Rattle.usb.specs.Packet.{reason_of, checked_of}
-use Rattle.usb.specs.Laws.{why_of, why-is, reason-none}
+use Rattle.usb.proofs.Laws.{why_of, why-is, reason-none}
 use Rattle.usb.specs.declared.Checked.{Checked}
 use Rattle.usb.specs.declared.Checked.TheVariants.{Valid, Malformed}
 use Rattle.transaction.specs.Payload.{extract_payload}

@@ -19,7 +19,7 @@ use Rattle.rules.specs.Transactions.{is_dropped, shelf_with}
 use Rattle.rules.specs.declared.Slot.TheVariants.{Empty}
 use Rattle.record.specs.Answers.{Tests, packet_tests}
 use Rattle.call.specs.Outcome.{is_ill, is_full, is_over, any_over, counts_after, decoder_of, Left, Answers, world_at}
-use Rattle.call.specs.OutcomeLaws.{unique}
+use Rattle.call.proofs.OutcomeLaws.{unique}
 use Rattle.call.specs.State.{State}
 use Rattle.update.specs.Update.{when}
 use Rattle.plan.specs.Devices.{asks, length_of}

@@ -6,10 +6,10 @@ use Rattle.rules.specs.Decoder.{handle_event, finish}
 use Rattle.rules.specs.Demand.{Call, packet, event, detail, finishing, call}
 use Rattle.rules.specs.Endpoints.{device_for}
 use Rattle.record.specs.Answers.{Tests, first_of, detail_tests}
-use Rattle.record.specs.AnswersLaws.{Passed}
+use Rattle.record.proofs.AnswersLaws.{Passed}
 use Rattle.record.specs.RoomLaws.{Roomy}
 use Rattle.call.specs.Outcome.{is_ill, counts_after, Left, Answers, accepts, world_at}
-use Rattle.call.specs.OutcomeLaws.{sound}
+use Rattle.call.proofs.OutcomeLaws.{sound}
 use Rattle.call.specs.State.{State, room_of}
 use Rattle.typed.specs.Detail.{Details}
 use Rattle.packet.specs.Call.{tests_of}

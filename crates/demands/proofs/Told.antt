@@ -7,7 +7,7 @@ use mathlib.Core.List.{List, [], ◌++◌}
 use lib.ListN.{length, take, drop, length-append}
 use lib.Seq.{sets, sets-eq, length-take-le, take_at}
 use Rattle.rows.specs.Widths.{place}
-use Rattle.rows.specs.WidthsLaws.{each-log, log-number}
+use Rattle.rows.proofs.WidthsLaws.{each-log, log-number}
 use Rattle.details.specs.Details as details
 use Rattle.details.specs.declared.Device.{Device}
 use Rattle.rules.specs.Decoder.{fresh}
@@ -21,9 +21,9 @@ use Rattle.record.specs.declared.Counts.{Counts}
 use Rattle.record.specs.declared.Decoder.{Decoder}
 use Rattle.call.specs.Outcome.{counts_after, decoder_of, world_at}
 use Rattle.call.specs.State.{Logs, State, log_at, count_at, room_of}
-use Rattle.call.specs.StateLaws.{within-logs}
+use Rattle.call.proofs.StateLaws.{within-logs}
 use Rattle.start.specs.Fresh.{made, Makes}
-use Rattle.start.specs.FreshLaws.{fitted}
+use Rattle.start.proofs.FreshLaws.{fitted}
 use Rattle.demands.specs.Sequence.{Told}
 use Rattle.demands.proofs.Steps.{Moved}
 

@@ -15,7 +15,7 @@ use Rattle.descriptors.specs.Chosen.{configuration_choice, interface_choice, is_
 use Rattle.descriptors.specs.Store.{without, left_by, added_by}
 use Rattle.descriptors.specs.Entries.{fitting}
 use Rattle.descriptors.specs.Complete.{note_of, with_max, device_after}
-use Rattle.descriptors.specs.FateLaws.{Deed, Begins, Comes, Ends, Known, unknowing, learns_all}
+use Rattle.descriptors.proofs.FateLaws.{Deed, Begins, Comes, Ends, Known, unknowing, learns_all}
 use Rattle.descriptors.specs.declared.request.Kind.TheVariants.{DeviceRead, ConfigurationRead, SetConfiguration, SetInterface, Other}
 
 -- a disk: one interface, bulk endpoints 81 and 02 of 512 bytes

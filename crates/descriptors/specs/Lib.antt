@@ -6,16 +6,3 @@ pub mod Steps
 pub mod Chosen
 pub mod Laid
 pub mod Complete
-pub mod WholeLaws
-pub mod EntriesLaws
-pub mod StepLaws
-pub mod Configuration
-pub mod ReadBack
-pub mod ForgetLaws
-pub mod HeldLaws
-pub mod ChosenLaws
-pub mod SetLaws
-pub mod CompleteLaws
-pub mod ShelfLaws
-pub mod FateLaws
-pub mod RowLaws

@@ -1,2 +1,4 @@
 pub mod Searches
 pub mod Entries
+pub mod DetailsLaws
+pub mod SearchLaws

@@ -2,5 +2,3 @@ pub mod Kind
 pub mod Details
 pub mod Lookup
 pub mod Search
-pub mod DetailsLaws
-pub mod SearchLaws

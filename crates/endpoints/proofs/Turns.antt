@@ -11,8 +11,8 @@ use lib.ListN.{length, set}
 use lib.Seq.{sets, get_or-set_same}
 use Rattle.endpoints.specs.Each.{each, closed, closing, state_bytes, state_word}
 use Rattle.endpoints.specs.Phases.{count}
-use Rattle.endpoints.specs.EachLaws.{each_else}
-use Rattle.endpoints.specs.StatesLaws.{state_byte}
+use Rattle.endpoints.proofs.EachLaws.{each_else}
+use Rattle.endpoints.proofs.StatesLaws.{state_byte}
 use Rattle.endpoints.specs.Table.{word_at, byte_of}
 use Rattle.endpoints.specs.Word as word
 

@@ -5,7 +5,3 @@ pub mod Each
 pub mod Phases
 pub mod States
 pub mod Find
-pub mod TableLaws
-pub mod EachLaws
-pub mod PhasesLaws
-pub mod StatesLaws

@@ -7,7 +7,7 @@ use mathlib.Core.Path.{◌≡◌, sym, ap, ◌∙◌, subst}
 use Rattle.rows.specs.One.{one}
 use Rattle.endpoints.specs.Each.{ended}
 use Rattle.endpoints.specs.Table.{entry_at, store_at}
-use Rattle.endpoints.specs.TableLaws.{load_store_same}
+use Rattle.endpoints.proofs.TableLaws.{load_store_same}
 use Rattle.endpoints.specs.declared.Endpoint.{Endpoint}
 use Rattle.update.specs.Update.{when}
 use Rattle.write.specs.Memory.{Memory, Room, memory}

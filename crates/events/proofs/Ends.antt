@@ -13,20 +13,20 @@ use Rattle.rules.specs.World.{World, change, with_slot, with_keepalive}
 use Rattle.rules.specs.declared.Slot.{Slot}
 use Rattle.rules.specs.declared.Stamp.{Stamp}
 use Rattle.update.specs.Update.{when, act}
-use Rattle.write.specs.HoldsLaws.{holds-altered}
+use Rattle.write.proofs.HoldsLaws.{holds-altered}
 use Rattle.write.specs.Memory.{Memory}
-use Rattle.write_update.specs.CarriedLaws.{holds-carried}
-use Rattle.write_update.specs.TabledLaws.{carried_tabled}
-use Rattle.record.specs.TabledLaws.{tabled_store, tabled-ended}
+use Rattle.write_update.proofs.CarriedLaws.{holds-carried}
+use Rattle.write_update.proofs.TabledLaws.{carried_tabled}
+use Rattle.record.proofs.TabledLaws.{tabled_store, tabled-ended}
 use Rattle.call.specs.State.{State}
 use Rattle.plan.specs.Sound.{EndFits}
 use Rattle.plan.specs.Step.{ended}
 use Rattle.plan.specs.declared.End.{End}
 use Rattle.plan.proofs.Frame.{Rest, act-rest, act-log}
 use Rattle.plan.proofs.Played.{event_untouched, keepalive_untouched, ended-keeps, ended-tied}
-use Rattle.write_event.specs.EndedLaws.{over-log, ended-holds as all-holds}
+use Rattle.write_event.proofs.EndedLaws.{over-log, ended-holds as all-holds}
 use Rattle.write_event.specs.Rows.{all_ended}
-use Rattle.write_event.specs.RowsLaws.{holds_alike, slot_alike, keepalive_alike}
+use Rattle.write_event.proofs.RowsLaws.{holds_alike, slot_alike, keepalive_alike}
 use Rattle.events.specs.Ended.{closed_on}
 use Rattle.events.proofs.Reached.{HoldsAt, Reached}
 

@@ -12,7 +12,7 @@ use Rattle.rules.specs.Decoder.{finish}
 use Rattle.rules.specs.Rows.{log}
 use Rattle.rules.specs.World.{World, with_slot}
 use Rattle.update.specs.Update.{when}
-use Rattle.write.specs.HoldsLaws.{holds-room}
+use Rattle.write.proofs.HoldsLaws.{holds-room}
 use Rattle.write.specs.Memory.{Memory}
 use Rattle.write.specs.declared.Written.{Written}
 use Rattle.record.specs.Answers.{first_of, finish_tests}
@@ -23,7 +23,7 @@ use Rattle.record.specs.RoomLaws.{within, numbered_is}
 use Rattle.record.specs.declared.Counts.{Counts}
 use Rattle.record.specs.declared.Decoder.{Decoder}
 use Rattle.call.specs.Outcome.{Left, is_ill, is_full, is_over, world_at}
-use Rattle.call.specs.OutcomeLaws.{refused, accepted}
+use Rattle.call.proofs.OutcomeLaws.{refused, accepted}
 use Rattle.call.specs.State.{State, state, logs, room_of, held_at}
 use Rattle.call.specs.Share.{Known, written_of, last_stamp}
 use Rattle.plan.specs.Ending.{slot_ended, ending_of, end_played}

@@ -24,13 +24,13 @@ use Rattle.tally.specs.Tally.{in_log, Adds}
 use Rattle.tally.specs.declared.add.Tally.{Tally}
 use Rattle.write.specs.Memory.{Memory}
 use Rattle.event.specs.Event.{adds_row, adds_group}
-use Rattle.write_event.specs.TabledLaws.{event-rows_tabled}
+use Rattle.write_event.proofs.TabledLaws.{event-rows_tabled}
 use Rattle.record.specs.Answers.{first_of}
 use Rattle.record.specs.Bools.{both}
 use Rattle.record.specs.Room.{fitting, numbered}
 use Rattle.record.specs.RoomLaws.{Within, within, numbered_is}
 use Rattle.call.specs.Outcome.{Left, is_ill, is_full, is_over, world_at}
-use Rattle.call.specs.OutcomeLaws.{refused, accepted}
+use Rattle.call.proofs.OutcomeLaws.{refused, accepted}
 use Rattle.call.specs.State.{State, state, logs, room_by, room_of, held_at}
 use Rattle.call.specs.Share.{Known}
 use Rattle.plan.specs.Ending.{ending_of, end_played}

@@ -9,3 +9,4 @@ pub mod Before
 pub mod Tail
 pub mod Happens
 pub mod Parts
+pub mod CallLaws

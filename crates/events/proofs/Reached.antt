@@ -9,7 +9,7 @@ use lib.ListN.{length, get_or}
 use lib.Seq.{sets}
 use Rattle.endpoints.specs.Word as word
 use Rattle.rows.specs.Widths.{event_width, packet_width, transaction_width}
-use Rattle.rows.specs.WidthsLaws.{each-log}
+use Rattle.rows.proofs.WidthsLaws.{each-log}
 use Rattle.transaction.specs.Payload.{start_pid}
 use Rattle.details.specs.Search.{blank}
 use Rattle.rules.specs.Rows.{Row, log}
@@ -18,16 +18,16 @@ use Rattle.rules.specs.declared.EventState.{EventState}
 use Rattle.rules.specs.declared.Slot.{Slot}
 use Rattle.tally.specs.Tally.{in_log, Adds}
 use Rattle.tally.specs.declared.add.Tally.{Tally}
-use Rattle.write.specs.Holds.{Holds, Space, Worded}
-use Rattle.write.specs.HoldsLaws.{holds-start}
+use Rattle.write.proofs.Holds.{Holds, Space, Worded}
+use Rattle.write.proofs.HoldsLaws.{holds-start}
 use Rattle.write.specs.Memory.{Memory, memory}
 use Rattle.write.specs.declared.Written.{Written}
-use Rattle.record.specs.FormedLaws.{WellFormed}
+use Rattle.record.proofs.FormedLaws.{WellFormed}
 use Rattle.record.specs.RoomLaws.{Within, Numbered}
-use Rattle.record.specs.TabledLaws.{Tabled, tabled_start, first-kept}
+use Rattle.record.proofs.TabledLaws.{Tabled, tabled_start, first-kept}
 use Rattle.record.specs.declared.Counts.{Counts}
 use Rattle.call.specs.Outcome.{Appends, Left, counts_after, decoder_of, world_at}
-use Rattle.call.specs.StateLaws.{word_each}
+use Rattle.call.proofs.StateLaws.{word_each}
 use Rattle.call.specs.State.{Logs, State, state, logs, room_by, room_of, held_at}
 use Rattle.rules.specs.declared.Stamp.{Stamp}
 use Rattle.call.specs.Share.{Known, written_of, tied}

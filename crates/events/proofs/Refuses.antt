@@ -8,7 +8,7 @@ use Rattle.rules.specs.World.{World}
 use Rattle.record.specs.Answers.{first_of, event_tests}
 use Rattle.record.specs.declared.Counts.{Counts}
 use Rattle.call.specs.Outcome.{Answers, accepts, is_ill}
-use Rattle.call.specs.OutcomeLaws.{refused, ill_by}
+use Rattle.call.proofs.OutcomeLaws.{refused, ill_by}
 use Rattle.call.specs.State.{State, room_of}
 use Rattle.call.specs.Share.{first_tests}
 

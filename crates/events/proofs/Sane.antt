@@ -6,14 +6,14 @@ use mathlib.Core.Path.{◌≡◌, refl, sym, ap, subst}
 use Rattle.rows.specs.One.{one}
 use Rattle.transaction.specs.Payload.{start_pid}
 use Rattle.endpoints.specs.Table.{entry_at}
-use Rattle.endpoints.specs.TableLaws.{fits-entry}
+use Rattle.endpoints.proofs.TableLaws.{fits-entry}
 use Rattle.tally.specs.Tally.{Adds}
 use Rattle.update.specs.Update.{when}
 use Rattle.write.specs.Memory.{Room}
 use Rattle.record.specs.declared.Counts.{Counts}
-use Rattle.record.specs.FormedLaws.{WellFormed}
+use Rattle.record.proofs.FormedLaws.{WellFormed}
 use Rattle.call.specs.Outcome.{is_ill, world_at}
-use Rattle.call.specs.OutcomeLaws.{sound}
+use Rattle.call.proofs.OutcomeLaws.{sound}
 use Rattle.call.specs.State.{State, room_of, held_at}
 use Rattle.call.specs.Share.{Known}
 use Rattle.decide.specs.Ready.{Ready, ready}

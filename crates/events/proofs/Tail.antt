@@ -18,12 +18,12 @@ use Rattle.rules.specs.declared.EventState.{EventState}
 use Rattle.rules.specs.declared.Slot.{Slot}
 use Rattle.rules.specs.declared.Stamp.{Stamp}
 use Rattle.update.specs.Update.{when}
-use Rattle.write.specs.Holds.{Space, Worded}
+use Rattle.write.proofs.Holds.{Space, Worded}
 use Rattle.write.specs.Memory.{Memory, Room, link_written}
 use Rattle.event.specs.Event.{adds_row, adds_group, is_current}
-use Rattle.write_event.specs.ActedLaws.{below, requests, keepalive_after, event_acted, event-keepalive}
+use Rattle.write_event.proofs.ActedLaws.{below, requests, keepalive_after, event_acted, event-keepalive}
 use Rattle.write_event.specs.Rows.{Able, event_linked, event_rows, starts_group}
-use Rattle.write_event.specs.RowsLaws.{holds_alike, packet_alike, event-row_alike, event_able, event_update-holds}
+use Rattle.write_event.proofs.RowsLaws.{holds_alike, packet_alike, event-row_alike, event_able, event_update-holds}
 use Rattle.write_event.proofs.Rooms.{room-groups, room-states, room-statebytes, room-items, first-asks}
 use Rattle.call.specs.State.{State}
 use Rattle.plan.proofs.Played.{Tied}

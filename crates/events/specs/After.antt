@@ -12,7 +12,7 @@ use Rattle.record.specs.declared.Counts.{Counts}
 use Rattle.record.specs.World.{world_of}
 use Rattle.record.specs.declared.Decoder.{Decoder}
 use Rattle.event.specs.Event.{told}
-use Rattle.write_event.specs.ActedLaws.{keepalive_after}
+use Rattle.write_event.proofs.ActedLaws.{keepalive_after}
 use Rattle.transaction.specs.Table.{pick}
 use Rattle.plan.specs.Ending.{slot_ended, ending_of}
 use Rattle.plan.specs.declared.Ending.{Ending}

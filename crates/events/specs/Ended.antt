@@ -1,7 +1,7 @@
 -- Inner (cited by private contracts alone): the current transaction's end by an event or by finish, on memory (write, Memory), and what carrying it out asks.
 use Rattle.std.specs.Prelude.{ℕ, ◌+◌, ◌^◌, ◌<◌, ◌≤◌, Bool, true, ◌≡◌, length}
 use Rattle.endpoints.specs.Word as word
-use Rattle.endpoints.specs.TableLaws.{Fits}
+use Rattle.endpoints.proofs.TableLaws.{Fits}
 use Rattle.rules.specs.Groups.{becomes}
 use Rattle.update.specs.Update.{when}
 use Rattle.write.specs.Memory.{Memory, Room, altered}

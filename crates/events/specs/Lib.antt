@@ -1,4 +1,3 @@
 pub mod Call
-pub mod CallLaws
 pub mod Ended
 pub mod After

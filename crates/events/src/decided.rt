@@ -2,7 +2,7 @@
 ghost use Rattle.std.specs.Prelude.{◌≡◌, ◌≤◌};
 ghost use Rattle.rules.specs.Decoder.{suspend_at};
 ghost use Rattle.event.specs.Event.{act_of};
-ghost use Rattle.write_event.specs.ActedLaws.{keepalive_after};
+ghost use Rattle.write_event.proofs.ActedLaws.{keepalive_after};
 ghost use Rattle.write_event.specs.Rows.{starts_group};
 ghost use Rattle.decide.specs.Ready.{Ready};
 ghost use Rattle.record.specs.Room.{held_of};

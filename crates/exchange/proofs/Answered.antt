@@ -14,7 +14,7 @@ use Rattle.pcap.specs.Pcap.{next_at}
 use Rattle.pcap.specs.File.{Item, head_bytes, item_bytes, body_of}
 use Rattle.pcap.specs.Fits.{Fits}
 use Rattle.pcap.specs.Export.{written_format, items_of, file_bytes, late}
-use Rattle.pcap.specs.Written.{item-end, item-next}
+use Rattle.pcap.proofs.Written.{item-end, item-next}
 use Rattle.pcap.specs.declared.Next.{Next}
 use Rattle.rules.specs.Demand.{Call, packet, event, detail, finishing}
 use Rattle.rules.specs.Rows.{Row}
@@ -28,7 +28,7 @@ use Rattle.once.proofs.Follows.{follows}
 use Rattle.export.specs.Record.{source_in}
 use Rattle.import.specs.Import.{Gives, behind, Imports, ImportsFile}
 use Rattle.import.specs.Import.Imports.{done, stops, goes}
-use Rattle.import.specs.ImportLaws.{none_here}
+use Rattle.import.proofs.ImportLaws.{none_here}
 use Rattle.exchange.specs.Exchange.{item_by, packets_of, Exchange}
 use Rattle.exchange.proofs.Flows.{exported, left_behind}
 use Rattle.exchange.proofs.Back.{called, more, at-end, fits, behind-head, back}

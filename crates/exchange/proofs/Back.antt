@@ -11,8 +11,8 @@ use Rattle.pcap.specs.Pcap.{head_of, next_at, time_of}
 use Rattle.pcap.specs.File.{Item, head_bytes, item_bytes, body_of}
 use Rattle.pcap.specs.Fits.{Fit, Fits}
 use Rattle.pcap.specs.Export.{written_format, item_at, items_of, file_bytes, late}
-use Rattle.pcap.specs.ExportLaws.{source_within, fits_all}
-use Rattle.pcap.specs.Written.{item-end, item-next, item-bytes, head-written}
+use Rattle.pcap.proofs.ExportLaws.{source_within, fits_all}
+use Rattle.pcap.proofs.Written.{item-end, item-next, item-bytes, head-written}
 use Rattle.pcap.specs.declared.Head.{Head}
 use Rattle.pcap.specs.declared.Next.{Next}
 use Rattle.pcap.specs.declared.Next.TheVariants.{Packet, Cut, Fraction, End}
@@ -25,7 +25,7 @@ use Rattle.step.specs.Block.{Stand, stand}
 use Rattle.demands.specs.Sequence.{adds, Sequence, then}
 use Rattle.import.specs.Import.{Gives, behind, Imports, Opened, ImportsFile}
 use Rattle.import.specs.Import.Imports.{done, stops, goes}
-use Rattle.import.specs.ImportLaws.{none_here}
+use Rattle.import.proofs.ImportLaws.{none_here}
 use Rattle.export.specs.Record.{source_in}
 use Rattle.exchange.specs.Exchange.{item_by, packets_of, Returned}
 use Rattle.exchange.proofs.Flows.{exported}

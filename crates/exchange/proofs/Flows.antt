@@ -9,19 +9,19 @@ use lib.Seq.{get_or-take}
 use Rattle.transaction.specs.Table.{pick}
 use Rattle.details.specs.Details as details
 use Rattle.details.specs.declared.Device.{Device}
-use Rattle.rows.specs.WidthsLaws.{log-number}
+use Rattle.rows.proofs.WidthsLaws.{log-number}
 use Rattle.rules.specs.Decoder.{fresh}
 use Rattle.rules.specs.Demand.{Call, packet, event, detail, finishing, call}
 use Rattle.rules.specs.Rows.{Row, log}
 use Rattle.rules.proofs.Counted.{log-behind}
 use Rattle.rules.proofs.Demand.{Sound}
 use Rattle.record.specs.declared.Counts.{Counts}
-use Rattle.reading.specs.PacketsLaws.{Laid}
+use Rattle.reading.proofs.PacketsLaws.{Laid}
 use Rattle.pcap.specs.File.{Item}
 use Rattle.pcap.specs.Export.{Source, lent, source_of, items_from, taken_from, items_of}
-use Rattle.pcap.specs.ExportLaws.{source-whole}
+use Rattle.pcap.proofs.ExportLaws.{source-whole}
 use Rattle.call.specs.Outcome.{counts_after, accepts, world_at}
-use Rattle.call.specs.OutcomeLaws.{sound}
+use Rattle.call.proofs.OutcomeLaws.{sound}
 use Rattle.call.specs.State.{Logs, State, room_by}
 use Rattle.start.specs.Fresh as start
 use Rattle.demands.specs.Sequence.{Sequence, made, then}

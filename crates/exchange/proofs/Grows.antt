@@ -10,7 +10,7 @@ use lib.ListN.{length, take, drop, get_or, length-append, get_or-append}
 use lib.Seq.{get_or-append-add}
 use Rattle.rows.specs.One.{one}
 use Rattle.reading.specs.Packets.{packet_bytes}
-use Rattle.reading.specs.PacketsLaws.{Laid, old-packet, new-packet}
+use Rattle.reading.proofs.PacketsLaws.{Laid, old-packet, new-packet}
 use Rattle.pcap.specs.File.{Item}
 use Rattle.pcap.specs.Export.{Source, lent, item_at, item_of, event_at, kept, items_from, taken_from}
 

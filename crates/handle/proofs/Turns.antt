@@ -14,7 +14,7 @@ use Rattle.details.specs.Details.{bare}
 use Rattle.details.specs.Search.{blank}
 use Rattle.details.specs.declared.Detail.{Detail}
 use Rattle.details.specs.declared.Device.{Device}
-use Rattle.handle.specs.WordsLaws.{length_from}
+use Rattle.handle.proofs.WordsLaws.{length_from}
 use Rattle.handle.specs.Words.{from, detail_word, row_stored, rows_stored}
 
 module _ {A : Type 0} where

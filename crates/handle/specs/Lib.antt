@@ -2,4 +2,3 @@ pub mod Place
 pub mod Size
 pub mod Words
 pub mod Fits
-pub mod WordsLaws

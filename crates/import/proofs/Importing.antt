@@ -19,7 +19,7 @@ use Rattle.pcap.specs.declared.Next.TheVariants.{Packet, Cut, Fraction, End}
 use Rattle.trace.specs.declared.clock.Clock.{Clock}
 use Rattle.call.specs.Outcome.{accepts}
 use Rattle.call.specs.State.{Logs, state}
-use Rattle.call.specs.StateLaws.{SameSizes}
+use Rattle.call.proofs.StateLaws.{SameSizes}
 use Rattle.call.specs.declared.Called.{Called}
 use Rattle.packet.specs.Call.{PacketCall}
 use Rattle.step.specs.Block.{Stand, stand}
@@ -35,7 +35,7 @@ use Rattle.stream.proofs.Pieces.{timed_inside}
 use Rattle.stream.proofs.Staying.{packet-stays, stays_fit, eight_small}
 use Rattle.import.specs.Import.{Gives, behind, Imports, Unread, Opened, ImportsFile}
 use Rattle.import.specs.Import.Imports.{done, stops, goes}
-use Rattle.import.specs.PieceLaws.{counted}
+use Rattle.import.proofs.PieceLaws.{counted}
 use Rattle.import.specs.Steps.{stopped_at, called_by, imported_of, Leads, Rounds, unread}
 use Rattle.import.specs.declared.Imported.{Imported}
 

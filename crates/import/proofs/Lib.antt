@@ -1,1 +1,3 @@
 pub mod Importing
+pub mod ImportLaws
+pub mod PieceLaws

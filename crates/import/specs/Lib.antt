@@ -1,4 +1,2 @@
 pub mod Import
-pub mod ImportLaws
-pub mod PieceLaws
 pub mod Steps

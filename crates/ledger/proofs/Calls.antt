@@ -13,7 +13,7 @@ use Rattle.usb.specs.Pid.{DATA0, DATA1, DATA2, MDATA, SPLIT, MALFORMED}
 use Rattle.usb.specs.declared.Checked.{Checked}
 use Rattle.usb.specs.declared.Checked.TheVariants.{Valid, Malformed}
 use Rattle.transaction.specs.Payload.{takes_setup, yields, with_setup, with_payload, extract_payload}
-use Rattle.transaction.specs.HighLaws.{yields-any}
+use Rattle.transaction.proofs.HighLaws.{yields-any}
 use Rattle.transaction.specs.Simple.{start_status}
 use Rattle.transaction.specs.Status.{judged_of, transaction_status}
 use Rattle.transaction.specs.Table.{pick, only, ◌or◌}
@@ -46,7 +46,7 @@ use Rattle.rules.proofs.Seen.{packet-seen}
 use Rattle.rules.proofs.Stands.{resume_stands}
 use Rattle.plan.proofs.Frame.{Rest}
 use Rattle.ledger.specs.Ledger.{Why, Setup, Stray, Replaced, Forgotten, Dropped, Failed, Unused, Waited, Fate, Held, Passed, Ledger, is_held, is_waiting, is_counted, lengths_of, sum, running, data_in, is_data, enter, turn, pass_held, used_at, end_at, end_by, ends, takes, turn_by, turn_from, packet_turns, suspends, turns}
-use Rattle.ledger.specs.Account.{held_by, View, view, Account, entered, enters, InsideAt, Inside}
+use Rattle.ledger.proofs.Account.{held_by, View, view, Account, entered, enters, InsideAt, Inside}
 use Rattle.ledger.proofs.Ends.{bare, pass_account, end_account}
 use Rattle.ledger.proofs.Views.{change-seen, link-seen, item-seen, start_seen, append-seen, active-seen, place-seen, start-rest}
 

@@ -22,7 +22,7 @@ use Rattle.rules.specs.declared.Slot.{Slot}
 use Rattle.rules.specs.declared.Slot.TheVariants.{Empty, Current, Suspended}
 use Rattle.plan.proofs.Frame.{Rest}
 use Rattle.ledger.specs.Ledger.{Why, Forgotten, Passed, Ledger, is_held, is_counted, lengths_of, sum, running, turn, pass_held, end_at, end_by, ends}
-use Rattle.ledger.specs.Account.{Tally, tally, blank, View, view, Account, InsideAt, Inside}
+use Rattle.ledger.proofs.Account.{Tally, tally, blank, View, view, Account, InsideAt, Inside}
 use Rattle.ledger.proofs.Feeds.{Feeds, group_feeds}
 use Rattle.ledger.proofs.Turns.{Tells, held_tells, held-counts, left_by, counted_by, Ended, full-ended, bare-ended}
 use Rattle.ledger.proofs.Views.{seen, group-seen, group-rest}

@@ -26,7 +26,7 @@ use Rattle.rules.specs.declared.Slot.{Slot}
 use Rattle.rules.specs.declared.Slot.TheVariants.{Empty, Current, Suspended}
 use Rattle.rules.specs.declared.EventState.TheVariants.{Idle}
 use Rattle.ledger.specs.Ledger.{Why, Setup, Stray, Replaced, Forgotten, Dropped, Failed, Unused, Waited, Fate, Held, Waiting, Counted, Passed, Line, Ledger, is_held, is_waiting, is_counted, lengths_of, is_data, enter, turn, pass_held, used_at, end_at, end_by, ends, takes, turn_by, turn_from, packet_turns, suspends, turns}
-use Rattle.ledger.specs.Account.{is_earning, status_in, earns, is_settled, Among, Laws}
+use Rattle.ledger.proofs.Account.{is_earning, status_in, earns, is_settled, Among, Laws}
 use Rattle.ledger.proofs.Calls.{call_account, call-entered}
 use Rattle.ledger.proofs.Feeds.{Feeds, group_feeds}
 use Rattle.ledger.proofs.Turns.{moved}

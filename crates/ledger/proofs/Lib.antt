@@ -5,3 +5,4 @@ pub mod Ends
 pub mod Calls
 pub mod Laws
 pub mod Fates
+pub mod Account

@@ -9,7 +9,7 @@ use Rattle.transaction.specs.Table.{pick}
 use Rattle.group.specs.declared.Effect.{Effect}
 use Rattle.group.specs.declared.Effect.TheVariants.{NoEffect, NewDevice, Request, PendingData, IndexData}
 use Rattle.ledger.specs.Ledger.{Why, Waited, Fate, Held, Waiting, Counted, Passed, Ledger, is_held, is_waiting, is_counted, lengths_of, turn, used_at, end_at}
-use Rattle.ledger.specs.Account.{All, None, is_open, InOrder}
+use Rattle.ledger.proofs.Account.{All, None, is_open, InOrder}
 
 -- ---- so of every line
 

@@ -25,7 +25,7 @@ use Rattle.update.specs.declared.Then.{Then}
 use Rattle.update.specs.declared.Then.TheVariants.{Keep, Begin, BeginFailed, Last, BeginEarly}
 use Rattle.update.proofs.Decided.{update-is, early-start-is, early-append-is}
 use Rattle.plan.proofs.Frame.{Keeps, Parts, act-keeps, pick-keeps, rest_of, act-rest}
-use Rattle.ledger.specs.Account.{tally, blank, data_rows, View, view}
+use Rattle.ledger.proofs.Account.{tally, blank, data_rows, View, view}
 
 -- ---- rows that are no D rows
 

@@ -8,19 +8,19 @@ use mathlib.Core.Path.{◌≡◌, refl, sym, ap, subst}
 use lib.ListN.{length, replicate, length-append, length-replicate}
 use Rattle.text.specs.Append.{Room, Appended}
 use Rattle.text.specs.Lines.{longest, details_line, refused_line}
-use Rattle.text.specs.Lengths.{details-fits, refused-fits}
+use Rattle.text.proofs.Lengths.{details-fits, refused-fits}
 use Rattle.text.specs.Words.{too_long}
 use Rattle.record.specs.RoomLaws.{Within}
 use Rattle.record.specs.declared.Counts.{Counts}
 use Rattle.call.specs.State.{Logs, State, room_by, room_of}
 use Rattle.trace.specs.Details.{details_of}
 use Rattle.lines.specs.Listing.{listing, Counted, rows_of}
-use Rattle.lines.specs.ListingLaws.{counted, listing-fits, listed, listing-listed}
+use Rattle.lines.proofs.ListingLaws.{counted, listing-fits, listed, listing-listed}
 use Rattle.step.specs.Block.{Stand}
 use Rattle.run.specs.Run.{Ran}
 use Rattle.listing.specs.Prints.{most_input, no_table, no_rows, no_shelf, shown, Prints, Printed, text_room}
 use Rattle.listing.specs.Shows.{Listable, Shows}
-use Rattle.listing.specs.PrintsLaws.{ran_within}
+use Rattle.listing.proofs.PrintsLaws.{ran_within}
 
 -- by the answer
 pub refusal : (a p k : ℕ) (n : Counts) (l : Logs) → (a ≡ 0 → ⊥) → shown a p k n l ≡ refused_line a p

@@ -1,3 +1,2 @@
 pub mod Prints
 pub mod Shows
-pub mod PrintsLaws

@@ -6,7 +6,7 @@ use mathlib.Core.Path.{◌≡◌, refl, sym, ap, ◌∙◌}
 use lib.Dec.{eqb}
 use Rattle.transaction.specs.Table.{pick}
 use Rattle.rules.specs.Rows.{Row, BytesRow, DeviceRow, EndpointRow, PacketRow, EventRow, TransactionRow, GroupRow, StateRow, StateBytes, ItemRow, T, G, D, E, RequestRow, Over, written, log}
-use Rattle.ledger.specs.Account.{with_row, data_rows}
+use Rattle.ledger.proofs.Account.{with_row, data_rows}
 use Rattle.once.specs.Once.{totals_before}
 
 -- a row's words in the link log

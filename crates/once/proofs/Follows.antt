@@ -20,11 +20,11 @@ use Rattle.demands.specs.Sequence.{Does, Sequence, then}
 use Rattle.demands.proofs.Kept.{kept, kept_then}
 use Rattle.demands.proofs.Steps.{moved, stayed, tests_for, answers}
 use Rattle.sound.proofs.Keeps.{room-left}
-use Rattle.ledger.specs.Account.{entered, is_earning, status_in, earns, is_settled, Among}
+use Rattle.ledger.proofs.Account.{entered, is_earning, status_in, earns, is_settled, Among}
 use Rattle.ledger.specs.Ledger.{Fate, Line, Ledger, is_counted, lengths_of, sum, turns}
 use Rattle.ledger.proofs.Laws.{laws}
 use Rattle.reading.specs.Packets.{packet_bytes}
-use Rattle.reading.specs.PacketsLaws.{Laid, beyond, old-packet, new-packet}
+use Rattle.reading.proofs.PacketsLaws.{Laid, beyond, old-packet, new-packet}
 use Rattle.once.specs.Once.{bytes_of, ledger_of}
 use Rattle.once.specs.OnceLaws.{bytes_by, Follows}
 use Rattle.once.proofs.Keeps.{Keeps, keeps, account-after, small-after, rows_left, data-left, number-left}

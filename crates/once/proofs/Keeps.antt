@@ -26,16 +26,16 @@ use Rattle.record.specs.declared.Decoder.{Decoder}
 use Rattle.call.specs.Outcome.{counts_after, decoder_of, accepts, world_at}
 use Rattle.call.specs.State.{Logs, State}
 use Rattle.start.specs.Fresh.{Makes}
-use Rattle.start.specs.FreshLaws.{fresh_stands}
+use Rattle.start.proofs.FreshLaws.{fresh_stands}
 use Rattle.demands.specs.Sequence.{Sequence, made, then}
 use Rattle.demands.proofs.Kept.{kept}
 use Rattle.demands.proofs.Steps.{Moved, moved, stayed}
 use Rattle.demands.proofs.Told.{began, counts-left}
-use Rattle.ledger.specs.Account.{held_by, Tally, tally, blank, View, view, Account, entered, enters, InsideAt}
+use Rattle.ledger.proofs.Account.{held_by, Tally, tally, blank, View, view, Account, entered, enters, InsideAt}
 use Rattle.ledger.specs.Ledger.{Ledger, is_data, turns}
 use Rattle.ledger.proofs.Laws.{laws}
 use Rattle.reading.specs.Packets.{packet_bytes}
-use Rattle.reading.specs.PacketsLaws.{Laid, old-packet, new-packet, laid_more}
+use Rattle.reading.proofs.PacketsLaws.{Laid, old-packet, new-packet, laid_more}
 use Rattle.once.specs.Once.{ledger_of}
 use Rattle.once.specs.OnceLaws.{bytes_by}
 use Rattle.once.proofs.Logged.{row_by, bytes_are, rows_are}

@@ -8,7 +8,7 @@ use borrow.Author.Tests.{ltb-false, lt-ltb, le-ltb}
 use lib.Dec.{ltb}
 use lib.ListN.{length, take}
 use Rattle.rows.specs.One.{one}
-use Rattle.rows.specs.WidthsLaws.{log-number}
+use Rattle.rows.proofs.WidthsLaws.{log-number}
 use Rattle.transaction.specs.Table.{pick}
 use Rattle.endpoints.specs.Table.{entry_at}
 use Rattle.rules.specs.Rows.{Row, log}
@@ -18,10 +18,10 @@ use Rattle.record.specs.Formed.{holds}
 use Rattle.call.specs.State.{State}
 use Rattle.demands.specs.Sequence.{Sequence, Told, link_rows}
 use Rattle.demands.proofs.Kept.{kept}
-use Rattle.ledger.specs.Account.{held_by, entered}
+use Rattle.ledger.proofs.Account.{held_by, entered}
 use Rattle.ledger.specs.Ledger.{Ledger, is_waiting, is_counted, lengths_of, sum, running, is_data}
 use Rattle.reading.specs.Packets.{packet_bytes}
-use Rattle.reading.specs.PacketsLaws.{beyond}
+use Rattle.reading.proofs.PacketsLaws.{beyond}
 use Rattle.once.specs.Once.{bytes_of, data_bytes, totals, totals_before, is_uncounted, lines_of, ledger_of, Once}
 use Rattle.once.proofs.DataRows.{data-rows}
 use Rattle.once.proofs.Keeps.{Keeps, keeps}

@@ -9,7 +9,7 @@ use lib.Dec.{eqb, ltb}
 use lib.ListN.{length}
 use Rattle.rows.specs.One.{one}
 use Rattle.transaction.specs.Table.{pick}
-use Rattle.ledger.specs.Account.{entered}
+use Rattle.ledger.proofs.Account.{entered}
 use Rattle.ledger.specs.Ledger.{Fate, Held, Waiting, Counted, Passed, Line, Ledger, is_counted, lengths_of, sum, is_data}
 use Rattle.once.specs.Once.{data_bytes, is_uncounted, lines_of, Each}
 use Rattle.once.proofs.Packets.{data_packets}

@@ -5,7 +5,7 @@ use Rattle.rules.specs.Rows.{Row}
 use Rattle.call.specs.Outcome.{accepts, world_at}
 use Rattle.call.specs.State.{State}
 use Rattle.demands.specs.Sequence.{Does, Sequence, then}
-use Rattle.ledger.specs.Account.{earns, is_settled, Among}
+use Rattle.ledger.proofs.Account.{earns, is_settled, Among}
 use Rattle.ledger.specs.Ledger.{Line, is_counted, lengths_of}
 use Rattle.once.specs.Once.{bytes_of, ledger_of, Once}
 

@@ -10,7 +10,7 @@ use lib.ListN.{length, get_or, set}
 use lib.Seq.{sets}
 use Rattle.usb.specs.Packet.{reason_of}
 use Rattle.rows.specs.Widths.{packet_width}
-use Rattle.rows.specs.WidthsLaws.{each-log}
+use Rattle.rows.proofs.WidthsLaws.{each-log}
 use Rattle.transaction.specs.Payload.{start_pid}
 use Rattle.details.specs.Search.{blank}
 use Rattle.endpoints.specs.Table.{word_at, entry_at}
@@ -27,7 +27,7 @@ use Rattle.tally.specs.declared.add.Tally.{Tally}
 use Rattle.tally.proofs.Added.{adds_none}
 use Rattle.tally.proofs.Steps.{packet-adds}
 use Rattle.record.specs.Answers.{Tests, first_of, packet_tests}
-use Rattle.record.specs.FormedLaws.{WellFormed}
+use Rattle.record.proofs.FormedLaws.{WellFormed}
 use Rattle.record.specs.declared.Counts.{Counts}
 use Rattle.record.specs.declared.Decoder.{Decoder}
 use Rattle.plan.specs.Packet.{kept, plan_of}
@@ -36,8 +36,8 @@ use Rattle.plan.proofs.Packet.{plan-shelf, packet-laden, dropped-is, plan-reason
 use Rattle.plan.specs.Packet.{with_packet}
 use Rattle.plan.specs.Words.{plan_words}
 use Rattle.call.specs.Outcome.{Answers, Left, DevicesOf, TableOf, counts_after, decoder_of, is_ill, is_full, is_over, accepts, world_at}
-use Rattle.call.specs.OutcomeLaws.{sound, refused, accepted}
-use Rattle.call.specs.StateLaws.{word_each}
+use Rattle.call.proofs.OutcomeLaws.{sound, refused, accepted}
+use Rattle.call.proofs.StateLaws.{word_each}
 use Rattle.call.specs.State.{Logs, State, logs, state, held_at, room_by, room_of}
 use Rattle.call.specs.Share.{Known}
 use Rattle.tally.specs.Passes.{plan_passes}

@@ -10,7 +10,7 @@ use lib.ListN.{length}
 use Rattle.record.specs.Answers.{first_of, packet_tests}
 use Rattle.record.specs.declared.Counts.{Counts}
 use Rattle.call.specs.Outcome.{is_ill, accepts}
-use Rattle.call.specs.OutcomeLaws.{ill_by, refused}
+use Rattle.call.proofs.OutcomeLaws.{ill_by, refused}
 use Rattle.call.specs.State.{State, room_of}
 use Rattle.packet.specs.Call.{after, tests_of, PacketCall}
 use Rattle.call.specs.Share.{first_tests}

@@ -10,7 +10,7 @@ use lib.Seq.{sets, get_or-set_other}
 use Rattle.rules.specs.declared.Stamp.{Stamp}
 use Rattle.usb.specs.Packet.{reason_of}
 use Rattle.rows.specs.Widths.{event_width, packet_width, request_width}
-use Rattle.rows.specs.WidthsLaws.{each-log}
+use Rattle.rows.proofs.WidthsLaws.{each-log}
 use Rattle.rows.specs.One.{one}
 use Rattle.transaction.specs.Payload.{start_pid, extract_payload}
 use Rattle.transaction.specs.Status.{transaction_status}
@@ -20,7 +20,7 @@ use Rattle.transaction.specs.declared.Transaction.{Transaction}
 use Rattle.transaction.proofs.Laws.{extract-keeps}
 use Rattle.details.specs.Search.{blank}
 use Rattle.endpoints.specs.Table.{word_at, entry_at}
-use Rattle.endpoints.specs.TableLaws.{Fits, fits-entry}
+use Rattle.endpoints.proofs.TableLaws.{Fits, fits-entry}
 use Rattle.details.specs.declared.Device.{Device}
 use Rattle.endpoints.specs.declared.Endpoint.{Endpoint}
 use Rattle.rules.specs.Rows.{Row, Asked, asking, request_words, log}
@@ -32,8 +32,8 @@ use Rattle.rules.specs.declared.Slot.TheVariants.{Empty, Current, Suspended}
 use Rattle.tally.specs.Tally.{words_in, in_log, words_for, Adds}
 use Rattle.tally.specs.declared.add.Tally.{Tally}
 use Rattle.update.specs.Update.{when, decide_resume}
-use Rattle.record.specs.FormedLaws.{WellFormed}
-use Rattle.record.specs.TabledLaws.{first-kept}
+use Rattle.record.proofs.FormedLaws.{WellFormed}
+use Rattle.record.proofs.TabledLaws.{first-kept}
 use Rattle.record.specs.Bools.{both}
 use Rattle.record.specs.Room.{fitting, numbered}
 use Rattle.record.specs.RoomLaws.{Within, within, Short, Numbered, numbered_is}
@@ -55,8 +55,8 @@ use Rattle.shelving.proofs.Rules.{row_of, shelf-is, row_is, request-is}
 use Rattle.plan.proofs.Sound.{Sane, fits-packet, played-count, words-packet}
 use Rattle.plan.specs.Words.{plan_words}
 use Rattle.call.specs.Outcome.{counts_after, decoder_of, DevicesOf, TableOf, Appends, Left, is_ill, world_at}
-use Rattle.call.specs.OutcomeLaws.{sound}
-use Rattle.call.specs.StateLaws.{word_each}
+use Rattle.call.proofs.OutcomeLaws.{sound}
+use Rattle.call.proofs.StateLaws.{word_each}
 use Rattle.call.specs.State.{Logs, State, logs, state, room_by, room_of, held_at}
 use Rattle.call.specs.Share.{Known, tied}
 use Rattle.tally.specs.Passes.{plan_passes}
@@ -66,11 +66,11 @@ use Rattle.tally.proofs.Counted.{adds-shelf, played-adds}
 use Rattle.tally.proofs.Counts.{counts-after, world_has}
 use Rattle.tally.proofs.Formed.{three, old_stands, waiting-is}
 use Rattle.tally.proofs.Planned.{plan_suits}
-use Rattle.write.specs.Holds.{Space, Worded}
+use Rattle.write.proofs.Holds.{Space, Worded}
 use Rattle.write_packet.specs.Asked.{RoomAll, PlanAsks}
 use Rattle.write_packet.specs.Desk.{Desk, desk, performed}
-use Rattle.write_packet.specs.Held.{HoldsAll, Matches, SpaceAll, Brought}
-use Rattle.write_packet.specs.PlanLaws.{all_start, room-all, played-holds, ready}
+use Rattle.write_packet.proofs.Held.{HoldsAll, Matches, SpaceAll, Brought}
+use Rattle.write_packet.proofs.PlanLaws.{all_start, room-all, played-holds, ready}
 use Rattle.write_packet.specs.declared.Hand.{Hand}
 use Rattle.packet.specs.After.{sum_by, sum_of, sum_plan, tally_of, accepted, hand_of, decoder_by, change_by, own_row, changed, shelved, requested, Placed}
 use Rattle.packet.specs.declared.change.Change.{Change}

@@ -4,3 +4,4 @@ pub mod Changes
 pub mod Left
 pub mod Answers
 pub mod First
+pub mod CallLaws

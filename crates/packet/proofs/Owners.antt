@@ -9,13 +9,13 @@ use lib.Dec.{eqb}
 use lib.ListN.{length}
 use Rattle.rows.specs.One.{one}
 use Rattle.usb.specs.Packet.{checked_of, format_of, data_format}
-use Rattle.usb.specs.Laws.{data-length}
+use Rattle.usb.proofs.Laws.{data-length}
 use Rattle.usb.specs.Pid.{DATA0, DATA1, DATA2, MDATA, SPLIT, MALFORMED}
 use Rattle.usb.specs.Fields.{token_of, setup_data_of}
 use Rattle.usb.specs.declared.Checked.{Checked}
 use Rattle.usb.specs.declared.Checked.TheVariants.{Valid, Malformed}
 use Rattle.transaction.specs.Payload.{start_pid, yields, extract_payload}
-use Rattle.transaction.specs.HighLaws.{yields-any}
+use Rattle.transaction.proofs.HighLaws.{yields-any}
 use Rattle.transaction.specs.Status.{judged, judged_of, status_of, transaction_status}
 use Rattle.transaction.specs.Table.{pick}
 use Rattle.transaction.specs.declared.Judged.{Judged}

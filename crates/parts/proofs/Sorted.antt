@@ -8,7 +8,7 @@ use mathlib.Core.List.{List}
 use lib.ListN.{length}
 use Rattle.text.specs.Lines.{longest}
 use Rattle.lines.specs.Listing.{width_of, row}
-use Rattle.lines.specs.ListingLaws.{line-fits, state-line-fits}
+use Rattle.lines.proofs.ListingLaws.{line-fits, state-line-fits}
 use Rattle.lines.specs.declared.Kind.{Kind}
 use Rattle.parts.specs.Parts.{Told, rows_of, state_row}
 use Rattle.parts.specs.Sorts.{line_at}

@@ -9,7 +9,7 @@ use Rattle.std.proofs.Math.Path.{refl}
 use mathlib.Core.List.{List, [], ◌∷◌, ◌++◌, append_assoc}
 use borrow.Author.Tests.{le-leb, lt-leb, leb-true, ltb-true, ltb-false}
 use Rattle.std.proofs.Math.ListN.{length, length-append}
-use Rattle.rows.specs.WidthsLaws.{log-number}
+use Rattle.rows.proofs.WidthsLaws.{log-number}
 use Rattle.text.specs.Words.{title}
 use Rattle.text.specs.Lines.{longest}
 use Rattle.record.specs.declared.Counts.{Counts}

@@ -3,10 +3,5 @@ pub mod Pcap
 pub mod File
 pub mod Fits
 pub mod Reading
-pub mod PcapLaws
-pub mod StepsLaws
-pub mod Written
 pub mod Export
 pub mod Inner
-pub mod ExportLaws
-pub mod EventLaws

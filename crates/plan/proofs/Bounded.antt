@@ -19,7 +19,7 @@ use Rattle.transaction.specs.declared.Style.TheVariants.{Nothing, Simple, Split,
 use Rattle.transaction.specs.declared.Transaction.{Transaction}
 use Rattle.details.specs.Kind.{Unknown}
 use Rattle.details.specs.Search.{first_from}
-use Rattle.details.specs.SearchLaws.{First, Last, first-is, last-is}
+use Rattle.details.proofs.SearchLaws.{First, Last, first-is, last-is}
 use Rattle.endpoints.specs.declared.Endpoint.{Endpoint}
 use Rattle.details.specs.declared.Found.{Found}
 use Rattle.details.specs.declared.Found.TheVariants.{At, Nothing as Missing}

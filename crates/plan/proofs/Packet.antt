@@ -13,7 +13,7 @@ use Rattle.usb.specs.Packet.{reason_of}
 use Rattle.transaction.specs.Table.{pick}
 use Rattle.transaction.specs.Payload.{start_pid, extract_payload}
 use Rattle.transaction.specs.Status.{transaction_status}
-use Rattle.transaction.specs.StatusLaws.{status-reason}
+use Rattle.transaction.proofs.StatusLaws.{status-reason}
 use Rattle.transaction.specs.declared.Status.{Status}
 use Rattle.transaction.specs.declared.Status.TheVariants.{New, Continue, Retry, Done, Fail, Ambiguous, Invalid}
 use Rattle.transaction.specs.declared.Transaction.{Transaction}

@@ -8,7 +8,7 @@ use lib.Dec.{eqb}
 use Rattle.rows.specs.One.{one}
 use Rattle.transaction.specs.Table.{pick}
 use Rattle.transaction.specs.declared.Transaction.{Transaction}
-use Rattle.endpoints.specs.TableLaws.{Fits}
+use Rattle.endpoints.proofs.TableLaws.{Fits}
 use Rattle.endpoints.specs.Table.{with_phase, with_state, new_endpoint}
 use Rattle.endpoints.specs.Word as word
 use Rattle.details.specs.declared.Detail.{Detail}

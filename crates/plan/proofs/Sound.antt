@@ -8,7 +8,7 @@ use lib.Dec.{eqb}
 use lib.ListN.{length, get_or}
 use Rattle.rows.specs.One.{one}
 use Rattle.usb.specs.Fields.{setup_data_of}
-use Rattle.usb.specs.Laws.{valid}
+use Rattle.usb.proofs.Laws.{valid}
 use Rattle.usb.specs.Packet.{checked_of}
 use Rattle.usb.specs.declared.Checked.{Checked}
 use Rattle.usb.specs.declared.Checked.TheVariants.{Valid, Malformed}
@@ -20,7 +20,7 @@ use Rattle.transaction.specs.declared.Style.{Style}
 use Rattle.transaction.specs.declared.Transaction.{Transaction}
 use Rattle.transaction.proofs.Laws.{extract-keeps}
 use Rattle.details.specs.Details.{details_of}
-use Rattle.endpoints.specs.TableLaws.{Fits}
+use Rattle.endpoints.proofs.TableLaws.{Fits}
 use Rattle.details.specs.declared.Detail.{Detail}
 use Rattle.endpoints.specs.declared.Endpoint.{Endpoint}
 use Rattle.group.specs.declared.Effect.{Effect}

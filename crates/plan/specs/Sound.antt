@@ -1,7 +1,7 @@
 -- Inner (cited by private contracts alone): what carrying a step out asks of it and of the world before it: numbers in their ranges.
 use Rattle.std.specs.Prelude.{ℕ, ◌+◌, ◌^◌, ◌<◌, ◌≤◌, Bool, true, false, ◌≡◌, List}
 use Rattle.rows.specs.One.{one}
-use Rattle.endpoints.specs.TableLaws.{Fits}
+use Rattle.endpoints.proofs.TableLaws.{Fits}
 use Rattle.transaction.specs.Payload.{start_pid}
 use Rattle.transaction.specs.Table.{pick}
 use Rattle.rules.specs.World.{World, with_transaction, ◌▷◌}

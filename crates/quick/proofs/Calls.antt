@@ -8,11 +8,11 @@ use lib.Seq.{sets}
 use Rattle.rows.specs.Widths.{packet_width}
 use Rattle.transaction.specs.Payload.{start_pid}
 use Rattle.rules.specs.Transactions.{is_dropped}
-use Rattle.record.specs.FormedLaws.{WellFormed}
+use Rattle.record.proofs.FormedLaws.{WellFormed}
 use Rattle.plan.specs.Packet.{plan_of}
 use Rattle.plan.specs.declared.Plan.{Plan}
 use Rattle.call.specs.Outcome.{is_ill, world_at}
-use Rattle.call.specs.OutcomeLaws.{sound}
+use Rattle.call.proofs.OutcomeLaws.{sound}
 use Rattle.call.specs.Share.{Known}
 use Rattle.call.specs.State.{State, state, logs, held_at, room_of}
 use Rattle.write_packet.specs.Asked.{PlanAsks}

@@ -10,7 +10,7 @@ use Rattle.rows.specs.One.{one}
 use Rattle.rows.specs.Widths.{packet_width, link_width}
 use Rattle.details.specs.declared.Detail.{Detail}
 use Rattle.endpoints.specs.Table.{entry_at}
-use Rattle.endpoints.specs.TableLaws.{Fits, fits-entry}
+use Rattle.endpoints.proofs.TableLaws.{Fits, fits-entry}
 use Rattle.endpoints.specs.declared.Endpoint.{Endpoint}
 use Rattle.transaction.specs.Payload.{start_pid}
 use Rattle.transaction.specs.declared.Transaction.{Transaction}

@@ -13,7 +13,7 @@ use Rattle.rows.specs.Widths.{packet_width, link_width}
 use Rattle.endpoints.specs.Link as kind
 use Rattle.endpoints.specs.Word as word
 use Rattle.endpoints.specs.Table.{words, entry_at, store_at}
-use Rattle.endpoints.specs.TableLaws.{Fits, load_store_same}
+use Rattle.endpoints.proofs.TableLaws.{Fits, load_store_same}
 use Rattle.endpoints.specs.declared.Endpoint.{Endpoint}
 use Rattle.transaction.specs.Payload.{start_pid}
 use Rattle.transaction.specs.declared.Transaction.{Transaction}

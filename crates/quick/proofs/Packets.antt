@@ -15,7 +15,7 @@ use Rattle.endpoints.specs.declared.Endpoint.{Endpoint}
 use Rattle.endpoints.specs.declared.Phase.TheVariants.{Active}
 use Rattle.transaction.specs.Payload.{start_pid, extract_payload}
 use Rattle.transaction.specs.Status.{judged, transaction_status}
-use Rattle.transaction.specs.StatusLaws.{Taken, judged-is}
+use Rattle.transaction.proofs.StatusLaws.{Taken, judged-is}
 use Rattle.transaction.specs.Table.{pick}
 use Rattle.transaction.specs.declared.Judged.{Judged}
 use Rattle.transaction.specs.declared.Status.{Status}

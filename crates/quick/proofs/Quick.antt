@@ -9,7 +9,7 @@ use Rattle.rows.specs.Widths.{packet_width, transaction_width, link_width}
 use Rattle.details.specs.declared.Detail.{Detail}
 use Rattle.details.specs.declared.Device.{Device}
 use Rattle.endpoints.specs.Table.{entry_at}
-use Rattle.endpoints.specs.TableLaws.{Fits}
+use Rattle.endpoints.proofs.TableLaws.{Fits}
 use Rattle.transaction.specs.Payload.{start_pid}
 use Rattle.transaction.specs.declared.Transaction.{Transaction}
 use Rattle.rules.specs.Endpoints.{detail_of}

@@ -33,7 +33,7 @@ use Rattle.update.specs.Update.{links, decide_update}
 use Rattle.update.specs.declared.Then.TheVariants.{Last}
 use Rattle.write_update.specs.Carried.{opened, closed}
 use Rattle.record.specs.Formed.{Stored}
-use Rattle.record.specs.StoredLaws.{word-entry}
+use Rattle.record.proofs.StoredLaws.{word-entry}
 use Rattle.record.specs.declared.Counts.{Counts}
 use Rattle.record.specs.declared.Decoder.{Decoder}
 use Rattle.plan.specs.Packet.{keeps, plan_of}

@@ -9,7 +9,7 @@ use lib.ListN.{length}
 use Rattle.usb.specs.Packet.{checked_of}
 use Rattle.usb.specs.declared.Checked.{Checked}
 use Rattle.transaction.specs.Status.{judged, judged_of, transaction_status}
-use Rattle.transaction.specs.StatusLaws.{Taken, judged-is}
+use Rattle.transaction.proofs.StatusLaws.{Taken, judged-is}
 use Rattle.transaction.specs.declared.Judged.{Judged}
 use Rattle.transaction.specs.declared.Status.{Status}
 use Rattle.transaction.specs.declared.Status.TheVariants.{New, Continue, Retry, Done, Fail, Ambiguous, Invalid}

@@ -5,8 +5,3 @@ pub mod Fresh
 pub mod Answers
 pub mod Bools
 pub mod RoomLaws
-pub mod FormedLaws
-pub mod StoredLaws
-pub mod TabledLaws
-pub mod FreshLaws
-pub mod AnswersLaws

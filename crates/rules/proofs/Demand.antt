@@ -18,7 +18,7 @@ use Rattle.endpoints.specs.Table.{new_endpoint}
 use Rattle.rules.specs.Decoder as Decoder
 use Rattle.rules.specs.Marks.{Mark, marks, starts, endings, closings}
 use Rattle.rules.specs.Demand.{Call, call, up_to, Standing, none, open-one, waiting-one}
-use Rattle.rules.specs.Reach.{Reach, begin, next, OnMarks}
+use Rattle.rules.proofs.Reach.{Reach, begin, next, OnMarks}
 use Rattle.rules.proofs.Facts.{Facts, pass, extra, one}
 use Rattle.rules.proofs.Facts as facts
 use Rattle.rules.proofs.Loops.{open_of, wait_of}

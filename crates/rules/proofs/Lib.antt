@@ -14,3 +14,4 @@ pub mod Named
 pub mod Enumerated
 pub mod Reasons
 pub mod Stamps
+pub mod Reach

@@ -39,7 +39,7 @@ use Rattle.rules.specs.Events.{event_subgroup_start, event_add_group, Act, nothi
 use Rattle.rules.specs.Decoder.{append_bytes, push_packet, handle_raw_packet, suspend_at, suspend, end_phase, end_all, handle_event, finish, handle_detail}
 use Rattle.rules.specs.Decoder as Decoder
 use Rattle.rules.specs.Demand.{Call, packet, event, detail, finishing, call}
-use Rattle.rules.specs.Reach.{Reach, next, begin as reached}
+use Rattle.rules.proofs.Reach.{Reach, next, begin as reached}
 use Rattle.rules.specs.Linked.{excused, linked_at, LinkedIn, Linked}
 use Rattle.rules.specs.declared.Slot.{Slot}
 use Rattle.rules.specs.declared.Slot.TheVariants.{Empty, Current, Suspended}

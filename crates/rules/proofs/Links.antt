@@ -12,7 +12,7 @@ use Rattle.endpoints.specs.declared.Phase.TheVariants.{None}
 use Rattle.rules.specs.Rows.{Row, BytesRow, DeviceRow, EndpointRow, PacketRow, EventRow, TransactionRow, GroupRow, StateRow, StateBytes, ItemRow, T, G, D, E, RequestRow, Over, written, log}
 use Rattle.rules.specs.World.{World, phase, with_journal}
 use Rattle.rules.specs.Marks.{Mark, other, started, ended, closed, mark, marks, starts, closings, items}
-use Rattle.rules.specs.Reach.{Reach, OnMarks, OnLinks}
+use Rattle.rules.proofs.Reach.{Reach, OnMarks, OnLinks}
 use Rattle.rules.specs.Demand.{links_of, Quiet}
 use Rattle.rules.proofs.Facts.{Facts, extra}
 use Rattle.rules.proofs.Loops.{open_of, wait_of}

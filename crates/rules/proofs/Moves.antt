@@ -20,7 +20,7 @@ use Rattle.transaction.specs.declared.Style.TheVariants.{Nothing as NoStyle, Sim
 use Rattle.transaction.specs.declared.Status.{Status}
 use Rattle.transaction.specs.declared.Status.TheVariants.{New, Continue, Retry, Done, Fail, Ambiguous, Invalid}
 use Rattle.details.specs.Kind.{Unknown}
-use Rattle.details.specs.SearchLaws.{First, first-is}
+use Rattle.details.proofs.SearchLaws.{First, first-is}
 use Rattle.details.specs.Search.{first_from}
 use Rattle.details.specs.declared.Found.{Found}
 use Rattle.details.specs.declared.Found.TheVariants.{At, Nothing}

@@ -7,6 +7,5 @@ pub mod Events
 pub mod Decoder
 pub mod Marks
 pub mod Demand
-pub mod Reach
 pub mod Linked
 pub mod Tokened

@@ -14,7 +14,7 @@ use Rattle.trace.specs.declared.Header.{Header}
 use Rattle.trace.specs.declared.clock.Clock.{Clock}
 use Rattle.call.specs.State.{Logs, State, state}
 use Rattle.start.specs.Fresh.{Makes, unmade, no_devices}
-use Rattle.start.specs.FreshLaws.{made_on}
+use Rattle.start.proofs.FreshLaws.{made_on}
 use Rattle.events.specs.Call.{FinishCall}
 use Rattle.step.specs.Block.{Stand, stand, Takes}
 use Rattle.run.specs.NotMade.{not_made}

@@ -1,3 +1,2 @@
 pub mod NotMade
 pub mod Run
-pub mod RunLaws

@@ -10,7 +10,7 @@ use Rattle.details.specs.declared.Device.{Device}
 use Rattle.descriptors.specs.Kind.{kind_of}
 use Rattle.descriptors.specs.Laid.{laid}
 use Rattle.descriptors.specs.Complete.{Completes, device_by, row_with, note_by, row_by, shelf_by}
-use Rattle.descriptors.specs.RowLaws.{row_still}
+use Rattle.descriptors.proofs.RowLaws.{row_still}
 use Rattle.descriptors.specs.declared.complete.Asked.{Asked}
 use Rattle.descriptors.specs.declared.complete.Completed.{Completed}
 use Rattle.shelving.specs.Shelve.{asked_with, laid_shelf, Shelves}

@@ -20,7 +20,7 @@ use Rattle.transaction.specs.declared.Status.TheVariants.{New, Continue, Retry, 
 use Rattle.transaction.specs.declared.Style.{Style}
 use Rattle.transaction.specs.declared.Style.TheVariants.{Nothing as NoStyle, Simple, Split, Token}
 use Rattle.transaction.specs.declared.Transaction.{Transaction}
-use Rattle.details.specs.DetailsLaws.{type-kept, detail-kept}
+use Rattle.details.proofs.DetailsLaws.{type-kept, detail-kept}
 use Rattle.details.specs.Kind.{Unknown}
 use Rattle.endpoints.specs.declared.Endpoint.{Endpoint}
 use Rattle.details.specs.declared.Found.{Found}

@@ -11,7 +11,7 @@ use lib.Dec.{eqb}
 use Rattle.usb.specs.Fields.{token_of}
 use Rattle.transaction.specs.Table.{pick}
 use Rattle.transaction.specs.declared.Transaction.{Transaction}
-use Rattle.details.specs.SearchLaws.{Last, last-is}
+use Rattle.details.proofs.SearchLaws.{Last, last-is}
 use Rattle.details.specs.declared.Device.{Device}
 use Rattle.endpoints.specs.declared.Endpoint.{Endpoint}
 use Rattle.details.specs.declared.Found.{Found}
@@ -20,7 +20,7 @@ use Rattle.rules.proofs.Moves.{Spot, found-spot}
 use Rattle.rules.specs.World.{World, no_item}
 use Rattle.endpoints.specs.Table.{new_endpoint}
 use Rattle.rules.specs.Endpoints.{add_device, device_for, push_endpoint, add_endpoint_on, address_for, found, packet_endpoint_at, packet_endpoint, number_at, endpoint_of}
-use Rattle.record.specs.FormedLaws.{Special}
+use Rattle.record.proofs.FormedLaws.{Special}
 use Rattle.sound.specs.Fit.{EntryFit}
 use Rattle.sound.proofs.FitsTame.{Stands, StandsIn, longer, deviced}
 use Rattle.sound.proofs.FitsUpdate.{device_stands}

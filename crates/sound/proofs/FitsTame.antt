@@ -14,7 +14,7 @@ use Rattle.endpoints.specs.declared.Endpoint.{Endpoint}
 use Rattle.endpoints.specs.declared.Phase.{Phase}
 use Rattle.rules.specs.World.{World, no_item, more_transactions, more_groups}
 use Rattle.record.specs.Formed.{standing, holds}
-use Rattle.record.specs.FormedLaws.{Special}
+use Rattle.record.proofs.FormedLaws.{Special}
 use Rattle.sound.specs.Fit.{link_rows, EntryFit, HeldFit, Fit}
 
 -- Fit, of c endpoints f, d devices, the first at a, r transaction rows, i items with the last on l, and k link rows. The transaction t is on y;

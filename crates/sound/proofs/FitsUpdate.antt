@@ -24,7 +24,7 @@ use Rattle.group.specs.declared.GroupStatus.TheVariants.{Single, New, Continue, 
 use Rattle.rules.proofs.Keeps.{early}
 use Rattle.descriptors.specs.Complete.{note_by, row_by}
 use Rattle.descriptors.specs.Kind.{kind_of}
-use Rattle.descriptors.specs.RowLaws.{row-address}
+use Rattle.descriptors.proofs.RowLaws.{row-address}
 use Rattle.rules.specs.Rows.{RequestRow, asking}
 use Rattle.rules.specs.World.{World, push, phase, change, change_device, with_last, with_pending, with_total}
 use Rattle.rules.specs.Endpoints.{add_device, detail_of}

@@ -22,19 +22,19 @@ use Rattle.rules.specs.World.{World, with_devices}
 use Rattle.rules.proofs.Linked.{linked-after}
 use Rattle.rules.proofs.Tokened.{tokened-after}
 use Rattle.record.specs.Answers.{Tests, first_of, detail_tests}
-use Rattle.record.specs.AnswersLaws.{Passed, accepted, answer_8}
+use Rattle.record.proofs.AnswersLaws.{Passed, accepted, answer_8}
 use Rattle.record.specs.Bools.{either_true}
 use Rattle.record.specs.Room.{roomy}
-use Rattle.record.specs.FormedLaws.{WellFormed}
+use Rattle.record.proofs.FormedLaws.{WellFormed}
 use Rattle.record.specs.RoomLaws.{Roomy, roomy-is, roomy_same}
-use Rattle.record.specs.FreshLaws.{Agrees}
+use Rattle.record.proofs.FreshLaws.{Agrees}
 use Rattle.record.specs.declared.Counts.{Counts}
 use Rattle.call.specs.Outcome.{is_ill, is_full, counts_after, Answers, accepts, world_at}
-use Rattle.call.specs.OutcomeLaws.{not_true, sound}
+use Rattle.call.proofs.OutcomeLaws.{not_true, sound}
 use Rattle.call.specs.State.{Logs, State, room_of}
 use Rattle.typed.specs.Detail.{Details}
 use Rattle.start.specs.Fresh.{Makes}
-use Rattle.start.specs.FreshLaws.{fresh-well, fresh_stands}
+use Rattle.start.proofs.FreshLaws.{fresh-well, fresh_stands}
 use Rattle.packet.specs.Call.{PacketCall, tests_of}
 use Rattle.events.specs.Call.{EventCall, event_tests_of, FinishCall, finish_tests_of}
 use Rattle.sound.specs.Fit.{Fit, Paid}

@@ -8,7 +8,7 @@ use Rattle.record.specs.Formed.{every, well_formed}
 use Rattle.record.specs.Room.{long}
 use Rattle.record.specs.declared.Counts.{Counts}
 use Rattle.record.specs.declared.Decoder.{Decoder}
-use Rattle.call.specs.OutcomeLaws.{sound_by}
+use Rattle.call.proofs.OutcomeLaws.{sound_by}
 use Rattle.sound.specs.Sound.{is_paid, sound_in}
 
 false-first : (a b : Bool) → a ≡ true → false ≡ (not a && b)

@@ -15,7 +15,7 @@ use Rattle.transaction.specs.declared.Style.{Style}
 use Rattle.transaction.specs.declared.Style.TheVariants.{Nothing, Simple, Split, Token}
 use Rattle.transaction.specs.declared.Transaction.{Transaction}
 use Rattle.endpoints.specs.Phases.{count, waiting}
-use Rattle.endpoints.specs.PhasesLaws.{count_ext}
+use Rattle.endpoints.proofs.PhasesLaws.{count_ext}
 use Rattle.endpoints.specs.Table.{entry_at}
 use Rattle.details.specs.declared.Device.{Device}
 use Rattle.endpoints.specs.declared.Endpoint.{Endpoint}
@@ -30,11 +30,11 @@ use Rattle.rules.specs.declared.Slot.TheVariants.{Empty, Current, Suspended}
 use Rattle.rules.proofs.Counted.{written-width}
 use Rattle.record.specs.Bools.{both, and, nor, or_right, every_at, every_true}
 use Rattle.record.specs.Formed.{standing, held_style, may_lack, holds, every}
-use Rattle.record.specs.FormedLaws.{EntryFormed, HeldFormed, Special, resting, WellFormed, well-formed}
+use Rattle.record.proofs.FormedLaws.{EntryFormed, HeldFormed, Special, resting, WellFormed, well-formed}
 use Rattle.record.specs.RoomLaws.{Roomy, roomy_same, Short, long-short}
 use Rattle.record.specs.declared.Counts.{Counts}
 use Rattle.call.specs.Outcome.{is_ill, counts_after, decoder_of, Left, world_at}
-use Rattle.call.specs.OutcomeLaws.{same-room, sound, waiting-entries}
+use Rattle.call.proofs.OutcomeLaws.{same-room, sound, waiting-entries}
 use Rattle.call.specs.State.{State, state, held_at, room_of}
 use Rattle.sound.specs.Fit.{link_rows, Fit, in_hand, brings, Paid}
 use Rattle.sound.specs.Sound.{is_paid, sound_in, is_sound}

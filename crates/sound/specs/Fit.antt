@@ -11,7 +11,7 @@ use Rattle.rules.specs.World.{World, no_item}
 use Rattle.rules.specs.declared.Slot.{Slot}
 use Rattle.rules.specs.declared.Slot.TheVariants.{Empty, Current, Suspended}
 use Rattle.record.specs.Formed.{standing, holds}
-use Rattle.record.specs.FormedLaws.{Special}
+use Rattle.record.proofs.FormedLaws.{Special}
 
 -- ---- rows of the link log among those appended
 

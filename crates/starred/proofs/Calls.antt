@@ -12,7 +12,7 @@ use Rattle.rows.specs.One.{one}
 use Rattle.usb.specs.Fields.{setup_data_of}
 use Rattle.usb.specs.Pid.{SPLIT}
 use Rattle.usb.specs.Packet.{format_of, checked_of}
-use Rattle.usb.specs.Laws.{split-length}
+use Rattle.usb.proofs.Laws.{split-length}
 use Rattle.usb.specs.declared.Checked.TheVariants.{Valid}
 use Rattle.details.specs.Details as details
 use Rattle.details.specs.Kind.{Unknown}
@@ -39,9 +39,9 @@ use Rattle.rules.specs.declared.Slot.TheVariants.{Empty, Current, Suspended}
 use Rattle.record.specs.Answers.{first_of, packet_tests, event_tests}
 use Rattle.record.specs.Bools.{neither}
 use Rattle.record.specs.declared.Decoder.{Decoder}
-use Rattle.record.specs.FreshLaws.{Agrees}
+use Rattle.record.proofs.FreshLaws.{Agrees}
 use Rattle.call.specs.Outcome.{is_ill, is_full, is_over, any_over, counts_after, decoder_of, Left, accepts, world_at}
-use Rattle.call.specs.OutcomeLaws.{sound}
+use Rattle.call.proofs.OutcomeLaws.{sound}
 use Rattle.call.specs.State.{Logs, State, room_of}
 use Rattle.update.specs.Effect.{passes}
 use Rattle.event.specs.Event.{is_current}
@@ -57,7 +57,7 @@ use Rattle.tally.proofs.Formed.{packet-over-is}
 use Rattle.tally.proofs.Totals.{totalled-over}
 use Rattle.tally.proofs.Unpassed.{keepalive-over}
 use Rattle.start.specs.Fresh.{made, Makes}
-use Rattle.start.specs.FreshLaws.{fresh_stands}
+use Rattle.start.proofs.FreshLaws.{fresh_stands}
 use Rattle.packet.specs.Call.{after, PacketCall, tests_of}
 use Rattle.events.specs.Call.{EventCall, event_tests_of}
 use Rattle.sound.specs.Sound.{is_sound}

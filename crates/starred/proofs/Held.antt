@@ -17,7 +17,7 @@ use Rattle.endpoints.specs.declared.Endpoint.{Endpoint}
 use Rattle.transaction.specs.Table.{pick}
 use Rattle.transaction.specs.Simple.{simple_status_in}
 use Rattle.transaction.specs.High.{simple_status, is_high}
-use Rattle.transaction.specs.HighLaws.{status-in}
+use Rattle.transaction.proofs.HighLaws.{status-in}
 use Rattle.transaction.specs.declared.Status.TheVariants.{Done}
 use Rattle.transaction.specs.Status.{transaction_status}
 use Rattle.transaction.specs.declared.Transaction.{Transaction}

@@ -13,12 +13,12 @@ use Rattle.details.specs.declared.Device.{Device}
 use Rattle.rules.specs.Decoder.{fresh}
 use Rattle.rules.specs.Rows.{log}
 use Rattle.record.specs.Fresh.{counts_of, fresh_decoder, clear_table, fresh_table, refused_decoder}
-use Rattle.record.specs.FreshLaws.{clear-word}
+use Rattle.record.proofs.FreshLaws.{clear-word}
 use Rattle.record.specs.RoomLaws.{within}
 use Rattle.record.specs.declared.Decoder.{Decoder}
 use Rattle.call.specs.State.{Logs, logs, state, room_by, room_of}
 use Rattle.start.specs.Fresh.{fresh_answer, made, unmade, Makes}
-use Rattle.start.specs.FreshLaws.{fitted}
+use Rattle.start.proofs.FreshLaws.{fitted}
 
 -- ---- the table is cleared
 

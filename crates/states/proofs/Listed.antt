@@ -6,14 +6,14 @@ use mathlib.Core.List.{List, ◌∷◌, ◌++◌, []}
 use mathlib.Core.Path.{◌≡◌, refl, sym, ap, subst}
 use lib.ListN.{length, take}
 use Rattle.endpoints.specs.Word as word
-use Rattle.rows.specs.WidthsLaws.{log-number}
+use Rattle.rows.proofs.WidthsLaws.{log-number}
 use Rattle.rules.specs.Demand.{finishing}
 use Rattle.rules.specs.Rows.{Row, log}
 use Rattle.text.specs.Lines.{state_line}
 use Rattle.trace.specs.declared.clock.Clock.{Clock}
 use Rattle.record.specs.RoomLaws.{Within, all_held}
 use Rattle.record.specs.declared.Counts.{Counts}
-use Rattle.call.specs.OutcomeLaws.{sound}
+use Rattle.call.proofs.OutcomeLaws.{sound}
 use Rattle.call.specs.State.{Logs, State, room_by, room_of}
 use Rattle.lines.specs.Listing.{state_bytes, state_lines}
 use Rattle.step.specs.Block.{Stand}

@@ -8,7 +8,7 @@ use lib.ListN.{length, take, drop}
 use Rattle.details.specs.declared.Device.{Device}
 use Rattle.record.specs.declared.Decoder.{Decoder}
 use Rattle.trace.specs.Clock.{tick_of}
-use Rattle.trace.specs.Laws.{packet_inside, event_inside, detail_inside}
+use Rattle.trace.proofs.Laws.{packet_inside, event_inside, detail_inside}
 use Rattle.trace.specs.Trace.{next_at, answer_of}
 use Rattle.trace.specs.declared.Cursor.{Cursor}
 use Rattle.trace.specs.declared.Next.{Next}

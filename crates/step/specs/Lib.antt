@@ -1,4 +1,2 @@
 pub mod Block
-pub mod CutLaws
-pub mod BlockLaws
 pub mod Step

@@ -8,7 +8,7 @@ use borrow.Author.Tests.{leb-true}
 use lib.Dec.{leb, ltb}
 use lib.ListN.{length}
 use Rattle.record.specs.Bools.{both}
-use Rattle.trace.specs.Laws.{packet_inside}
+use Rattle.trace.proofs.Laws.{packet_inside}
 use Rattle.trace.specs.Trace.{next_at}
 use Rattle.trace.specs.declared.Next.{Next}
 use Rattle.trace.specs.declared.Next.TheVariants.{Packet, Event, Detail, Unknown, Cut, End}

@@ -6,7 +6,7 @@ use mathlib.Core.List.{List}
 use mathlib.Core.Path.{◌≡◌, refl, sym, ap, subst, ◌∙◌}
 use Rattle.record.specs.Bools.{both}
 use Rattle.pcap.specs.Pcap.{next_at, answer_of, time_of}
-use Rattle.pcap.specs.PcapLaws.{Inside, packet_inside, time-fits}
+use Rattle.pcap.proofs.PcapLaws.{Inside, packet_inside, time-fits}
 use Rattle.pcap.specs.declared.Format.{Format}
 use Rattle.pcap.specs.declared.Next.{Next}
 use Rattle.pcap.specs.declared.Next.TheVariants.{Packet, Cut, Fraction, End}

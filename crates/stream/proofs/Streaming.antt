@@ -19,16 +19,16 @@ use Rattle.endpoints.specs.declared.Endpoint.{Endpoint}
 use Rattle.plan.specs.Packet.{old_endpoint}
 use Rattle.trace.specs.declared.clock.Clock.{Clock}
 use Rattle.call.specs.Outcome.{is_ill, accepts}
-use Rattle.call.specs.OutcomeLaws.{sound}
+use Rattle.call.proofs.OutcomeLaws.{sound}
 use Rattle.call.specs.State.{State, state, room_of}
-use Rattle.call.specs.StateLaws.{SameSizes}
+use Rattle.call.proofs.StateLaws.{SameSizes}
 use Rattle.decide.specs.Near.{place_in, near_by}
 use Rattle.decide.specs.Ready.{Ready, ready}
 use Rattle.decide.specs.declared.near.Near.{Near}
 use Rattle.decide.proofs.Bounds.{old-there}
 use Rattle.decide.proofs.Places.{number_small, place_few, seen_by}
 use Rattle.packet.specs.Call.{PacketCall}
-use Rattle.packet.specs.CallLaws.{packet-kept}
+use Rattle.packet.proofs.CallLaws.{packet-kept}
 use Rattle.packet.specs.Lent.{Lent}
 use Rattle.packet.proofs.Answers.{with_requests}
 use Rattle.sound.proofs.Keeps.{kept}

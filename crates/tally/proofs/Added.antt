@@ -12,7 +12,7 @@ use Rattle.rows.specs.One.{one}
 use Rattle.transaction.specs.Payload.{start_pid}
 use Rattle.transaction.specs.Table.{pick}
 use Rattle.endpoints.specs.Phases.{count}
-use Rattle.endpoints.specs.PhasesLaws.{count_ext, count-change, count_none}
+use Rattle.endpoints.proofs.PhasesLaws.{count_ext, count-change, count_none}
 use Rattle.endpoints.specs.Table.{with_phase}
 use Rattle.endpoints.specs.declared.Endpoint.{Endpoint}
 use Rattle.endpoints.specs.declared.Phase.{Phase}

@@ -8,7 +8,7 @@ use lib.Dec.{eqb}
 use Rattle.rows.specs.One.{one}
 use Rattle.transaction.specs.declared.Transaction.{Transaction}
 use Rattle.endpoints.specs.Phases.{count, in_phase}
-use Rattle.endpoints.specs.PhasesLaws.{count_ext, count-sum, count-change, phase-entry}
+use Rattle.endpoints.proofs.PhasesLaws.{count_ext, count-sum, count-change, phase-entry}
 use Rattle.endpoints.specs.Table.{entry_at, phase_word}
 use Rattle.endpoints.specs.Word as word
 use Rattle.details.specs.declared.Device.{Device}

@@ -21,7 +21,7 @@ use Rattle.plan.specs.declared.Ending.{Ending}
 use Rattle.plan.specs.declared.Plan.{Plan}
 use Rattle.details.specs.declared.Device.{Device}
 use Rattle.record.specs.Bools.{both}
-use Rattle.record.specs.FormedLaws.{WellFormed}
+use Rattle.record.proofs.FormedLaws.{WellFormed}
 use Rattle.record.specs.declared.Decoder.{Decoder}
 use Rattle.record.specs.Room.{fitting, numbered, held_of}
 use Rattle.record.specs.RoomLaws as room

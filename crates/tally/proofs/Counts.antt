@@ -24,7 +24,7 @@ use Rattle.plan.specs.Ending.{end_played}
 use Rattle.plan.specs.Packet.{played}
 use Rattle.plan.specs.declared.Ending.{Ending}
 use Rattle.plan.specs.declared.Plan.{Plan}
-use Rattle.tally.specs.Has.{Has}
+use Rattle.tally.proofs.Has.{Has}
 use Rattle.tally.specs.Suited.{PlanSuits, EndingSuits}
 use Rattle.tally.specs.Tallies.{tally_plan, tally_ending, add_counts, room_for}
 use Rattle.tally.proofs.Counted.{adds-shelf, adds-from, played-adds, ending-adds}

@@ -10,7 +10,7 @@ use Rattle.plan.specs.declared.Ending.{Ending}
 use Rattle.rules.specs.declared.Stamp.{Stamp}
 use Rattle.transaction.specs.declared.Transaction.{Transaction}
 use Rattle.endpoints.specs.Phases.{count, in_phase, waiting}
-use Rattle.endpoints.specs.PhasesLaws.{count_ext, phase-entry}
+use Rattle.endpoints.proofs.PhasesLaws.{count_ext, phase-entry}
 use Rattle.endpoints.specs.Table.{entry_at}
 use Rattle.endpoints.specs.Word as word
 use Rattle.details.specs.declared.Device.{Device}
@@ -19,7 +19,7 @@ use Rattle.rules.specs.declared.Slot.{Slot}
 use Rattle.rules.specs.declared.Slot.TheVariants.{Empty, Current, Suspended}
 use Rattle.rules.specs.World.{ended_in, waiting_of}
 use Rattle.record.specs.Formed.{holds}
-use Rattle.record.specs.FormedLaws.{WellFormed}
+use Rattle.record.proofs.FormedLaws.{WellFormed}
 use Rattle.record.specs.World.{world_of}
 use Rattle.record.specs.declared.Counts.{Counts}
 use Rattle.record.specs.declared.Decoder.{Decoder}

@@ -16,3 +16,5 @@ pub mod Anew
 pub mod Events
 pub mod Unpassed
 pub mod Formed
+pub mod PlanLaws
+pub mod Has

@@ -12,7 +12,7 @@ use Rattle.rows.specs.One.{one}
 use Rattle.transaction.specs.Table.{pick}
 use Rattle.details.specs.Details.{number_of}
 use Rattle.endpoints.specs.Phases.{count}
-use Rattle.endpoints.specs.PhasesLaws.{count_ext}
+use Rattle.endpoints.proofs.PhasesLaws.{count_ext}
 use Rattle.endpoints.specs.declared.Endpoint.{Endpoint}
 use Rattle.group.specs.declared.Effect.{Effect}
 use Rattle.group.specs.declared.Effect.TheVariants.{NoEffect, NewDevice, Request, PendingData, IndexData}

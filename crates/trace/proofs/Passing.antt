@@ -2,7 +2,7 @@
 use Rattle.std.proofs.Common.{◌≡◌, ℕ, zero, suc, ◌+◌, ◌-◌, ◌<◌, ◌≤◌, Bool, true, false, eqb, ltb, List, length, get_or, sym, refl, ap, ◌∙◌, true≢false, arith, le-ltb}
 use Rattle.usb.specs.Packet.{pick}
 use Rattle.trace.specs.Details.{count_by, count_from, details_of}
-use Rattle.trace.specs.Laws.{Grown, grown}
+use Rattle.trace.proofs.Laws.{Grown, grown}
 use Rattle.trace.specs.Pass.{passed_by}
 use Rattle.trace.specs.Trace.{packet_at, event_at, detail_at, next_at}
 use Rattle.trace.specs.declared.Next.{Next}

@@ -2,4 +2,3 @@ pub mod Trace
 pub mod Clock
 pub mod Details
 pub mod Pass
-pub mod Laws

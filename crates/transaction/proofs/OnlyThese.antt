@@ -16,7 +16,7 @@ use Rattle.transaction.specs.Table.{pick, only, ◌or◌}
 use Rattle.transaction.specs.High.{simple_status, is_high}
 use Rattle.transaction.specs.Status.{status_of}
 use Rattle.transaction.specs.Payload.{yields}
-use Rattle.transaction.specs.HighLaws.{status-in}
+use Rattle.transaction.proofs.HighLaws.{status-in}
 
 -- the three cells
 cells : (last next kind : ℕ) (P : ℕ → ℕ → ℕ → Type 0) → P IN DATA2 Isochronous → P OUT DATA2 Isochronous → P OUT MDATA Isochronous → is_high last next kind ≡ true → P last next kind

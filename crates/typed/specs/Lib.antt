@@ -1,3 +1,2 @@
 pub mod Detail
 pub mod Judges
-pub mod DetailLaws

@@ -13,8 +13,8 @@ use Rattle.usb.specs.Pid.{SETUP, IN, OUT, SOF, PING}
 use Rattle.transaction.specs.Table.{pick, only, ◌or◌}
 use Rattle.transaction.specs.declared.Transaction.{Transaction}
 use Rattle.details.specs.Details.{fresh, with_type}
-use Rattle.details.specs.DetailsLaws.{type-kept}
-use Rattle.details.specs.SearchLaws.{First, Last, first-is, last-is}
+use Rattle.details.proofs.DetailsLaws.{type-kept}
+use Rattle.details.proofs.SearchLaws.{First, Last, first-is, last-is}
 use Rattle.details.specs.Search.{first_from}
 use Rattle.details.specs.declared.Device.{Device}
 use Rattle.details.specs.declared.Found.{Found}

@@ -7,7 +7,7 @@ use mathlib.Core.Bool.{Bool, true, false}
 use mathlib.Core.List.{List}
 use lib.Dec.{eqb}
 use Rattle.transaction.specs.Table.{pick}
-use Rattle.details.specs.DetailsLaws.{detail-kept}
+use Rattle.details.proofs.DetailsLaws.{detail-kept}
 use Rattle.details.specs.declared.Device.{Device}
 use Rattle.details.specs.declared.Found.{Found}
 use Rattle.details.specs.declared.Found.TheVariants.{At, Nothing}

@@ -12,12 +12,12 @@ use lib.Seq.{sets, length-sets}
 use Rattle.transaction.specs.Table.{pick}
 use Rattle.details.specs.declared.Device.{Device}
 use Rattle.descriptors.specs.Complete.{payload_for, entries_for, count_after, shelf_after, row_after, shelf_by}
-use Rattle.descriptors.specs.Configuration.{All}
+use Rattle.descriptors.proofs.Configuration.{All}
 use Rattle.descriptors.specs.Entries.{value_of, entries_of}
-use Rattle.descriptors.specs.HeldLaws.{Seven, joined_length, chunks_seven, without_seven, entries_seven, fitting_seven}
+use Rattle.descriptors.proofs.HeldLaws.{Seven, joined_length, chunks_seven, without_seven, entries_seven, fitting_seven}
 use Rattle.descriptors.specs.Kind.{kind_of}
 use Rattle.descriptors.specs.Laid.{is_laid}
-use Rattle.descriptors.specs.ReadBack.{all_append}
+use Rattle.descriptors.proofs.ReadBack.{all_append}
 use Rattle.descriptors.specs.Store.{chunks, without, left_by, added_by, kept_after}
 use Rattle.descriptors.specs.Whole.{joined}
 use Rattle.descriptors.specs.declared.complete.Asked.{Asked}

@@ -23,15 +23,15 @@ use Rattle.rules.specs.Rows.{Row}
 use Rattle.rules.specs.World.{World, with_shelf}
 use Rattle.rules.specs.declared.Slot.{Slot}
 use Rattle.rules.specs.declared.Slot.TheVariants.{Empty, Current, Suspended}
-use Rattle.record.specs.FreshLaws.{Agrees}
+use Rattle.record.proofs.FreshLaws.{Agrees}
 use Rattle.record.specs.declared.Counts.{Counts}
 use Rattle.record.specs.declared.Decoder.{Decoder}
 use Rattle.call.specs.Outcome.{counts_after, decoder_of, accepts, Left, world_at}
-use Rattle.call.specs.OutcomeLaws.{unique}
+use Rattle.call.proofs.OutcomeLaws.{unique}
 use Rattle.call.specs.State.{Logs, State}
 use Rattle.typed.specs.Detail.{Details}
 use Rattle.start.specs.Fresh.{Makes}
-use Rattle.start.specs.FreshLaws.{fresh_stands}
+use Rattle.start.proofs.FreshLaws.{fresh_stands}
 use Rattle.packet.specs.Call.{after, PacketCall}
 use Rattle.demands.specs.Sequence as demands
 use Rattle.demands.specs.Sequence.{Sequence, made, then}

@@ -7,7 +7,7 @@ use mathlib.Core.List.{List, [], ◌∷◌}
 use native.Mathlib.Omega.{arith}
 use lib.Dec.{eqb}
 use lib.ListN.{length, get_or}
-use Rattle.usb.specs.Laws.{reason-format}
+use Rattle.usb.proofs.Laws.{reason-format}
 use Rattle.usb.specs.Packet.{pick, is_empty, format_of, format_ok, format_reason, checked_of}
 use Rattle.usb.specs.declared.Checked.{Checked}
 use Rattle.usb.specs.declared.Checked.TheVariants.{Valid, Malformed}

@@ -8,7 +8,7 @@ use mathlib.Core.List.{List, [], ◌∷◌}
 use lib.Dec.{eqb}
 use lib.ListN.{get_or}
 use borrow.Author.Tests.{eqb-true, eqb-false}
-use Rattle.usb.specs.Laws.{both_left, both_right}
+use Rattle.usb.proofs.Laws.{both_left, both_right}
 use Rattle.usb.specs.Packet.{pick, both, no_format, token_format, handshake_format, data_format, split_format, format_of}
 
 -- whether a test passes at each number below n

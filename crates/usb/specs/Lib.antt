@@ -3,4 +3,3 @@ pub mod Types
 pub mod Bits
 pub mod Packet
 pub mod Fields
-pub mod Laws

@@ -1,3 +1,1 @@
 pub mod Memory
-pub mod Holds
-pub mod HoldsLaws

@@ -1,1 +1,5 @@
 pub mod Rooms
+pub mod TabledLaws
+pub mod ActedLaws
+pub mod RowsLaws
+pub mod EndedLaws

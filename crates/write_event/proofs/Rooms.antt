@@ -14,7 +14,7 @@ use Rattle.endpoints.specs.Link as kind
 use Rattle.endpoints.specs.Phases.{waiting}
 use Rattle.endpoints.specs.Each.{closing, next_states, state_bytes}
 use Rattle.endpoints.specs.Table.{entry_at}
-use Rattle.endpoints.specs.TableLaws.{load_store_same, fits-entry}
+use Rattle.endpoints.proofs.TableLaws.{load_store_same, fits-entry}
 use Rattle.endpoints.specs.declared.Endpoint.{Endpoint}
 use Rattle.rules.specs.World.{more_transactions, more_groups}
 use Rattle.update.specs.Update.{when}

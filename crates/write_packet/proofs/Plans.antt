@@ -20,7 +20,7 @@ use Rattle.plan.specs.declared.End.{End}
 use Rattle.plan.specs.declared.Plan.{Plan}
 use Rattle.write_packet.specs.Asked.{RoomAll, BeginsIf, EndsIf, PlanAsks}
 use Rattle.write_packet.specs.Desk.{Desk, desk, memory_of, transaction_words_if, device_words, endpoint_words, opened_desk, begun_desk, stored_desk, devices_by, new_device_words, closing_desk, ended_desk, desk2, desk3, desk4}
-use Rattle.write_packet.specs.ReadyLaws.{begins_if, ends_if}
+use Rattle.write_packet.proofs.ReadyLaws.{begins_if, ends_if}
 use Rattle.write_packet.proofs.Parts.{plus_le}
 use Rattle.write_packet.proofs.Steps.{room_effect}
 

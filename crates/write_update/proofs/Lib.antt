@@ -1,1 +1,3 @@
 pub mod Rooms
+pub mod TabledLaws
+pub mod CarriedLaws

@@ -15,9 +15,9 @@ use Rattle.endpoints.specs.Word as word
 use Rattle.endpoints.specs.Phases.{waiting}
 use Rattle.endpoints.specs.Each.{closing, next_states, state_bytes}
 use Rattle.endpoints.specs.States.{next_state}
-use Rattle.endpoints.specs.StatesLaws.{length-next, entry_next}
+use Rattle.endpoints.proofs.StatesLaws.{length-next, entry_next}
 use Rattle.endpoints.specs.Table.{words, entry_at, store_at, with_phase, with_state}
-use Rattle.endpoints.specs.TableLaws.{Fits, load_store_same, fits-entry}
+use Rattle.endpoints.proofs.TableLaws.{Fits, load_store_same, fits-entry}
 use Rattle.endpoints.specs.declared.Endpoint.{Endpoint}
 use Rattle.endpoints.specs.declared.Phase.TheVariants.{Ended}
 use Rattle.rules.specs.World.{cleared, more_transactions, more_groups}

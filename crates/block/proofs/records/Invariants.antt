@@ -3,10 +3,10 @@ use native.Mathlib.Omega.{arith}
 use mathlib.Core.Path.{◌≡◌, refl, ◌∙◌}
 use borrow.Author.Tests.{not_true, not_false}
 use lib.ListN.{length}
-use Rattle.rows.specs.WidthsLaws.{each-log, log-number}
+use Rattle.rows.proofs.WidthsLaws.{each-log, log-number}
 use Rattle.call.specs.State.{State, state, Logs, logs}
 use Rattle.step.specs.Block.{stand}
-use Rattle.call.specs.StateLaws.{SameSizes}
+use Rattle.call.proofs.StateLaws.{SameSizes}
 use Rattle.stream.proofs.Rounding.{fits_by}
 use Rattle.block.proofs.Taking.{Taking, taking-start, taken-from, taking-counts, taking_stops, taking_further, taking-more}
 use Rattle.block.proofs.records.Given as goal

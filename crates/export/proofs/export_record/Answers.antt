@@ -1,7 +1,7 @@
 use mathlib.Core.Bool.{true, false, true≢false}
 use mathlib.Core.Path.{◌≡◌, refl, sym, ◌∙◌}
 use Rattle.call.specs.Outcome.{is_ill}
-use Rattle.call.specs.OutcomeLaws.{ill_by}
+use Rattle.call.proofs.OutcomeLaws.{ill_by}
 use Rattle.call.specs.State.{State, state, logs}
 use Rattle.export.proofs.export_record.Goals as goal
 use Rattle.std.proofs.Common.{◌-◌}

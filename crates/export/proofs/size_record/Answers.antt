@@ -1,9 +1,9 @@
 use mathlib.Core.Bool.{true, false}
 use mathlib.Core.Path.{◌≡◌, sym, ◌∙◌}
 use Rattle.call.specs.Outcome.{is_ill}
-use Rattle.call.specs.OutcomeLaws.{ill_by}
+use Rattle.call.proofs.OutcomeLaws.{ill_by}
 use Rattle.call.specs.State.{State, state, logs}
-use Rattle.export.specs.RecordLaws.{size-ill, size-well}
+use Rattle.export.proofs.RecordLaws.{size-ill, size-well}
 use Rattle.export.proofs.size_record.Goals as goal
 use Rattle.std.proofs.Common.{◌-◌}
 

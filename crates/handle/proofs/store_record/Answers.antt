@@ -2,7 +2,7 @@ use Prim.Native.Nat.{ℕ}
 use mathlib.Core.List.{List}
 use mathlib.Core.Path.{◌≡◌, ap, ◌∙◌}
 use Rattle.handle.specs.Words.{decoder_in, devices_in, rows_stored, stored}
-use Rattle.handle.specs.WordsLaws.{decoder-stored, devices-stored}
+use Rattle.handle.proofs.WordsLaws.{decoder-stored, devices-stored}
 use Rattle.handle.proofs.store_record.Goals as goal
 use Rattle.std.proofs.Common.{◌-◌}
 use Rattle.handle.specs.Size as size

@@ -3,7 +3,7 @@
 use Rattle.std.proofs.Common.{◌≡◌, ℕ, ◌≤◌, true, ltb, List, [], append-nil, length, refl, sym, arith}
 use borrow.Author.Tests.{ltb-true}
 use Rattle.rows.specs.Widths.{place}
-use Rattle.rows.specs.WidthsLaws.{log-number}
+use Rattle.rows.proofs.WidthsLaws.{log-number}
 use Rattle.text.specs.Append.{Room, Appended}
 use Rattle.text.specs.Words.{title}
 use Rattle.text.proofs.Appends.{Left, start, room, step, done}

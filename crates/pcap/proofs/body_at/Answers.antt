@@ -1,6 +1,6 @@
 use Rattle.std.proofs.Common.{arith}
 use Rattle.pcap.proofs.Cases.{cut_short, cut-other, too-late}
-use Rattle.pcap.specs.PcapLaws.{packet_of}
+use Rattle.pcap.proofs.PcapLaws.{packet_of}
 use Rattle.pcap.proofs.body_at.Goals as goal
 use Rattle.std.proofs.Common.{◌-◌}
 

@@ -2,7 +2,7 @@
 -- Assumes nothing.
 use Rattle.std.proofs.Common.{◌≡◌, sym, ap, ◌∙◌, arith}
 use Rattle.pcap.specs.Export.{Source, lent, items_of, late}
-use Rattle.pcap.specs.ExportLaws.{fits_all}
+use Rattle.pcap.proofs.ExportLaws.{fits_all}
 use Rattle.pcap.specs.declared.Survey.{Survey}
 use Rattle.pcap.proofs.export_rows.Goals as goal
 

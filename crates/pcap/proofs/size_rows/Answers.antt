@@ -1,7 +1,7 @@
 use Rattle.std.proofs.Common.{sym, ap, ◌∙◌}
 use Rattle.pcap.specs.Export.{Source, lent}
 use Rattle.pcap.specs.Inner.{accepted_by}
-use Rattle.pcap.specs.ExportLaws.{size-late, size_fine}
+use Rattle.pcap.proofs.ExportLaws.{size-late, size_fine}
 use Rattle.pcap.specs.declared.Survey.{Survey}
 use Rattle.pcap.proofs.size_rows.Goals as goal
 use Rattle.std.proofs.Common.{◌-◌}

@@ -4,9 +4,9 @@ use mathlib.Core.List.{List}
 use mathlib.Core.Path.{◌≡◌, refl, sym, ◌∙◌}
 use borrow.Author.Tests.{not_true, not_false}
 use lib.ListN.{length, set}
-use Rattle.rows.specs.WidthsLaws.{each-log, log-number}
+use Rattle.rows.proofs.WidthsLaws.{each-log, log-number}
 use Rattle.call.specs.State.{State, state, Logs, logs}
-use Rattle.call.specs.StateLaws.{SameSizes}
+use Rattle.call.proofs.StateLaws.{SameSizes}
 use Rattle.packet.specs.Lent.{Lent}
 use Rattle.packet.proofs.Answers.{with_requests, with_parts}
 use Rattle.packet.specs.After.{changed, shelved, requested}

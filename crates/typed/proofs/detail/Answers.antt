@@ -6,9 +6,9 @@ use Rattle.rules.specs.Endpoints.{device_for}
 use Rattle.call.specs.Outcome.{is_ill, world_at}
 use Rattle.call.specs.State.{State, state, logs}
 use Rattle.typed.specs.Judges.{Judges}
-use Rattle.typed.specs.DetailLaws.{judged_at, passed, detail-refused, detail-accepted, found_below}
+use Rattle.typed.proofs.DetailLaws.{judged_at, passed, detail-refused, detail-accepted, found_below}
 use Rattle.typed.proofs.detail.Goals as goal
-use Rattle.call.specs.OutcomeLaws.{sound}
+use Rattle.call.proofs.OutcomeLaws.{sound}
 use Rattle.std.proofs.Common.{arith, ◌-◌}
 
 -- The row of the device that stands for the address is one of the 64.

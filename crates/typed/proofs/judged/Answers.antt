@@ -1,7 +1,7 @@
 use mathlib.Core.Path.{sym, ap, ◌∙◌}
 use Rattle.details.specs.Lookup.{detail_answer}
-use Rattle.call.specs.OutcomeLaws.{sound_by}
-use Rattle.typed.specs.DetailLaws.{judged-ill, judged-finished, judged-detail, no-device}
+use Rattle.call.proofs.OutcomeLaws.{sound_by}
+use Rattle.typed.proofs.DetailLaws.{judged-ill, judged-finished, judged-detail, no-device}
 use Rattle.typed.proofs.judged.Goals as goal
 use Rattle.std.proofs.Common.{◌-◌}
 

@@ -1,5 +1,5 @@
 use Prim.Native.Nat.{◌-◌}
-use Rattle.descriptors.specs.ChosenLaws.{applying-turn, applying-end}
+use Rattle.descriptors.proofs.ChosenLaws.{applying-turn, applying-end}
 use Rattle.descriptors.proofs.choose.apply.Goals as goal
 
 pub loop-i-preserved : goal.loop-i-preserved

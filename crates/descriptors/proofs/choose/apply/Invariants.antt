@@ -1,6 +1,6 @@
 use native.Mathlib.Omega.{arith}
 use Prim.Native.Nat.{◌-◌}
-use Rattle.descriptors.specs.ChosenLaws.{Applying, applying-start, applying-turn, applying-end}
+use Rattle.descriptors.proofs.ChosenLaws.{Applying, applying-start, applying-turn, applying-end}
 use Rattle.descriptors.proofs.choose.apply.Given as goal
 
 abbrev pub invariant-loop-i : goal.invariant-loop-i

@@ -1,5 +1,5 @@
 use Prim.Native.Nat.{◌-◌}
-use Rattle.descriptors.specs.ChosenLaws.{counting-turn, counting-end}
+use Rattle.descriptors.proofs.ChosenLaws.{counting-turn, counting-end}
 use Rattle.descriptors.proofs.choose.count_set.Goals as goal
 
 pub loop-i-preserved : goal.loop-i-preserved

@@ -1,6 +1,6 @@
 use native.Mathlib.Omega.{arith}
 use Prim.Native.Nat.{◌-◌}
-use Rattle.descriptors.specs.ChosenLaws.{Counting, counting-start, counting-turn, counting-end}
+use Rattle.descriptors.proofs.ChosenLaws.{Counting, counting-start, counting-turn, counting-end}
 use Rattle.descriptors.proofs.choose.count_set.Given as goal
 
 abbrev pub invariant-loop-i : goal.invariant-loop-i

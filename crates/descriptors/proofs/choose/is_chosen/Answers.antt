@@ -1,5 +1,5 @@
 use mathlib.Core.Path.{◌∙◌}
-use Rattle.descriptors.specs.ChosenLaws.{chosen_at}
+use Rattle.descriptors.proofs.ChosenLaws.{chosen_at}
 use Rattle.descriptors.proofs.choose.is_chosen.Goals as goal
 
 pub returns : goal.returns

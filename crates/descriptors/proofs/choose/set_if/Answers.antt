@@ -1,5 +1,5 @@
 use mathlib.Core.Path.{◌∙◌}
-use Rattle.descriptors.specs.ChosenLaws.{set_at, set-none}
+use Rattle.descriptors.proofs.ChosenLaws.{set_at, set-none}
 use Rattle.descriptors.proofs.choose.set_if.Goals as goal
 use Rattle.std.proofs.Common.{◌-◌}
 

@@ -1,4 +1,4 @@
-use Rattle.descriptors.specs.CompleteLaws.{interface-unset, interface-set}
+use Rattle.descriptors.proofs.CompleteLaws.{interface-unset, interface-set}
 use Rattle.descriptors.proofs.complete.apply_interface.Goals as goal
 use Rattle.std.proofs.Common.{◌-◌}
 

@@ -1,5 +1,5 @@
 use Rattle.descriptors.specs.declared.request.Kind.TheVariants.{DeviceRead, SetConfiguration, SetInterface, Other}
-use Rattle.descriptors.specs.CompleteLaws.{as-kind, device-noted, other-noted, configuration-noted, interface-noted}
+use Rattle.descriptors.proofs.CompleteLaws.{as-kind, device-noted, other-noted, configuration-noted, interface-noted}
 use Rattle.descriptors.proofs.complete.complete.Goals as goal
 use Rattle.std.proofs.Common.{◌-◌}
 

@@ -1,5 +1,5 @@
 use mathlib.Core.Path.{ap, ◌∙◌}
-use Rattle.descriptors.specs.CompleteLaws.{configuration-told}
+use Rattle.descriptors.proofs.CompleteLaws.{configuration-told}
 use Rattle.descriptors.specs.declared.complete.Completed.{Completed}
 use Rattle.descriptors.proofs.complete.complete_configuration.Goals as goal
 use Rattle.std.proofs.Common.{◌-◌}

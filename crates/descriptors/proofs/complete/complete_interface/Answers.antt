@@ -1,5 +1,5 @@
 use mathlib.Core.Path.{◌∙◌}
-use Rattle.descriptors.specs.CompleteLaws.{interface-none, interface-told}
+use Rattle.descriptors.proofs.CompleteLaws.{interface-none, interface-told}
 use Rattle.descriptors.proofs.complete.complete_interface.Goals as goal
 use Rattle.std.proofs.Common.{◌-◌}
 

@@ -2,8 +2,8 @@ use mathlib.Core.Path.{ap, ◌∙◌}
 use native.Mathlib.Omega.{arith}
 use borrow.Author.Tests.{not-true, not-false}
 use Rattle.descriptors.specs.Entries.{value_of}
-use Rattle.descriptors.specs.CompleteLaws.{part-is, reads_cut, reads_added, read_none, read_some}
-use Rattle.descriptors.specs.HeldLaws.{reads_few}
+use Rattle.descriptors.proofs.CompleteLaws.{part-is, reads_cut, reads_added, read_none, read_some}
+use Rattle.descriptors.proofs.HeldLaws.{reads_few}
 use Rattle.descriptors.proofs.complete.complete_read.Goals as goal
 use Rattle.std.proofs.Common.{◌-◌}
 

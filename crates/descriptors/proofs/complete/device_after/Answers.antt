@@ -1,5 +1,5 @@
 use Rattle.descriptors.specs.declared.request.Kind.TheVariants.{DeviceRead, ConfigurationRead, SetConfiguration, Other}
-use Rattle.descriptors.specs.CompleteLaws.{by_kind, max_by, configuration_by, read_by, other_by}
+use Rattle.descriptors.proofs.CompleteLaws.{by_kind, max_by, configuration_by, read_by, other_by}
 use Rattle.descriptors.proofs.complete.device_after.Goals as goal
 use Rattle.std.proofs.Common.{◌-◌}
 

@@ -2,7 +2,7 @@ use mathlib.Core.Path.{ap, ◌∙◌}
 use borrow.Author.Tests.{not-true, not-false}
 use Rattle.descriptors.specs.Entries.{max_of}
 use Rattle.descriptors.specs.Complete.{payload_for}
-use Rattle.descriptors.specs.CompleteLaws.{part-is, max-unset, max-set}
+use Rattle.descriptors.proofs.CompleteLaws.{part-is, max-unset, max-set}
 use Rattle.descriptors.proofs.complete.set_max.Goals as goal
 use Rattle.std.proofs.Common.{◌-◌}
 

@@ -1,6 +1,6 @@
 use native.Mathlib.Omega.{arith}
 use Prim.Native.Nat.{◌+◌}
-use Rattle.descriptors.specs.CompleteLaws.{count_most}
+use Rattle.descriptors.proofs.CompleteLaws.{count_most}
 use Rattle.descriptors.proofs.complete.set_note.Goals as goal
 use Rattle.std.proofs.Common.{◌-◌}
 

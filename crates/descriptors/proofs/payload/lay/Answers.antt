@@ -2,7 +2,7 @@ use mathlib.Core.Path.{◌∙◌}
 use Prim.Native.Nat.{◌+◌, ◌-◌}
 use lib.ListN.{length}
 use native.Mathlib.Omega.{arith}
-use Rattle.descriptors.specs.ChosenLaws.{laid_none, laid_part, laid-whole}
+use Rattle.descriptors.proofs.ChosenLaws.{laid_none, laid_part, laid-whole}
 use Rattle.descriptors.proofs.payload.lay.Goals as goal
 
 pub returns-then-count-ge-MOST : goal.returns-then-count-ge-MOST

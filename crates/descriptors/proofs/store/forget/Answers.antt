@@ -1,7 +1,7 @@
 use mathlib.Core.Path.{refl}
 use native.Mathlib.Omega.{arith}
 use Prim.Native.Nat.{◌-◌}
-use Rattle.descriptors.specs.ForgetLaws.{passed-turn, passed-end}
+use Rattle.descriptors.proofs.ForgetLaws.{passed-turn, passed-end}
 use Rattle.descriptors.proofs.store.forget.Goals as goal
 
 pub loop-i-preserved : goal.loop-i-preserved

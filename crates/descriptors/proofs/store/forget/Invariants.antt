@@ -1,7 +1,7 @@
 use mathlib.Core.Path.{refl}
 use native.Mathlib.Omega.{arith}
 use Prim.Native.Nat.{◌-◌}
-use Rattle.descriptors.specs.ForgetLaws.{Passed, passed_start, passed-turn, passed-end}
+use Rattle.descriptors.proofs.ForgetLaws.{Passed, passed_start, passed-turn, passed-end}
 use Rattle.descriptors.proofs.store.forget.Given as goal
 
 abbrev pub invariant-loop-i : goal.invariant-loop-i

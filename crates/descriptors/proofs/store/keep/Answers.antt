@@ -1,5 +1,5 @@
 use borrow.Author.Tests.{not-true, not-false}
-use Rattle.descriptors.specs.StepLaws.{entries_none, entries-taken, keeps-none, keeps_same}
+use Rattle.descriptors.proofs.StepLaws.{entries_none, entries-taken, keeps-none, keeps_same}
 use Rattle.descriptors.proofs.store.keep.Goals as goal
 use Rattle.std.proofs.Common.{◌-◌}
 

@@ -3,7 +3,7 @@ use native.Mathlib.Omega.{arith}
 use Prim.Native.Nat.{◌-◌}
 use lib.ListN.{take, drop}
 use Rattle.descriptors.specs.Entries.{entries_in, entry_of}
-use Rattle.descriptors.specs.StepLaws.{left-turn, left_end, roomy, entry_length, turn_of, end_of}
+use Rattle.descriptors.proofs.StepLaws.{left-turn, left_end, roomy, entry_length, turn_of, end_of}
 use Rattle.descriptors.specs.Whole.{whole}
 use Rattle.descriptors.proofs.store.keep_behind.Goals as goal
 

@@ -4,7 +4,7 @@ use native.Mathlib.Omega.{arith}
 use Prim.Native.Nat.{◌-◌}
 use lib.ListN.{length, take, drop}
 use Rattle.descriptors.specs.Entries.{unset, entries_in, entry_of}
-use Rattle.descriptors.specs.StepLaws.{Left, left-start, left-turn, left_end, roomy, entry_length, turn_of, end_of}
+use Rattle.descriptors.proofs.StepLaws.{Left, left-start, left-turn, left_end, roomy, entry_length, turn_of, end_of}
 use Rattle.descriptors.specs.Whole.{whole}
 use Rattle.descriptors.proofs.store.keep_behind.Given as goal
 

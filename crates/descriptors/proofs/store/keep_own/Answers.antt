@@ -1,7 +1,7 @@
 use mathlib.Core.Path.{sym}
 use native.Mathlib.Omega.{arith}
-use Rattle.descriptors.specs.HeldLaws.{reads_same}
-use Rattle.descriptors.specs.StepLaws.{copied}
+use Rattle.descriptors.proofs.HeldLaws.{reads_same}
+use Rattle.descriptors.proofs.StepLaws.{copied}
 use Rattle.descriptors.proofs.store.keep_own.Goals as goal
 use Rattle.std.proofs.Common.{◌-◌}
 

@@ -1,6 +1,6 @@
 use borrow.Author.Tests.{not-true, not-false}
 use native.Mathlib.Omega.{arith}
-use Rattle.descriptors.specs.HeldLaws.{reads_none, reads_some, forgets_few, forgets-length}
+use Rattle.descriptors.proofs.HeldLaws.{reads_none, reads_some, forgets_few, forgets-length}
 use Rattle.descriptors.proofs.store.keep_read.Goals as goal
 use Rattle.std.proofs.Common.{◌-◌}
 

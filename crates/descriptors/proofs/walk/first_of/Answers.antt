@@ -1,8 +1,8 @@
 use mathlib.Core.Path.{sym, ◌∙◌}
 use native.Mathlib.Omega.{arith}
 use lib.Seq.{length-take-le}
-use Rattle.descriptors.specs.EntriesLaws.{inside_at, of-long}
-use Rattle.descriptors.specs.StepLaws.{first-none, first_taken, first-other}
+use Rattle.descriptors.proofs.EntriesLaws.{inside_at, of-long}
+use Rattle.descriptors.proofs.StepLaws.{first-none, first_taken, first-other}
 use Rattle.descriptors.proofs.walk.first_of.Goals as goal
 use Rattle.std.proofs.Common.{◌-◌}
 

@@ -1,6 +1,6 @@
 use native.Mathlib.Omega.{arith}
-use Rattle.descriptors.specs.EntriesLaws.{inside_at}
-use Rattle.descriptors.specs.StepLaws.{step-none, step-one}
+use Rattle.descriptors.proofs.EntriesLaws.{inside_at}
+use Rattle.descriptors.proofs.StepLaws.{step-none, step-one}
 use Rattle.descriptors.proofs.walk.read_step.Goals as goal
 use Rattle.std.proofs.Common.{◌-◌}
 

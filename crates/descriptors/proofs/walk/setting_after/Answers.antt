@@ -1,7 +1,7 @@
 use mathlib.Core.Path.{sym, ◌∙◌}
 use native.Mathlib.Omega.{arith}
 use Rattle.descriptors.specs.Entries.{setting_after}
-use Rattle.descriptors.specs.EntriesLaws.{of-long}
+use Rattle.descriptors.proofs.EntriesLaws.{of-long}
 use Rattle.descriptors.proofs.walk.setting_after.Goals as goal
 use Rattle.std.proofs.Common.{◌-◌}
 

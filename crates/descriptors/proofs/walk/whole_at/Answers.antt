@@ -1,6 +1,6 @@
 use mathlib.Core.Path.{◌∙◌}
 use native.Mathlib.Omega.{arith}
-use Rattle.descriptors.specs.EntriesLaws.{none_past, none_small, none_cut, one-there}
+use Rattle.descriptors.proofs.EntriesLaws.{none_past, none_small, none_cut, one-there}
 use Rattle.descriptors.proofs.walk.whole_at.Goals as goal
 use Rattle.std.proofs.Common.{◌-◌}
 

@@ -3,7 +3,7 @@
 use Rattle.std.proofs.Common.{◌≡◌, ℕ, ◌+◌, ◌*◌, ◌≤◌, length, get_or, sym, refl, ◌∙◌, subst, arith, rules}
 use Rattle.pcap.specs.Export.{Source, lent}
 use Rattle.reading.specs.Packets.{packet_bytes}
-use Rattle.reading.specs.PacketsLaws.{stops, packet_size}
+use Rattle.reading.proofs.PacketsLaws.{stops, packet_size}
 use Rattle.pcap.specs.Inner.{Small}
 use Rattle.pcap.proofs.Turns.{Owed, owed_start, owed-step, owed_none, small-start, small-step, small-more}
 use Rattle.pcap.proofs.logs.survey_rows.Goals as goal

@@ -1,4 +1,4 @@
-use Rattle.endpoints.specs.PhasesLaws.{length-closing}
+use Rattle.endpoints.proofs.PhasesLaws.{length-closing}
 use Prim.Native.Nat.{◌+◌}
 use native.Mathlib.Omega.{arith}
 use Rattle.write.proofs.leaf.item_row.Goals as goal
