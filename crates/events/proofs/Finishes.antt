@@ -122,9 +122,9 @@ module _ (s : State) (sane : is_ill s ≡ false) (known : Known s.table) where
 
 -- ---- as the code has its parts
 
-pub sum_at : (s : State) (e : Ending) (room : Counts) (r : Sum) → e ≡ end_at s → room ≡ room_of s.logs
+pub sum-at : (s : State) (e : Ending) (room : Counts) (r : Sum) → e ≡ end_at s → room ≡ room_of s.logs
     → {held : Counts} → held ≡ held_at s → r ≡ sum_of held s.decoder.counts (tally_ending e s.decoder.counts.endpoints s.decoder.waiting) room → r ≡ sum_at s
-sum_at s e room r p q {held} g h =
+sum-at s e room r p q {held} g h =
     h ∙ ap (λ (x : Counts). sum_of x s.decoder.counts (tally_ending e s.decoder.counts.endpoints s.decoder.waiting) room) g
     ∙ ap (λ (x : Ending). sum_of (held_at s) s.decoder.counts (tally_ending x s.decoder.counts.endpoints s.decoder.waiting) room) p
     ∙ ap (sum_of (held_at s) s.decoder.counts (tally_ending (end_at s) s.decoder.counts.endpoints s.decoder.waiting)) q
@@ -137,9 +137,9 @@ end-asks s e pid h p q r a =
     (subst (λ (x : ℕ). Endable (end_at s) s.decoder.counts.endpoints s.decoder.transaction.id x (first_memory s h)) (sym q)
     (subst (λ (x : Written). Endable (end_at s) s.decoder.counts.endpoints s.decoder.transaction.id (start_pid s.decoder.transaction.style) (first_memory s x)) (sym r) a))
 
-pub ended_at : (s : State) (e : Ending) (pid : ℕ) (h : Written) (m : Memory) → e ≡ end_at s → pid ≡ start_pid s.decoder.transaction.style → h ≡ written_of (last_stamp s.decoder) (held_at s) s.decoder s.table
+pub ended-at : (s : State) (e : Ending) (pid : ℕ) (h : Written) (m : Memory) → e ≡ end_at s → pid ≡ start_pid s.decoder.transaction.style → h ≡ written_of (last_stamp s.decoder) (held_at s) s.decoder s.table
     → m ≡ ended_memory e s.decoder.counts.endpoints s.decoder.transaction.id pid (first_memory s h) → m ≡ ended_at s
-ended_at s e pid h m p q r a =
+ended-at s e pid h m p q r a =
     a ∙ ap (λ (x : Ending). ended_memory x s.decoder.counts.endpoints s.decoder.transaction.id pid (first_memory s h)) p
     ∙ ap (λ (x : ℕ). ended_memory (end_at s) s.decoder.counts.endpoints s.decoder.transaction.id x (first_memory s h)) q
     ∙ ap (λ (x : Written). ended_memory (end_at s) s.decoder.counts.endpoints s.decoder.transaction.id (start_pid s.decoder.transaction.style) (first_memory s x)) r

@@ -110,6 +110,8 @@ follows Retry retry pid t e v h = refl
 follows Done done pid t e v h = refl
 follows Fail fail pid t e v h = refl
 follows Ambiguous ambiguous pid t e v h = refl
+follows New x'' pid t e v h = elim x'' [ ]
+follows Invalid x3 pid t e v h = elim x3 [ ]
 
 pub going-is : (s : Status) → GoesOn s → (id pid x0 : ℕ) (packet : List ℕ) (b : Transaction) (w : World) → b.endpoint ≡ x0
     → after s (transaction_append pid packet (with_transaction b w)) ≡ begun id (appending s x0 (w.endpoints x0) pid packet b w).begin w

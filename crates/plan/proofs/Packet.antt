@@ -186,6 +186,11 @@ module _ (high : Bool) (id pid reason x0 : ℕ) (packet : List ℕ) (e : Endpoin
   starts_on New new =
       ap (onward (planned New) id) (unkept high (planned New) packet v (starting-row New x0 (entry high id pid x0 n packet e w v r) pid packet n w))
   starts_on Invalid invalid = ap (onward (planned Invalid) id) (unkept high (planned Invalid) packet v (starting-row Invalid x0 e pid packet n w))
+  starts_on Continue x' = elim x' [ ]
+  starts_on Retry x'' = elim x'' [ ]
+  starts_on Done x3 = elim x3 [ ]
+  starts_on Fail x4 = elim x4 [ ]
+  starts_on Ambiguous x5 = elim x5 [ ]
 
   -- there was no transaction
   empty-is : x0 ≡ 0 → (s : Status) → Begins s → update_at high s id pid packet (completes v.transaction.style s) (with_slot Empty v) ≡ onward (planned s) id (kept high (planned s) packet v)
@@ -194,6 +199,11 @@ module _ (high : Bool) (id pid reason x0 : ℕ) (packet : List ℕ) (e : Endpoin
       new_is high id pid x0 n packet e w v r Empty (ap (λ (c : Bool). with_slot Empty (when (not c) (ended x0 (end high id pid x0 n packet e w v r)) (brought high id pid x0 n packet e w v r))) (sym (eq-eqb x0 0 z)))
       ∙ starts_on New new
   empty-is z Invalid invalid = invalid-is high id pid x0 n packet e w v r Empty ∙ starts_on Invalid invalid
+  empty-is z Continue x' = elim x' [ ]
+  empty-is z Retry x'' = elim x'' [ ]
+  empty-is z Done x3 = elim x3 [ ]
+  empty-is z Fail x4 = elim x4 [ ]
+  empty-is z Ambiguous x5 = elim x5 [ ]
 
   -- there was one
   module _ (on : v.transaction.endpoint ≡ x0) (then : slot_then w.slot ≡ Current) where

@@ -100,6 +100,11 @@ module _ (pid n x kind : ℕ) (e : Endpoint) (v : World) (entry : v.endpoints x 
       ap group_early_append early-is
       ∙ (then_append pid x plain v refl (starts_early pid (v.endpoints x).phase) (v.endpoints x).phase ∙ ap (λ (a : Endpoint). with_slot Current (act (update_for New pid plain a) x (with_transaction plain v))) entry)
   on-is Invalid invalid = early-is ∙ ap (λ (a : Endpoint). with_slot Current (act (update_for Invalid pid plain a) x (with_transaction plain v))) entry
+  on-is Continue x'' = elim x'' [ ]
+  on-is Retry x3 = elim x3 [ ]
+  on-is Done x4 = elim x4 [ ]
+  on-is Fail x5 = elim x5 [ ]
+  on-is Ambiguous x6 = elim x6 [ ]
 
 -- ---- the entry of an endpoint that stands, and of a new one
 
@@ -136,6 +141,11 @@ module _ (s : Status) (begins : Begins s) (id pid x0 : ℕ) (packet : List ℕ) 
       by : (s : Status) → Begins s → following s (begin_split packet pid n pushed) ≡ begin_split packet pid n pushed
       by New new = refl
       by Invalid invalid = refl
+      by Continue x' = elim x' [ ]
+      by Retry x'' = elim x'' [ ]
+      by Done x3 = elim x3 [ ]
+      by Fail x4 = elim x4 [ ]
+      by Ambiguous x5 = elim x5 [ ]
 
   standing-is : (i kind owner : ℕ) → following s (begin_on i kind pid n pushed) ≡ with_slot Current (begun id (start_on s (standing x0 known i w) kind owner pid n).begin w)
   unfolding begun opened

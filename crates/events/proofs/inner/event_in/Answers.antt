@@ -20,6 +20,7 @@ use Rattle.events.proofs.Parts.{Flags, sum_at, flags_at, settles_at, settled_at,
 use Rattle.events.proofs.Refuses.{flipped}
 use Rattle.events.proofs.Sane.{formed, is-ready, sum-asks}
 use Rattle.events.proofs.inner.event_in.Goals as goal
+
 pub held_of-rows-requires : goal.held_of-rows-requires
 held_of-rows-requires c =
     let s : State = state c.args.d c.args.devices c.args.table.now (logs c.args.bytes.now c.args.device_rows.now c.args.endpoint_rows.now c.args.packets.now c.args.events.now c.args.transactions.now c.args.groups.now c.args.statebytes.now c.args.states.now c.args.items.now c.args.links.now c.args.requests.now) in
@@ -80,11 +81,10 @@ returns c =
     let settled_is : settled ≡ memory_then (resets_by c.args.kind) (brings c.args.time s) s = settled_at s c.args.kind _ _ c.decide-c.ensures (brings c.args.time s) _ _ c.start_pid.ensures written settled c.settle-written.ensures in
     let m : Memory = memory c.event_rows-written.result c.event_rows-written.new.table c.event_rows-written.new.groups c.event_rows-written.new.statebytes c.event_rows-written.new.states c.event_rows-written.new.items c.event_rows-written.new.links in
     event_returns s c.args.kind c.args.code c.args.time _ c.stamp_of-stamp.ensures m _ _ _ _ _
-        (event-accepted s c.requires.requests_value c.known.ensures c.requires.finished_value c.args.kind c.args.code c.args.time c.requires.kind_bound byte fits)
-        (rows_at s c.args.kind flags (brings c.args.time s) settled settled_is m c.event_rows-written.ensures)
-        (decoder-at s c.args.kind _ _ c.decide-c.ensures c.room_of-room.ensures c.event_decoder.result c.event_rows-written.result c.event_decoder.ensures)
-        flags.row
-        (c.put_event.ensures.packets_after ∙ ap (λ (n : Counts). sets s.logs.packets (n.packets * packet_width) (c.args.d.counts.bytes ∷ c.stamp_of-stamp.result.time ∷ [])) c.held_of-rows.ensures)
-        (c.put_event.ensures.events_after ∙ ap (λ (n : Counts). sets s.logs.events (n.events * event_width) (c.stamp_of-stamp.result.packet ∷ c.args.code ∷ [])) c.held_of-rows.ensures)
-        (c.put_event.ensures.transactions_after ∙ ap (λ (n : Counts). sets s.logs.transactions (n.transactions * transaction_width) (opt c.adds_row-row.result (c.stamp_of-stamp.result.packet ∷ c.stamp_of-stamp.result.reason ∷ []))) c.held_of-rows.ensures)
-
+    (event-accepted s c.requires.requests_value c.known.ensures c.requires.finished_value c.args.kind c.args.code c.args.time c.requires.kind_bound byte fits)
+    (rows_at s c.args.kind flags (brings c.args.time s) settled settled_is m c.event_rows-written.ensures)
+    (decoder-at s c.args.kind _ _ c.decide-c.ensures c.room_of-room.ensures c.event_decoder.result c.event_rows-written.result c.event_decoder.ensures)
+    flags.row
+    (c.put_event.ensures.packets_after ∙ ap (λ (n : Counts). sets s.logs.packets (n.packets * packet_width) (c.args.d.counts.bytes ∷ c.stamp_of-stamp.result.time ∷ [])) c.held_of-rows.ensures)
+    (c.put_event.ensures.events_after ∙ ap (λ (n : Counts). sets s.logs.events (n.events * event_width) (c.stamp_of-stamp.result.packet ∷ c.args.code ∷ [])) c.held_of-rows.ensures)
+    (c.put_event.ensures.transactions_after ∙ ap (λ (n : Counts). sets s.logs.transactions (n.transactions * transaction_width) (opt c.adds_row-row.result (c.stamp_of-stamp.result.packet ∷ c.stamp_of-stamp.result.reason ∷ []))) c.held_of-rows.ensures)

@@ -176,7 +176,7 @@ fn number(text: &str) -> Result<u64, String> {
 }
 
 /// Where `rt check listing` leaves the program.
-const LISTING: &str = "target/bin/listing";
+const LISTING: &str = "crates/listing/out/listing";
 
 const USAGE: &str = "usage: compare COMMAND
   packets N               N packets through both packet checks: PID, or the reason of a malformed one
@@ -187,7 +187,7 @@ const USAGE: &str = "usage: compare COMMAND
   blocks N SEED           N traces in blocks through the library: what each block answers, all rows and bytes
   calls N SEED            N single calls through the library, refused ones among them: after each the answer, the counts, the rows
   pcap N SEED             the packets of N sequences of calls exported and imported by the library, in all formats and damaged: files, answers, rows
-PROGRAM is the program `listing` (target/bin/listing)
+PROGRAM is the program `listing` (crates/listing/out/listing)
 With --high behind traces, table, blocks, calls or pcap the library and the program are compared in the mode of change request 6";
 
 /// Whole traces in a mode.
