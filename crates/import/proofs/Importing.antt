@@ -6,7 +6,7 @@ use mathlib.Core.List.{List, [], ◌∷◌}
 use mathlib.Core.Path.{◌≡◌, refl, sym, ap, subst, ◌∙◌}
 use lib.Dec.{eqb}
 use lib.ListN.{length, take, drop}
-use lib.Seq.{slice, take-nil, drop_nil}
+use lib.Seq.{slice, take-nil, drop-nil}
 use Rattle.rows.specs.One.{one}
 use Rattle.details.specs.declared.Device.{Device}
 use Rattle.record.specs.declared.Decoder.{Decoder}
@@ -44,8 +44,8 @@ use Rattle.import.specs.declared.Imported.{Imported}
 -- as the code takes a part of the file
 part_slice : (from to : ℕ) (l : List ℕ) → take (to - from) (drop from l) ≡ slice from to l
 part_slice zero to l = let e : to - 0 ≡ to = omega arith in ap (λ (n : ℕ). take n l) e
-part_slice (suc from) zero l = let e : 0 - suc from ≡ 0 = omega arith in ap (λ (n : ℕ). take n (drop (suc from) l)) e ∙ sym (drop_nil (suc from))
-part_slice (suc from) (suc to) [] = ap (take (suc to - suc from)) (drop_nil (suc from)) ∙ take-nil (suc to - suc from)
+part_slice (suc from) zero l = let e : 0 - suc from ≡ 0 = omega arith in ap (λ (n : ℕ). take n (drop (suc from) l)) e ∙ sym (drop-nil (suc from))
+part_slice (suc from) (suc to) [] = ap (take (suc to - suc from)) (drop-nil (suc from)) ∙ take-nil (suc to - suc from)
 part_slice (suc from) (suc to) (x ∷ l) = let e : suc to - suc from ≡ to - from = omega arith in ap (λ (n : ℕ). take n (drop from l)) e ∙ part_slice from to l
 
 -- no packet: the end, or a record that is refused

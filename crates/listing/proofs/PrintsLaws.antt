@@ -4,7 +4,7 @@ use Rattle.std.specs.Prelude.{ℕ, zero, suc, ◌+◌, ◌*◌, ◌≤◌, ◌<�
 use Rattle.std.proofs.Common.{arith, sym, ap, subst, ◌∙◌}
 use Rattle.details.specs.declared.Device.{Device}
 use Rattle.endpoints.specs.Table.{first_at}
-use Rattle.std.proofs.lemmas.Bool.{not_false}
+use Rattle.std.proofs.lemmas.Bool.{not-false}
 use Rattle.text.specs.Lines.{longest, refused_line}
 use Rattle.text.proofs.Lengths.{refused-fits}
 use Rattle.record.proofs.AnswersLaws.{accepted}
@@ -50,7 +50,7 @@ finish_within {a} {s} {s'} z f e =
     let w = finish (world_at s) in
     let q = (accepted (finish_tests_of w s) (sym f.answer ∙ e)).0 in
     let left = f.left (ap accepts (sym f.answer ∙ e)) in
-    let r = roomy-is s.table (counts_after s.decoder.counts w) (room_of s.logs) (not_false _ q.full) in
+    let r = roomy-is s.table (counts_after s.decoder.counts w) (room_of s.logs) (not-false _ q.full) in
     let h = subst (λ (n : Counts). Within n (room_of s.logs)) (all_held s.table (counts_after s.decoder.counts w) z) r.held in
     rw (left.decoder, same-room w (held_at s) s.logs s'.logs left.logs) h
 

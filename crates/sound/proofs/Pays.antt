@@ -1,6 +1,6 @@
 -- Every call keeps the payloads, added up, within the packet bytes (specs/Fit.antt, Paid).
 use mathlib.Core.Path.{◌≡◌, refl, ap}
-use mathlib.Core.Bool.{Bool, true, false, ◌&&◌, ◌||◌, and_true}
+use mathlib.Core.Bool.{Bool, true, false, ◌&&◌, ◌||◌, and-true}
 use mathlib.Core.List.{List}
 use Prim.Native.Nat.{ℕ, ◌+◌, ◌-◌, ◌≤◌, ◌<◌, zero-le}
 use native.Mathlib.Nat.{le_refl}
@@ -100,8 +100,8 @@ brings_le s t i = by (holds s) t.filled (eqb t.endpoint 0 || eqb t.endpoint i) t
 
 split-brings : (s : Slot) (t : Transaction) (sc kind i : ℕ) → TokenedIn s (Split sc kind) t.endpoint → brings s t i ≡ whole s t
 split-brings Empty t sc kind i h = refl
-split-brings Current t sc kind i h = rw (h, and_true t.filled)
-split-brings Suspended t sc kind i h = rw (h, and_true t.filled)
+split-brings Current t sc kind i h = rw (h, and-true t.filled)
+split-brings Suspended t sc kind i h = rw (h, and-true t.filled)
 
 token_pays : (s : Style) (pid : ℕ) (p : List ℕ) (w : World) → 0 < w.count → TokenedIn w.slot s w.transaction.endpoint → Paid w
     → Paid (with_transaction (with_pid pid (append_token s pid p w).transaction) (append_token s pid p w))

@@ -1,14 +1,8 @@
-use Prim.Native.Nat.{◌-◌, ◌^◌, ◌<◌}
-use native.Mathlib.Omega.{arith}
-use mathlib.Core.Path.{◌≡◌, refl, ◌∙◌}
-use borrow.Author.Tests.{not_true, not_false}
+use Prim.Native.Nat.{◌-◌}
 use lib.ListN.{length}
-use Rattle.rows.proofs.WidthsLaws.{each-log, log-number}
-use Rattle.call.specs.State.{State, state, Logs, logs}
+use Rattle.call.specs.State.{state, logs}
 use Rattle.step.specs.Block.{stand}
-use Rattle.call.proofs.StateLaws.{SameSizes}
-use Rattle.stream.proofs.Rounding.{fits_by}
-use Rattle.block.proofs.Taking.{Taking, taking-start, taken-from, taking-counts, taking_stops, taking_further, taking-more}
+use Rattle.block.proofs.Taking.{Taking}
 use Rattle.block.proofs.records.Given as goal
 
 abbrev pub invariant-loop-run : goal.invariant-loop-run

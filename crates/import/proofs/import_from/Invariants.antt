@@ -1,14 +1,8 @@
-use Prim.Native.Nat.{◌-◌, ◌^◌, ◌<◌}
-use native.Mathlib.Omega.{arith}
-use mathlib.Core.Path.{◌≡◌, refl, ◌∙◌}
-use borrow.Author.Tests.{not_true, not_false}
+use Prim.Native.Nat.{◌-◌}
 use lib.ListN.{length}
-use Rattle.rows.proofs.WidthsLaws.{each-log, log-number}
-use Rattle.call.specs.State.{State, state, Logs, logs}
+use Rattle.call.specs.State.{state, logs}
 use Rattle.step.specs.Block.{stand}
-use Rattle.call.proofs.StateLaws.{SameSizes}
-use Rattle.stream.proofs.Rounding.{fits_by}
-use Rattle.import.proofs.Importing.{Importing, importing-start, imports-from, importing-counts, importing_stops, importing_further, importing-more}
+use Rattle.import.proofs.Importing.{Importing}
 use Rattle.import.proofs.import_from.Given as goal
 
 abbrev pub invariant-loop-run : goal.invariant-loop-run

@@ -1,4 +1,3 @@
-
 use borrow.Author.Tests.{ne_eqb}
 use Rattle.usb.specs.Packet.{format_reason}
 use Rattle.usb.proofs.format_reason.Goals as goal

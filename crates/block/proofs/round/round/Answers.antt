@@ -1,8 +1,8 @@
 use Rattle.std.proofs.Common.{rules}
 use Prim.Native.Nat.{◌^◌, ◌<◌}
 use native.Mathlib.Omega.{arith}
-use mathlib.Core.Path.{◌≡◌, refl, ◌∙◌}
 use borrow.Author.Tests.{not-true, not-false}
+use mathlib.Core.Path.{◌≡◌, refl, ◌∙◌}
 use lib.ListN.{length}
 use Rattle.block.proofs.Leading.{runs_by}
 use Rattle.block.proofs.Taking.{round_stops, round_goes, round_few}

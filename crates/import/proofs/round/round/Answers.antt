@@ -1,8 +1,8 @@
 use Rattle.std.proofs.Common.{rules}
 use Prim.Native.Nat.{◌^◌, ◌<◌}
 use native.Mathlib.Omega.{arith}
-use mathlib.Core.Path.{◌≡◌, refl, ◌∙◌}
 use borrow.Author.Tests.{not-true, not-false}
+use mathlib.Core.Path.{◌≡◌, refl, ◌∙◌}
 use lib.ListN.{length}
 use Rattle.stream.specs.Piece.{Timed}
 use Rattle.stream.proofs.Pieces.{timed-is, timed_inside}
