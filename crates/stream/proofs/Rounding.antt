@@ -2,7 +2,7 @@
 use Prim.Native.Nat.{ℕ, ◌+◌}
 use mathlib.Core.Bool.{Bool, true, false, not, cond, ◌&&◌}
 use mathlib.Core.Path.{◌≡◌, sym, ap, ◌∙◌}
-use borrow.Author.Tests.{not_true}
+use borrow.Author.Tests.{not-true}
 use lib.Dec.{eqb}
 use Rattle.rows.specs.One.{one}
 use Rattle.record.specs.Bools.{both}
@@ -19,7 +19,7 @@ pub fits_by : (s : State) {b : Bool} {room : Counts} → room ≡ room_of s.logs
 fits_by s {b} {room} r q =
     record {
       sound = λ e. ap (sound_in s.decoder s.devices s.table) (sym r) ∙ (sym q ∙ (both b _ e).0);
-      unfinished = λ e. not_true _ (both b _ e).1;
+      unfinished = λ e. not-true _ (both b _ e).1;
     }
 
 -- the packets with the record behind them, as the code puts them together

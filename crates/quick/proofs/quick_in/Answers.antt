@@ -147,8 +147,8 @@ close_only-decoder-requires c =
     let w = well h in
     let end = c.end_by-end.result in
     let the_rest = close-lent c.args.packet.now c.args.time (state c.args.d v c.args.table.now l) c.shape_of-q.result.closes c.room_of-room.result c.shape_of-q.result.transaction c.held_of-rows.ensures c.close_of-c.ensures
-        (sums-room (close_tally end _ c.args.d) (room_of l) (countable_by w (brief h) refl) (looser (close_small end _ c.args.d c.requires.packet_len_bound (waiting_few w) w.counts.few_endpoints) _ (omega arith)) b.fits.fits)
-        r.0 r.1 (λ on. close-only-asks c.args.packet.now c.args.time (state c.args.d v c.args.table.now l) b.enters b.plan b.fits) in
+    (sums-room (close_tally end _ c.args.d) (room_of l) (countable_by w (brief h) refl) (looser (close_small end _ c.args.d c.requires.packet_len_bound (waiting_few w) w.counts.few_endpoints) _ (omega arith)) b.fits.fits)
+    r.0 r.1 (λ on. close-only-asks c.args.packet.now c.args.time (state c.args.d v c.args.table.now l) b.enters b.plan b.fits) in
     record { sums = the_rest.0; packet_in_bounds = the_rest.1.0; packet_width_in_bounds = the_rest.1.1.0; ends_if = the_rest.1.1.1 }
 
 pub returns-then-c : goal.returns-then-c

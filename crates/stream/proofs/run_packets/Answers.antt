@@ -27,68 +27,68 @@ returns-then-not-part c = streaming-ends c.loop-reader.invariant
 
 pub slice_bounds-packet-count : goal.slice_bounds-packet-count
 slice_bounds-packet-count c =
-    let k = part-is c.args.reader c.args.ready c.args.records.now c.loop-reader.at c.loop-reader.clock c.part_at-part.ensures.value c.part_at-part.ensures.seconds_at c.if-not-part.false in
+    let k = part-is c.args.reader c.args.ready c.args.records.now c.loop-reader.at c.loop-reader.clock c.part_at-part.ensures.value c.part_at-part.ensures.seconds_at (not-false _ c.if-not-part.false) in
     (streaming_bounds c.loop-reader.invariant k).0
 
 pub slice_bounds-packet-start : goal.slice_bounds-packet-start
 slice_bounds-packet-start c =
-    let k = part-is c.args.reader c.args.ready c.args.records.now c.loop-reader.at c.loop-reader.clock c.part_at-part.ensures.value c.part_at-part.ensures.seconds_at c.if-not-part.false in
+    let k = part-is c.args.reader c.args.ready c.args.records.now c.loop-reader.at c.loop-reader.clock c.part_at-part.ensures.value c.part_at-part.ensures.seconds_at (not-false _ c.if-not-part.false) in
     (streaming_bounds c.loop-reader.invariant k).0
 
 pub slice_bounds-packet-end : goal.slice_bounds-packet-end
 slice_bounds-packet-end c =
-    let k = part-is c.args.reader c.args.ready c.args.records.now c.loop-reader.at c.loop-reader.clock c.part_at-part.ensures.value c.part_at-part.ensures.seconds_at c.if-not-part.false in
+    let k = part-is c.args.reader c.args.ready c.args.records.now c.loop-reader.at c.loop-reader.clock c.part_at-part.ensures.value c.part_at-part.ensures.seconds_at (not-false _ c.if-not-part.false) in
     (streaming_bounds c.loop-reader.invariant k).1
 
 pub sight_of-sight-requires : goal.sight_of-sight-requires
 sight_of-sight-requires c =
-    let k = part-is c.args.reader c.args.ready c.args.records.now c.loop-reader.at c.loop-reader.clock c.part_at-part.ensures.value c.part_at-part.ensures.seconds_at c.if-not-part.false in
+    let k = part-is c.args.reader c.args.ready c.args.records.now c.loop-reader.at c.loop-reader.clock c.part_at-part.ensures.value c.part_at-part.ensures.seconds_at (not-false _ c.if-not-part.false) in
     streaming-ready c.loop-reader.invariant k
 
 pub offset_bounds-devices-place : goal.offset_bounds-devices-place
 offset_bounds-devices-place c =
-    let k = part-is c.args.reader c.args.ready c.args.records.now c.loop-reader.at c.loop-reader.clock c.part_at-part.ensures.value c.part_at-part.ensures.seconds_at c.if-not-part.false in
+    let k = part-is c.args.reader c.args.ready c.args.records.now c.loop-reader.at c.loop-reader.clock c.part_at-part.ensures.value c.part_at-part.ensures.seconds_at (not-false _ c.if-not-part.false) in
     let h = streaming-place c.loop-reader.invariant k c.sight_of-sight.ensures in omega (arith, h)
 
 pub bounds-devices-place : goal.bounds-devices-place
 bounds-devices-place c =
-    let k = part-is c.args.reader c.args.ready c.args.records.now c.loop-reader.at c.loop-reader.clock c.part_at-part.ensures.value c.part_at-part.ensures.seconds_at c.if-not-part.false in
+    let k = part-is c.args.reader c.args.ready c.args.records.now c.loop-reader.at c.loop-reader.clock c.part_at-part.ensures.value c.part_at-part.ensures.seconds_at (not-false _ c.if-not-part.false) in
     streaming-place c.loop-reader.invariant k c.sight_of-sight.ensures
 
 pub offset_bounds-devices-owner : goal.offset_bounds-devices-owner
 offset_bounds-devices-owner c =
-    let k = part-is c.args.reader c.args.ready c.args.records.now c.loop-reader.at c.loop-reader.clock c.part_at-part.ensures.value c.part_at-part.ensures.seconds_at c.if-not-part.false in
+    let k = part-is c.args.reader c.args.ready c.args.records.now c.loop-reader.at c.loop-reader.clock c.part_at-part.ensures.value c.part_at-part.ensures.seconds_at (not-false _ c.if-not-part.false) in
     let h = streaming-owner c.loop-reader.invariant k c.sight_of-sight.ensures in omega (arith, h)
 
 pub bounds-devices-owner : goal.bounds-devices-owner
 bounds-devices-owner c =
-    let k = part-is c.args.reader c.args.ready c.args.records.now c.loop-reader.at c.loop-reader.clock c.part_at-part.ensures.value c.part_at-part.ensures.seconds_at c.if-not-part.false in
+    let k = part-is c.args.reader c.args.ready c.args.records.now c.loop-reader.at c.loop-reader.clock c.part_at-part.ensures.value c.part_at-part.ensures.seconds_at (not-false _ c.if-not-part.false) in
     streaming-owner c.loop-reader.invariant k c.sight_of-sight.ensures
 
 pub near_by-near-requires : goal.near_by-near-requires
 near_by-near-requires c =
-    let k = part-is c.args.reader c.args.ready c.args.records.now c.loop-reader.at c.loop-reader.clock c.part_at-part.ensures.value c.part_at-part.ensures.seconds_at c.if-not-part.false in
+    let k = part-is c.args.reader c.args.ready c.args.records.now c.loop-reader.at c.loop-reader.clock c.part_at-part.ensures.value c.part_at-part.ensures.seconds_at (not-false _ c.if-not-part.false) in
     streaming-number c.loop-reader.invariant k c.sight_of-sight.ensures
 
 pub quick_in-r-requires : goal.quick_in-r-requires
 quick_in-r-requires c =
-    let k = part-is c.args.reader c.args.ready c.args.records.now c.loop-reader.at c.loop-reader.clock c.part_at-part.ensures.value c.part_at-part.ensures.seconds_at c.if-not-part.false in
+    let k = part-is c.args.reader c.args.ready c.args.records.now c.loop-reader.at c.loop-reader.clock c.part_at-part.ensures.value c.part_at-part.ensures.seconds_at (not-false _ c.if-not-part.false) in
     let g = c.loop-reader in
     record { some_lent = record { devices = g.devices; lent = streaming-lent g.invariant k c.sight_of-sight.ensures c.near_by-near.ensures }; finished_value = streaming_unfinished g.invariant k; packet_len_bound = streaming-short g.invariant k }
 
 pub slice_bounds-shelve-count : goal.slice_bounds-shelve-count
 slice_bounds-shelve-count c =
-    let k = part-is c.args.reader c.args.ready c.args.records.now c.loop-reader.at c.loop-reader.clock c.part_at-part.ensures.value c.part_at-part.ensures.seconds_at c.if-not-part.false in
+    let k = part-is c.args.reader c.args.ready c.args.records.now c.loop-reader.at c.loop-reader.clock c.part_at-part.ensures.value c.part_at-part.ensures.seconds_at (not-false _ c.if-not-part.false) in
     (streaming_bounds c.loop-reader.invariant k).0
 
 pub slice_bounds-shelve-start : goal.slice_bounds-shelve-start
 slice_bounds-shelve-start c =
-    let k = part-is c.args.reader c.args.ready c.args.records.now c.loop-reader.at c.loop-reader.clock c.part_at-part.ensures.value c.part_at-part.ensures.seconds_at c.if-not-part.false in
+    let k = part-is c.args.reader c.args.ready c.args.records.now c.loop-reader.at c.loop-reader.clock c.part_at-part.ensures.value c.part_at-part.ensures.seconds_at (not-false _ c.if-not-part.false) in
     (streaming_bounds c.loop-reader.invariant k).0
 
 pub slice_bounds-shelve-end-then-is_change : goal.slice_bounds-shelve-end-then-is_change
 slice_bounds-shelve-end-then-is_change c =
-    let k = part-is c.args.reader c.args.ready c.args.records.now c.loop-reader.at c.loop-reader.clock c.part_at-part.ensures.value c.part_at-part.ensures.seconds_at c.if-not-part.false in
+    let k = part-is c.args.reader c.args.ready c.args.records.now c.loop-reader.at c.loop-reader.clock c.part_at-part.ensures.value c.part_at-part.ensures.seconds_at (not-false _ c.if-not-part.false) in
     (streaming_bounds c.loop-reader.invariant k).1
 
 pub shelve-s-requires : goal.shelve-s-requires
@@ -147,21 +147,21 @@ bounds-addresses-place-then-is_change-2 c = c.quick_in-r.ensures.placed.at
 
 pub returns-then-not-goes_on : goal.returns-then-not-goes_on
 returns-then-not-goes_on c =
-    let k = part-is c.args.reader c.args.ready c.args.records.now c.loop-reader.at c.loop-reader.clock c.part_at-part.ensures.value c.part_at-part.ensures.seconds_at c.if-not-part.false in
+    let k = part-is c.args.reader c.args.ready c.args.records.now c.loop-reader.at c.loop-reader.clock c.part_at-part.ensures.value c.part_at-part.ensures.seconds_at (not-false _ c.if-not-part.false) in
     let g = c.loop-reader in
     let near = streaming-lent c.loop-reader.invariant k c.sight_of-sight.ensures c.near_by-near.ensures in
     streaming_stops g.invariant k (c.quick_in-r.ensures.for_lent g.devices near g.shelf) (sym c.goes_on.ensures ∙ c.if-not-goes_on.true)
 
 pub overflow_add-taken : goal.overflow_add-taken
 overflow_add-taken c =
-    let k = part-is c.args.reader c.args.ready c.args.records.now c.loop-reader.at c.loop-reader.clock c.part_at-part.ensures.value c.part_at-part.ensures.seconds_at c.if-not-part.false in
+    let k = part-is c.args.reader c.args.ready c.args.records.now c.loop-reader.at c.loop-reader.clock c.part_at-part.ensures.value c.part_at-part.ensures.seconds_at (not-false _ c.if-not-part.false) in
     let long : length c.args.records.now < 2 ^ 64 = search rules in
     let h = streaming-counts c.loop-reader.invariant k in
     omega (arith, h.0, long)
 
 pub overflow_add-eights : goal.overflow_add-eights
 overflow_add-eights c =
-    let k = part-is c.args.reader c.args.ready c.args.records.now c.loop-reader.at c.loop-reader.clock c.part_at-part.ensures.value c.part_at-part.ensures.seconds_at c.if-not-part.false in
+    let k = part-is c.args.reader c.args.ready c.args.records.now c.loop-reader.at c.loop-reader.clock c.part_at-part.ensures.value c.part_at-part.ensures.seconds_at (not-false _ c.if-not-part.false) in
     let long : length c.args.records.now < 2 ^ 64 = search rules in
     let h = streaming-counts c.loop-reader.invariant k in
     let e = eight_small c.quick_in-r.result.answer c.eight-eights.ensures in
@@ -169,12 +169,12 @@ overflow_add-eights c =
 
 pub loop-reader-smaller-then-is_change : goal.loop-reader-smaller-then-is_change
 loop-reader-smaller-then-is_change c =
-    let k = part-is c.args.reader c.args.ready c.args.records.now c.loop-reader.at c.loop-reader.clock c.part_at-part.ensures.value c.part_at-part.ensures.seconds_at c.if-not-part.false in
+    let k = part-is c.args.reader c.args.ready c.args.records.now c.loop-reader.at c.loop-reader.clock c.part_at-part.ensures.value c.part_at-part.ensures.seconds_at (not-false _ c.if-not-part.false) in
     let f = streaming_further c.loop-reader.invariant k in omega (arith, f.0, f.1)
 
 pub loop-reader-preserved-then-is_change : goal.loop-reader-preserved-then-is_change
 loop-reader-preserved-then-is_change c =
-    let k = part-is c.args.reader c.args.ready c.args.records.now c.loop-reader.at c.loop-reader.clock c.part_at-part.ensures.value c.part_at-part.ensures.seconds_at c.if-not-part.false in
+    let k = part-is c.args.reader c.args.ready c.args.records.now c.loop-reader.at c.loop-reader.clock c.part_at-part.ensures.value c.part_at-part.ensures.seconds_at (not-false _ c.if-not-part.false) in
     let g = c.loop-reader in
     let x = c.quick_in-r.result.change in
     let q = bytes_of c.args.records.now c.part_at-part.result in
@@ -191,12 +191,12 @@ loop-reader-preserved-then-is_change c =
 
 pub loop-reader-smaller : goal.loop-reader-smaller
 loop-reader-smaller c =
-    let k = part-is c.args.reader c.args.ready c.args.records.now c.loop-reader.at c.loop-reader.clock c.part_at-part.ensures.value c.part_at-part.ensures.seconds_at c.if-not-part.false in
+    let k = part-is c.args.reader c.args.ready c.args.records.now c.loop-reader.at c.loop-reader.clock c.part_at-part.ensures.value c.part_at-part.ensures.seconds_at (not-false _ c.if-not-part.false) in
     let f = streaming_further c.loop-reader.invariant k in omega (arith, f.0, f.1)
 
 pub loop-reader-preserved : goal.loop-reader-preserved
 loop-reader-preserved c =
-    let k = part-is c.args.reader c.args.ready c.args.records.now c.loop-reader.at c.loop-reader.clock c.part_at-part.ensures.value c.part_at-part.ensures.seconds_at c.if-not-part.false in
+    let k = part-is c.args.reader c.args.ready c.args.records.now c.loop-reader.at c.loop-reader.clock c.part_at-part.ensures.value c.part_at-part.ensures.seconds_at (not-false _ c.if-not-part.false) in
     let g = c.loop-reader in
     let x = c.quick_in-r.result.change in
     let q = bytes_of c.args.records.now c.part_at-part.result in

@@ -15,6 +15,12 @@ returns-then-not-p c = round_stops c.run_packets-p.ensures (not-true _ c.if-not-
 pub returns-then-not-part : goal.returns-then-not-part
 returns-then-not-part c = round-ends c.run_packets-p.ensures c.next_record.ensures c.piece_of-part.ensures.value (not-true _ c.if-not-part.true) c.stopped_at.ensures
 
+pub slice_bounds-packet-count : goal.slice_bounds-packet-count
+slice_bounds-packet-count c =
+    let part : Timed c.args.f c.args.file.now c.run_packets-p.result.place c.piece_of-part.result.time c.piece_of-part.result.start c.piece_of-part.result.end =
+      timed-is c.args.f c.args.file.now _ c.next_record.ensures c.piece_of-part.ensures.short c.piece_of-part.ensures.value (not-false _ c.if-not-part.false) in
+    (timed_inside part).part
+
 pub slice_bounds-packet-start : goal.slice_bounds-packet-start
 slice_bounds-packet-start c =
     let part : Timed c.args.f c.args.file.now c.run_packets-p.result.place c.piece_of-part.result.time c.piece_of-part.result.start c.piece_of-part.result.end =

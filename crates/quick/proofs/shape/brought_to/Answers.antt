@@ -1,5 +1,4 @@
 use Rattle.std.proofs.Common.{rules}
-
 use Rattle.quick.proofs.shape.brought_to.Goals as goal
 
 pub returns : goal.returns

@@ -1,5 +1,4 @@
 use Rattle.std.proofs.Common.{rules}
-
 use Rattle.quick.proofs.shape.is_free.Goals as goal
 
 pub returns-in-Empty : goal.returns-in-Empty

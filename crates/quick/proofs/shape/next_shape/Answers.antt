@@ -1,5 +1,4 @@
 use Rattle.std.proofs.Common.{rules}
-
 use Rattle.quick.proofs.shape.next_shape.Goals as goal
 
 pub returns-in-New : goal.returns-in-New

@@ -1,5 +1,4 @@
 use Rattle.std.proofs.Common.{rules}
-
 use Rattle.stream.proofs.part.trace_part.Goals as goal
 
 pub returns-in-Packet : goal.returns-in-Packet
