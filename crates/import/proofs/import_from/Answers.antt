@@ -34,16 +34,16 @@ loop-run-smaller c =
 pub loop-run-preserved : goal.loop-run-preserved
 loop-run-preserved c =
     let l : SameSizes (logs c.loop-run.bytes c.loop-run.device_rows c.loop-run.endpoint_rows c.loop-run.packets c.args.events.now c.loop-run.transactions c.loop-run.groups c.loop-run.statebytes c.loop-run.states c.loop-run.items c.loop-run.links c.loop-run.requests) (logs c.round-more.new.bytes c.round-more.new.device_rows c.round-more.new.endpoint_rows c.round-more.new.packets c.args.events.now c.round-more.new.transactions c.round-more.new.groups c.round-more.new.statebytes c.round-more.new.states c.round-more.new.items c.round-more.new.links c.round-more.new.requests) = each-log _
-        c.round-more.auto.bytes
-        c.round-more.auto.device_rows
-        c.round-more.auto.endpoint_rows
-        c.round-more.auto.packets
-        refl
-        c.round-more.auto.transactions
-        c.round-more.auto.groups
-        c.round-more.auto.statebytes
-        c.round-more.auto.states
-        c.round-more.auto.items
-        c.round-more.auto.links
-        c.round-more.auto.requests in
+    c.round-more.auto.bytes
+    c.round-more.auto.device_rows
+    c.round-more.auto.endpoint_rows
+    c.round-more.auto.packets
+    refl
+    c.round-more.auto.transactions
+    c.round-more.auto.groups
+    c.round-more.auto.statebytes
+    c.round-more.auto.states
+    c.round-more.auto.items
+    c.round-more.auto.links
+    c.round-more.auto.requests in
     importing-more c.loop-run.invariant c.round-more.ensures c.with_round-run.ensures (not-false _ c.if-not-run.false) l

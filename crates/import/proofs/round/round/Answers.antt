@@ -18,25 +18,25 @@ returns-then-not-part c = round-ends c.run_packets-p.ensures c.next_record.ensur
 pub slice_bounds-packet-count : goal.slice_bounds-packet-count
 slice_bounds-packet-count c =
     let part : Timed c.args.f c.args.file.now c.run_packets-p.result.place c.piece_of-part.result.time c.piece_of-part.result.start c.piece_of-part.result.end =
-      timed-is c.args.f c.args.file.now _ c.next_record.ensures c.piece_of-part.ensures.short c.piece_of-part.ensures.value (not-false _ c.if-not-part.false) in
+    timed-is c.args.f c.args.file.now _ c.next_record.ensures c.piece_of-part.ensures.short c.piece_of-part.ensures.value (not-false _ c.if-not-part.false) in
     (timed_inside part).part
 
 pub slice_bounds-packet-start : goal.slice_bounds-packet-start
 slice_bounds-packet-start c =
     let part : Timed c.args.f c.args.file.now c.run_packets-p.result.place c.piece_of-part.result.time c.piece_of-part.result.start c.piece_of-part.result.end =
-      timed-is c.args.f c.args.file.now _ c.next_record.ensures c.piece_of-part.ensures.short c.piece_of-part.ensures.value (not-false _ c.if-not-part.false) in
+    timed-is c.args.f c.args.file.now _ c.next_record.ensures c.piece_of-part.ensures.short c.piece_of-part.ensures.value (not-false _ c.if-not-part.false) in
     (timed_inside part).part
 
 pub slice_bounds-packet-end : goal.slice_bounds-packet-end
 slice_bounds-packet-end c =
     let part : Timed c.args.f c.args.file.now c.run_packets-p.result.place c.piece_of-part.result.time c.piece_of-part.result.start c.piece_of-part.result.end =
-      timed-is c.args.f c.args.file.now _ c.next_record.ensures c.piece_of-part.ensures.short c.piece_of-part.ensures.value (not-false _ c.if-not-part.false) in
+    timed-is c.args.f c.args.file.now _ c.next_record.ensures c.piece_of-part.ensures.short c.piece_of-part.ensures.value (not-false _ c.if-not-part.false) in
     (timed_inside part).stays
 
 pub after_call-requires : goal.after_call-requires
 after_call-requires c =
     let part : Timed c.args.f c.args.file.now c.run_packets-p.result.place c.piece_of-part.result.time c.piece_of-part.result.start c.piece_of-part.result.end =
-      timed-is c.args.f c.args.file.now _ c.next_record.ensures c.piece_of-part.ensures.short c.piece_of-part.ensures.value (not-false _ c.if-not-part.false) in
+    timed-is c.args.f c.args.file.now _ c.next_record.ensures c.piece_of-part.ensures.short c.piece_of-part.ensures.value (not-false _ c.if-not-part.false) in
     let l : length c.args.file.now < 2 ^ 64 = search rules in
     let k = round_few c.run_packets-p.ensures part c.packet-r.ensures in
     record { taken = λ e. omega (arith, k.0, l); eights = λ e. omega (arith, k.1, l) }
@@ -44,5 +44,5 @@ after_call-requires c =
 pub returns : goal.returns
 returns c =
     let part : Timed c.args.f c.args.file.now c.run_packets-p.result.place c.piece_of-part.result.time c.piece_of-part.result.start c.piece_of-part.result.end =
-      timed-is c.args.f c.args.file.now _ c.next_record.ensures c.piece_of-part.ensures.short c.piece_of-part.ensures.value (not-false _ c.if-not-part.false) in
+    timed-is c.args.f c.args.file.now _ c.next_record.ensures c.piece_of-part.ensures.short c.piece_of-part.ensures.value (not-false _ c.if-not-part.false) in
     round_goes c.run_packets-p.ensures part c.packet-r.ensures c.after_call.ensures
