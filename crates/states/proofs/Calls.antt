@@ -20,7 +20,7 @@ use Rattle.group.specs.declared.Effect.TheVariants.{NoEffect, NewDevice, Request
 use Rattle.rules.specs.Rows.{Row, BytesRow, DeviceRow, EndpointRow, PacketRow, EventRow, TransactionRow, naming, GroupRow, grouping, ItemRow, T, G, D, E, RequestRow, asking, Over}
 use Rattle.rules.specs.World.{World, stamped, event_ep, last_group, push, change, cleared, with_transaction, with_event_state, with_keepalive, with_shelf, change_device, last_stamped}
 use Rattle.rules.specs.Endpoints.{add_device, device_for, push_endpoint, typed, set_detail_on}
-use Rattle.rules.specs.Groups.{close_row, close_rows, add_item, states_from, add_group_entry, link, push_group, over, asked_of, effect_step, becomes}
+use Rattle.rules.specs.Groups.{close_row, close_rows, add_item, states_from, add_group_entry, link, push_group, over, asked_of, effect_step, becomes, add_endpoint_state}
 use Rattle.rules.specs.Transactions.{transaction_end, push_transaction, is_dropped}
 use Rattle.rules.specs.Events.{event_subgroup_start, event_add_group, Act, nothing, single, group, subgroup, keepalive, turn_of, event_act, event_update}
 use Rattle.rules.specs.Decoder.{append_bytes, push_packet, handle_raw_packet, suspend, over_row, over_rows, end_all, handle_event, finish, handle_detail}
@@ -59,7 +59,7 @@ module _ (b : ℕ) where
   -- ---- the rows of groups
 
   entry-keeps : (x : ℕ) (start : Bool) → Keeps (add_group_entry x start)
-  entry-keeps x start w h = other (GroupRow (grouping x (last_group x w) start w.context)) refl refl (state _ _ (few _ 0 w.count) (many _ 0 w.count) h)
+  entry-keeps x start w h = other (GroupRow (grouping x (last_group x w) start w.context)) refl refl (state _ _ (few (add_endpoint_state x start w).endpoints 0 w.count) (many (add_endpoint_state x start w).endpoints 0 w.count) h)
     where
       few : (f : ℕ → Endpoint) (i n : ℕ) → length (states_from f i n) ≤ n
       few f i n = omega (arith, length-states f i n)

@@ -24,7 +24,7 @@ wider h (other r p q t) = other r p q (wider h t)
 wider h (state ss m l e t) = state ss m (omega arith) e (wider h t)
 
 -- the rows of a call behind those before it
-pub behind : {b c : ℕ} {js is : List Row} {n m : ℕ} → Tiled b c js n → Tiled n c is m → Tiled b c (is ++ js) m
+pub behind : {b c : ℕ} {js : List Row} {n : ℕ} {is : List Row} {m : ℕ} → Tiled b c js n → Tiled n c is m → Tiled b c (is ++ js) m
 behind t none = t
 behind t (other r p q u) = other r p q (behind t u)
 behind t (state ss m l e u) = state ss m l e (behind t u)

@@ -1,5 +1,5 @@
 use native.Mathlib.Omega.{arith}
-use Rattle.text.specs.Lengths.{details-fits}
+use Rattle.text.proofs.Lengths.{details-fits}
 use Rattle.pivotspark.proofs.Listed.{made_within, made_size, alone}
 use Rattle.pivotspark.proofs.list.pivotspark_details_line.Goals as goal
 use Rattle.std.proofs.Common.{◌-◌}

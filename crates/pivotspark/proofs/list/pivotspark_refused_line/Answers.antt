@@ -1,5 +1,5 @@
 use native.Mathlib.Omega.{arith}
-use Rattle.text.specs.Lengths.{refused-fits}
+use Rattle.text.proofs.Lengths.{refused-fits}
 use Rattle.pivotspark.proofs.Listed.{made_within, made_size, alone}
 use Rattle.pivotspark.proofs.list.pivotspark_refused_line.Goals as goal
 use Rattle.std.proofs.Common.{◌-◌}
