@@ -2,3 +2,4 @@ pub mod Grows
 pub mod Flows
 pub mod Back
 pub mod Answered
+pub mod ChangeParts
