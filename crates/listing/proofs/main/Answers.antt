@@ -1,5 +1,4 @@
-use Rattle.std.proofs.Common.{arith}
-use Rattle.std.proofs.Common.{ℕ, ◌≤◌, subst}
+use Rattle.std.proofs.Common.{arith, ℕ, ◌≤◌, subst}
 use Rattle.listing.specs.Prints.{no_rows, text_room}
 use Rattle.listing.proofs.Shown.{zeros, own_room}
 use Rattle.listing.proofs.main.Goals as goal

@@ -1,5 +1,5 @@
-use Rattle.std.proofs.Common.{arith, rules}
-use Rattle.listing.proofs.Shown.{zeros, own_room, too-long, printed}
+use Rattle.std.proofs.Common.{arith}
+use Rattle.listing.proofs.Shown.{own_room, too-long, printed}
 use Rattle.listing.proofs.print.Goals as goal
 
 pub too_long_line-requires : goal.too_long_line-requires
