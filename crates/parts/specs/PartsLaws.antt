@@ -102,19 +102,6 @@ module _ (line : ℕ → List ℕ) where
   pub whole_of : (r n : ℕ) → r ≡ n → (rooms : List ℕ) → stop_of line r 0 rooms ≡ n → bytes_of line r 0 rooms ≡ each line 0 n
   whole_of r n q rooms h = whole r rooms (h ∙ sym q) ∙ ap (each line 0) q
 
-  -- as many calls with room for a line as there are rows come to the last row
-  further : (n room from k : ℕ) → longest ≤ room → n ≤ from + suc k → n ≤ next_of line n room from + k
-  further n room from k r l = by (ltb from n) refl
-    where
-      by : (b : Bool) → ltb from n ≡ b → n ≤ next_of line n room from + k
-      by true e = omega (arith, goes_on n room from (ltb-true from n e) r)
-      by false e = omega (arith, ltb-false from n e)
-
-  pub ends : (n : ℕ) (rooms : List ℕ) (from : ℕ) → Roomy rooms → from ≤ n → n ≤ from + length rooms → stop_of line n from rooms ≡ n
-  unfolding stop_of
-  ends n [] from r h l = omega arith
-  ends n (room ∷ rooms) from (one q r) h l = ends n rooms (next_of line n room from) r (next_le n room from h) (further n room from (length rooms) q l)
-
 -- ---- of a log that has the rows that are asked for
 
 pub width_some : (kind : Kind) → 0 < width_of kind
@@ -148,45 +135,6 @@ pub states_are :
     → stop_of (state_row (state_rows n states) states (state_end m statebytes) statebytes) (state_rows n states) 0 rooms ≡ n
     → bytes_of (state_row (state_rows n states) states (state_end m statebytes) statebytes) (state_rows n states) 0 rooms ≡ state_lines n states m statebytes
 states_are n states m statebytes h g rooms e = states_by n states m statebytes (state_rows n states) (state_end m statebytes) (omega arith) (omega arith) rooms e
-
--- ---- the whole listing
-
-counted-kind : (n : Counts) (l : Logs) → Counted n l → (kind : Kind) → count_at (number_of kind) n * width_of kind ≤ length (log_at (number_of kind) l)
-counted-kind n l h Device = h 1 (omega arith) (log-number 1 refl)
-counted-kind n l h Endpoint = h 2 (omega arith) (log-number 2 refl)
-counted-kind n l h Packet = h 3 (omega arith) (log-number 3 refl)
-counted-kind n l h Event = h 4 (omega arith) (log-number 4 refl)
-counted-kind n l h Transaction = h 5 (omega arith) (log-number 5 refl)
-counted-kind n l h Group = h 6 (omega arith) (log-number 6 refl)
-counted-kind n l h Item = h 9 (omega arith) (log-number 9 refl)
-counted-kind n l h Link = h 10 (omega arith) (log-number 10 refl)
-counted-kind n l h Request = h 11 (omega arith) (log-number 11 refl)
-
--- calls to the end of each kind make the listing
-module _ (n : Counts) (l : Logs) (rooms : ℕ → List ℕ) (h : Counted n l) (e : Ended n l rooms) where
-  kind_are : (kind : Kind) → bytes_by n l rooms kind ≡ lines_of kind (count_at (number_of kind) n) (log_at (number_of kind) l)
-  kind_are kind = lines_are kind (count_at (number_of kind) n) (log_at (number_of kind) l) (counted-kind n l h kind) (rooms (number_of kind)) (e.kinds kind)
-
-  states-all : bytes_of (states_line n l rooms) (state_rows n.states l.states) 0 (rooms 8) ≡ state_lines n.states l.states n.statebytes l.statebytes
-  states-all =
-      states_are n.states l.states n.statebytes l.statebytes (omega (arith, h 8 (omega arith) (log-number 8 refl))) (omega (arith, h 7 (omega arith) (log-number 7 refl)))
-      (rooms 8)
-      e.states
-
-  pub in-parts : in_parts n l rooms ≡ listing n l
-  unfolding in_parts listing
-  in-parts =
-      λ i. title
-      ++ (kind_are Device i
-      ++ (kind_are Endpoint i
-      ++ (kind_are Packet i
-      ++ (kind_are Event i
-      ++ (kind_are Transaction i
-      ++ (kind_are Group i
-      ++ (states-all i
-      ++ (kind_are Item i
-      ++ (kind_are Link i
-      ++ kind_are Request i)))))))))
 
 -- a kind goes by its log's number
 pub named-kind : (kind : Kind) → named_of (number_of kind) ≡ Of kind
