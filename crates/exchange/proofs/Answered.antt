@@ -52,7 +52,7 @@ short_by (event kind code time) s a s' d e = tt
 short_by (detail address number direction kind max) s a s' d e = tt
 short_by finishing s a s' d e = tt
 
-shorts : {js : List Row} {s : State} (q : Sequence js s) → Shorts (packets_of q)
+pub shorts : {js : List Row} {s : State} (q : Sequence js s) → Shorts (packets_of q)
 shorts (made hv ht m) = tt
 shorts (then {js} {s} k a s' q d) = shorts-append (packets_of q) (pick (accepts a) (item_by k) []) (shorts q) (by (accepts a) refl)
   where
@@ -87,9 +87,13 @@ module _ {js : List Row} {s : State} (q : Sequence js s) {p : List ℕ} {time : 
   unfolding decoder_of
   unfinished h f = ap (λ (d : Decoder). d.finished) (x.answers.left (ap accepts (sym x.answers.answer) ∙ h)).decoder ∙ f
 
+-- what an import of the file answers: it is taken, or room is wanting
+abbrev pub TakenOrFull : ℕ → Type 0
+TakenOrFull a = (a ≡ 0) ⊎ (a ≡ 7)
+
 -- ---- all records, behind any prefix
 
-answered : (rs : List Item) (before : List ℕ) → Fits written_format rs → Shorts rs → {js : List Row} {at n e a p : ℕ} {x x' : Stand} (q : Sequence js x.state) → x.state.decoder.finished ≡ false
+pub answered : (rs : List Item) (before : List ℕ) → Fits written_format rs → Shorts rs → {js : List Row} {at n e a p : ℕ} {x x' : Stand} (q : Sequence js x.state) → x.state.decoder.finished ≡ false
     → at ≡ length before → Imports written_format (before ++ body_of written_format rs) at x n e a p x' → (a ≡ 0) ⊎ (a ≡ 7)
 answered [] before fits small q f c (done w) = inl refl
 answered [] before fits small {at = at} {x = x} {x' = x'} q f c (stops {a = a} g h) =
@@ -110,14 +114,3 @@ answered (r ∷ rs) before fits small {at = at} {p = p} {x = x} {x' = x'} q f c 
     let w₁ = subst (λ (u : List ℕ). Imports written_format u (behind (next_at written_format t at) at) x₁ n e b p x') (sym (append_assoc before (item_bytes written_format r) (body_of written_format rs))) w in
     answered rs (before ++ item_bytes written_format r) fits.1 small.1 (more r fits.0 before (body_of written_format rs) x x₁ a q g₁)
     (unfinished q (called r fits.0 before (body_of written_format rs) x x₁ a q g₁) h f) y w₁
-
-answers : {js : List Row} {s : State} (q : Sequence js s) → late (items_of (source_in s)) ≡ false
-    → {js' : List Row} {s' : State} → Sequence js' s' → s'.decoder.finished ≡ false → (s'' : State) (h h'' : List ℕ) (n e a p : ℕ) → ImportsFile (file_bytes (source_in s)) (stand s' h) n e a p (stand s'' h'')
-    → (a ≡ 0) ⊎ (a ≡ 7)
-answers {s = s} q ok {s' = s'} q' f s'' h h'' n e a p i =
-    answered (items_of (source_in s)) (head_bytes written_format) (fits q ok) (subst Shorts (sym (exported q)) (shorts q)) q' f refl (behind-head q ok (stand s' h) (stand s'' h'') n e a p i)
-
--- ---- the claim
-
-pub exchange : Exchange
-exchange = record { exported = λ q. exported q; left_behind = λ q. left_behind q; back = λ q ok q'. back q ok q'; answers = λ q ok q' f. answers q ok q' f }

@@ -3,3 +3,4 @@ pub mod Flows
 pub mod Back
 pub mod Answered
 pub mod ChangeParts
+pub mod Claim
