@@ -1,12 +1,15 @@
 #!/usr/bin/env python3
-"""Lists the law modules that the port moved from specs/ to proofs/, with each theorem, and compares each statement with the one at the port's first commit.
+"""Lists the law modules that the port moved from specs/ to proofs/, with each declaration, and compares them with the port's first commit.
 
 usage: tools/moved.py [--statements]
 
-The commit is the second line of docs/PORT.md. A statement is what stands between a declaration's name and its first clause; it has to be
-the same, word for word, but for the path of a moved module. With --statements each is printed whole. Status 1 where one differs or is gone.
+The commit is the second line of docs/PORT.md. A statement is what stands between a declaration's name and its first clause, of a record with
+its parameters and up to its fields, which are declarations too; it has to be the same, word for word, but for the path of a moved module.
+With --statements each is printed whole. Then each line of a module that differs is printed, proofs and bodies of definitions among them, but
+for imports and comments. Status 1 where a statement differs or is gone.
 """
 
+import difflib
 import os
 import re
 import subprocess
@@ -14,7 +17,8 @@ import sys
 
 TOP = os.path.dirname(os.path.dirname(os.path.abspath(__file__)))
 NAME = r'[^\s(){}.;,@"«»]+'
-HEAD = re.compile(r"^( *)(?:(?:abbrev|unfoldable) )?(?:pub )?(?:(?:data|record) )?(" + NAME + r") :(?= |$)")
+HEAD = re.compile(r"^( *)(?:(?:abbrev|unfoldable) )?(?:pub )?(?:(?:data|record) (" + NAME + r") |(" + NAME + r") :(?= |$))")
+IMPORT = re.compile(r" *(?:pub )?(?:use|import)\b")
 
 
 def git(*words):
@@ -34,9 +38,9 @@ def statements(text):
         if not head or len(head[1]) > 2:
             at += 1
             continue
-        said, deep, name = [lines[at].strip()], len(head[1]), head[2]
+        said, deep, name, is_type = [lines[at].strip()], len(head[1]), head[2] or head[3], head[2] is not None
         at += 1
-        while at < len(lines) and (not lines[at] or len(lines[at]) - len(lines[at].lstrip()) > deep):
+        while at < len(lines) and not (is_type and said[-1].endswith(" where")) and (not lines[at] or len(lines[at]) - len(lines[at].lstrip()) > deep):
             said.append(lines[at].strip())
             at += 1
         found.append((name, " ".join(it for it in said if it)))
@@ -53,8 +57,9 @@ def main():
         if os.path.exists(f"{TOP}/{path}") or not os.path.exists(f"{TOP}/{now}"):
             continue
         with open(f"{TOP}/{now}", encoding="utf-8") as f:
-            today = statements(f.read())
-        before = statements(git("show", f"{first}:{path}"))
+            text = f.read()
+        was = git("show", f"{first}:{path}")
+        today, before = statements(text), statements(was)
         print(f"{now[len('crates/'):]}: " + ", ".join(name for name, _ in before))
         for at, (name, said) in enumerate(before):
             count += 1
@@ -65,6 +70,10 @@ def main():
                 print(f"  DIFFERS {name}\n    was {said}\n    is  {spelled}")
             elif "--statements" in sys.argv:
                 print(f"    {said}")
+        lines = [[line for line in code(it) if line and not IMPORT.match(line)] for it in (was, text)]
+        for line in difflib.unified_diff(*lines, n=0, lineterm=""):
+            if line[:2] not in ("--", "++", "@@"):
+                print(f"  line {line[0]} {line[1:].strip()}")
     print(f"moved: {count} declarations, {wrong} that differ")
     return 1 if wrong else 0
 
