@@ -5,12 +5,11 @@ ghost use Rattle.std.specs.Prelude.{◌≡◌, not, ◌||◌};
 ghost use Rattle.rules.specs.World.{stamp};
 ghost use Rattle.record.specs.Formed.{well_formed};
 ghost use Rattle.record.specs.Room.{long};
-ghost use Rattle.call.specs.Share.{Words, Bytes, Known, first_tests, last_stamp, firsts_of, written_of, tied};
+ghost use Rattle.call.specs.Share.{first_tests, last_stamp, firsts_of, written_of, tied};
 ghost use Rattle.call.specs.State.{room_by};
 
 use details::Device;
 use endpoints::Table;
-use endpoints::entry::sized;
 use record::formed::well_formed;
 use record::room::{first, too_long};
 use record::{Counts, Decoder};
@@ -163,30 +162,4 @@ pub fn tie(t: Transaction, d: Written) -> Transaction
     t.linked = d.linked;
     t.link = d.link;
     t
-}
-
-fn lent(_words: &[u64]) {}
-
-// Each word of a lent slice is one: a proof learns it where the slice is lent on.
-fn words(words: &[u64])
-    ensures { Words words.now }
-{
-    lent(words);
-}
-
-fn lent_bytes(_bytes: &[u8]) {}
-
-// Each byte of a lent packet is one.
-pub fn bytes_known(packet: &[u8])
-    ensures { Bytes packet.now }
-{
-    lent_bytes(packet);
-}
-
-// What a proof may know of a lent table: that it has all its words, and that each is one.
-pub fn known(table: &Table)
-    ensures { Known table.now }
-{
-    sized(table);
-    words(table);
 }

@@ -1,16 +1,16 @@
 -- Laws (proved): what the contracts of the entries for pcap files rule out: any two outcomes coincide; and the words that a head leaves are the format that it gave.
-use Rattle.std.specs.Prelude.{ℕ, ◌<◌, ◌%◌, Bool, true, false, cond, List, [], ◌∷◌, ◌≡◌, refl, eqb, leb, ltb, length, get_or}
+use Rattle.std.specs.Prelude.{⊤, ℕ, ◌<◌, ◌%◌, Option, Some, None, MatchOption, Result, Ok, Err, Bool, true, false, cond, List, [], ◌∷◌, ◌≡◌, refl, eqb, leb, ltb, length, get_or}
 use Rattle.std.proofs.Common.{mod-eq_of_lt, arith, sym, ap, ◌∙◌}
 use Rattle.std.proofs.lemmas.List.Edits.{sets}
 use Rattle.rows.specs.Sets.{get_d-sets_in}
 use Rattle.endpoints.specs.Table.{flag_of}
 use Rattle.handle.proofs.WordsLaws.{flag_one}
 use Rattle.pcap.specs.Numbers.{number_at}
-use Rattle.pcap.specs.Pcap.{unit_of, head_of}
+use Rattle.pcap.specs.Pcap.{unit_of, by_unit, marked, head_of}
 use Rattle.pcap.specs.declared.Exported.{Exported}
 use Rattle.pcap.specs.declared.Format.{Format}
-use Rattle.pcap.specs.declared.Head.{Head}
-use Rattle.pcap.specs.declared.Head.TheVariants.{Fine, Mark, Link}
+use Rattle.pcap.specs.declared.HeadError.{HeadError}
+use Rattle.pcap.specs.declared.HeadError.TheVariants.{Mark, Link}
 use Rattle.call.specs.State.{Logs, State}
 use Rattle.step.specs.Block.{Stand}
 use Rattle.import.proofs.ImportLaws.{import_unique}
@@ -50,44 +50,45 @@ format_back k f l h =
     λ i. record { big = (ap flag_of first ∙ flag_one f.big) i; unit = (ap (λ (n : ℕ). n % 4294967296) second ∙ mod-eq_of_lt h) i }
 
 -- words that stand for the format of a head
-abbrev pub StandFor : Head → List ℕ → Type 0
-StandFor (Fine f) k = format_in k ≡ f
-StandFor Mark k = Unit {0}
-StandFor Link k = Unit {0}
+abbrev pub StandFor : Result Format HeadError → List ℕ → Type 0
+StandFor (Ok f) k = format_in k ≡ f
+StandFor (Err error) k = Unit {0}
 
-abbrev Short : Head → Type 0
-Short (Fine f) = f.unit < 4294967296
-Short Mark = Unit {0}
-Short Link = Unit {0}
+abbrev Short : Result Format HeadError → Type 0
+Short (Ok f) = f.unit < 4294967296
+Short (Err error) = Unit {0}
 
-unit-short : (n : ℕ) → unit_of n < 4294967296
+unit-short : (n : ℕ) → MatchOption (unit_of n) ⊤ (λ u. u < 4294967296)
 unit-short n = by (eqb n 0xA1B2C3D4) (eqb n 0xA1B23C4D)
   where
-    by : (a b : Bool) → cond a 1000 (cond b 1 0) < 4294967296
+    by : (a b : Bool) → MatchOption (cond a (Some 1000) (cond b (Some 1) None)) ⊤ (λ u. u < 4294967296)
     by true b = omega arith
     by false true = omega arith
-    by false false = omega arith
+    by false false = tt
+
+marked-short : (big : Bool) (t : List ℕ) (other : Result Format HeadError) → Short other → Short (marked big t other)
+marked-short big t other h = by (unit_of (number_at big 0 t)) (unit-short (number_at big 0 t))
+  where
+    linked_by : (usb : Bool) (unit : ℕ) → unit < 4294967296 → Short (cond usb (Ok (record { big = big; unit = unit })) (Err Link))
+    linked_by true unit k = k
+    linked_by false unit k = tt
+
+    by : (u : Option ℕ) → MatchOption u ⊤ (λ u. u < 4294967296) → Short (by_unit big t other u)
+    by (Some unit) k = linked_by (eqb (number_at big 20 t) 288) unit k
+    by None k = h
 
 head-short : (t : List ℕ) → Short (head_of t)
 unfolding head_of
-head-short t =
-    by (leb 24 (length t)) (eqb (unit_of (number_at false 0 t)) 0) (eqb (unit_of (number_at true 0 t)) 0) (eqb (number_at false 20 t) 288) (eqb (number_at true 20 t) 288)
-    (unit-short (number_at false 0 t)) (unit-short (number_at true 0 t))
+head-short t = by (leb 24 (length t)) (marked false t (marked true t (Err Mark))) (marked-short false t (marked true t (Err Mark)) (marked-short true t (Err Mark) tt))
   where
-    by : (whole lacks none first second : Bool) {u v : ℕ} → u < 4294967296 → v < 4294967296
-        → Short (cond whole (cond lacks (cond none Mark (cond second (Fine (record { big = true; unit = v })) Link)) (cond first (Fine (record { big = false; unit = u })) Link)) Mark)
-    by false lacks none first second h k = tt
-    by true false none true second h k = h
-    by true false none false second h k = tt
-    by true true true first second h k = tt
-    by true true false first true h k = k
-    by true true false first false h k = tt
+    by : (whole : Bool) (h : Result Format HeadError) → Short h → Short (cond whole h (Err Mark))
+    by true h k = k
+    by false h k = tt
 
 -- the words that are lent to a head that is accepted then stand for its format
 pub head-format : (t k : List ℕ) → length k ≡ 2 → StandFor (head_of t) (format_after (head_of t) k)
 head-format t k l = by (head_of t) (head-short t)
   where
-    by : (h : Head) → Short h → StandFor h (format_after h k)
-    by (Fine f) s = format_back k f l s
-    by Mark s = tt
-    by Link s = tt
+    by : (h : Result Format HeadError) → Short h → StandFor h (format_after h k)
+    by (Ok f) s = format_back k f l s
+    by (Err error) s = tt

@@ -1,14 +1,13 @@
 -- To be believed: what the entries for pcap files answer and leave.
 -- Hold it to: ours: the C entries pivotspark_pcap_head, pivotspark_pcap_records, pivotspark_pcap_size and pivotspark_pcap_export, each to the contract of its function (import, export); 02, 4
-use Rattle.std.specs.Prelude.{ℕ, ◌+◌, ◌*◌, ◌%◌, cond, List, [], ◌∷◌, ◌≡◌, eqb, ltb, get_or}
+use Rattle.std.specs.Prelude.{ℕ, ◌+◌, ◌*◌, ◌%◌, Result, Ok, Err, cond, List, [], ◌∷◌, ◌≡◌, eqb, ltb, get_or}
 use Rattle.std.proofs.lemmas.List.Edits.{sets}
 use Rattle.rows.specs.One.{one}
 use Rattle.endpoints.specs.Table.{flag_of}
 use Rattle.pcap.specs.Pcap.{head_of, head_answer, head_place}
 use Rattle.pcap.specs.declared.Exported.{Exported}
 use Rattle.pcap.specs.declared.Format.{Format}
-use Rattle.pcap.specs.declared.Head.{Head}
-use Rattle.pcap.specs.declared.Head.TheVariants.{Fine, Mark, Link}
+use Rattle.pcap.specs.declared.HeadError.{HeadError}
 use Rattle.call.specs.State.{Logs, State}
 use Rattle.step.specs.Block.{stand}
 use Rattle.import.specs.Import.{Imports}
@@ -25,10 +24,9 @@ abbrev pub format_words : Format → List ℕ
 format_words f = one f.big ∷ f.unit ∷ []
 
 -- refused, they are as they were
-abbrev pub format_after : Head → List ℕ → List ℕ
-format_after (Fine f) k = sets k 0 (format_words f)
-format_after Mark k = k
-format_after Link k = k
+abbrev pub format_after : Result Format HeadError → List ℕ → List ℕ
+format_after (Ok f) k = sets k 0 (format_words f)
+format_after (Err error) k = k
 
 -- the answer in the top byte and the place below it, as of a trace's header
 pub record HeadTold (file k : List ℕ) (r : ℕ) (k' : List ℕ) : Type 0 where

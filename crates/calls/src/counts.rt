@@ -11,18 +11,19 @@ use handle::decoder::load_decoder;
 pub extern "C" fn pivotspark_counts(record: &Record, counts: &mut [u64; 12])
     ensures { counts.new ≡ sets counts.old 0 (count_words (decoder_in «record».now).counts) }
 {
-    let decoder = load_decoder(record);
-    let n = decoder.counts;
-    counts[0] = n.bytes as u64;
-    counts[1] = n.devices as u64;
-    counts[2] = n.endpoints as u64;
-    counts[3] = n.packets as u64;
-    counts[4] = n.events as u64;
-    counts[5] = n.transactions as u64;
-    counts[6] = n.groups as u64;
-    counts[7] = n.statebytes as u64;
-    counts[8] = n.states as u64;
-    counts[9] = n.items as u64;
-    counts[10] = n.links as u64;
-    counts[11] = n.requests as u64;
+    let n = load_decoder(record).counts;
+    *counts = [
+        n.bytes as u64,
+        n.devices as u64,
+        n.endpoints as u64,
+        n.packets as u64,
+        n.events as u64,
+        n.transactions as u64,
+        n.groups as u64,
+        n.statebytes as u64,
+        n.states as u64,
+        n.items as u64,
+        n.links as u64,
+        n.requests as u64,
+    ];
 }

@@ -1,5 +1,5 @@
 // What an entry stores of what its call left: all of it, or nothing where the call was refused.
-ghost use Rattle.std.specs.Prelude.{[], ◌∷◌, ◌≡◌, ltb, length};
+ghost use Rattle.std.specs.Prelude.{[], ◌∷◌, ◌≡◌, ltb};
 ghost use Rattle.std.proofs.lemmas.List.Edits.{sets};
 ghost use Rattle.call.specs.Outcome.{accepts};
 ghost use Rattle.calls.specs.Block.{clock_in, clock_words};
@@ -8,10 +8,12 @@ ghost use Rattle.calls.specs.Keeps.{Keeps, KeepsClock};
 use crate::blocks::{Ticks, Told};
 use block::Taken;
 use call::Called;
-use endpoints::entry::flag_word;
 use handle::{Record, store_record};
 use step::goes_on;
 use trace::clock::Clock;
+
+// Where the top byte of a word begins: there stands an answer, below it a place.
+pub const TOP: u64 = 1 << 56;
 
 // A single call.
 pub fn keep(words: &mut Record, r: Called)
@@ -27,38 +29,25 @@ pub fn keep(words: &mut Record, r: Called)
 pub fn load_ticks(ticks: &Ticks) -> Clock
     ensures { result ≡ clock_in ticks.now }
 {
+    let [started, last, time] = *ticks;
     Clock {
-        started: ticks[0] != 0,
-        last: (ticks[1] % 4294967296) as u32,
-        time: ticks[2],
+        started: started != 0,
+        last: (last % 4294967296) as u32,
+        time,
     }
-}
-
-fn lent(_words: &[u64]) {}
-
-// Lent words are all there: a proof learns it where the array is lent on as a slice.
-fn sized(ticks: &Ticks)
-    ensures { length ticks.now ≡ 3 }
-{
-    lent(ticks);
 }
 
 fn store_ticks(ticks: &mut Ticks, c: Clock)
     ensures ticks_after { ticks.new ≡ sets ticks.old 0 (clock_words c) }
     ensures ticks_after_2 { clock_in ticks.new ≡ c }
 {
-    sized(ticks);
-    ticks[0] = flag_word(c.started);
-    ticks[1] = c.last as u64;
-    ticks[2] = c.time;
+    *ticks = [u64::from(c.started), c.last as u64, c.time];
 }
 
 pub fn put_told(told: &mut Told, taken: usize, eights: usize, place: usize)
     ensures { told.new ≡ sets told.old 0 (taken ∷ eights ∷ place ∷ []) }
 {
-    told[0] = taken as u64;
-    told[1] = eights as u64;
-    told[2] = place as u64;
+    *told = [taken as u64, eights as u64, place as u64];
 }
 
 // A block: where no record was taken the record and the clock are as they were.

@@ -3,8 +3,8 @@ ghost use Rattle.std.specs.Prelude.{◌≡◌};
 ghost use Rattle.std.proofs.lemmas.List.Edits.{sets};
 ghost use Rattle.calls.specs.Pcap.{format_in, format_words, format_after, HeadTold};
 
-use endpoints::entry::flag_word;
-use pcap::{Format, Head, check_head, head_answer, head_place};
+use crate::keep::TOP;
+use pcap::{Format, HeadError, check_head, head_answer, head_place};
 
 // The format of a file: whether the highest byte of a number comes first, and the nanoseconds in one unit of a record's fraction.
 pub type PcapFormat = [u64; 2];
@@ -12,27 +12,25 @@ pub type PcapFormat = [u64; 2];
 pub fn load_format(words: &PcapFormat) -> Format
     ensures { result ≡ format_in words.now }
 {
+    let [big, unit] = *words;
     Format {
-        big: words[0] != 0,
-        unit: (words[1] % 4294967296) as u32,
+        big: big != 0,
+        unit: (unit % 4294967296) as u32,
     }
 }
 
 fn store_format(words: &mut PcapFormat, f: Format)
     ensures { words.new ≡ sets words.old 0 (format_words f) }
 {
-    words[0] = flag_word(f.big);
-    words[1] = f.unit as u64;
+    *words = [u64::from(f.big), f.unit as u64];
 }
 
 // The format that a head gives; refused, the words are as they were.
-fn put_format(words: &mut PcapFormat, h: Head)
+fn put_format(words: &mut PcapFormat, h: Result<Format, HeadError>)
     ensures { words.new ≡ format_after h words.old }
 {
-    match h {
-        Head::Fine(f) => store_format(words, f),
-        Head::Mark => {}
-        Head::Link => {}
+    if let Ok(f) = h {
+        store_format(words, f);
     }
 }
 
@@ -45,5 +43,5 @@ pub extern "C" fn pivotspark_pcap_head(file: &[u8], format: &mut PcapFormat) -> 
     put_format(format, h);
     let answer = head_answer(h) as u64;
     let place = head_place(h) as u64;
-    72057594037927936 * answer + place
+    TOP * answer + place
 }

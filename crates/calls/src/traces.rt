@@ -3,6 +3,7 @@ ghost use Rattle.std.specs.Prelude.{◌≡◌, ◌+◌, ◌*◌};
 ghost use Rattle.trace.specs.Details.{details_of};
 ghost use Rattle.trace.specs.Trace.{header_of, header_answer, header_place};
 
+use crate::keep::TOP;
 use trace::details::count_details;
 use trace::{check_header, header_answer, header_place};
 
@@ -14,7 +15,7 @@ pub extern "C" fn pivotspark_header(trace: &[u8]) -> u64
     let h = check_header(trace);
     let answer = header_answer(h) as u64;
     let place = header_place(h) as u64;
-    72057594037927936 * answer + place
+    TOP * answer + place
 }
 
 // How many records of a trace are details that were typed in (02, 13). Of a part of a trace: lend the five bytes before its records too.

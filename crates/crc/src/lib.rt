@@ -11,14 +11,12 @@ pub fn crc5(x: u32, n: u32) -> u8
     ensures { result ≡ crc5_of x n }
 {
     let mut state: u8 = 0x1f;
-    let mut left = n;
     let mut input = x;
-    while 0 < left {
+    for _ in 0..n {
         let low = input % 2;
         let out = state % 2 ^ low as u8;
         state = state / 2 ^ out * 0x14;
-        input = input / 2;
-        left -= 1;
+        input /= 2;
     }
     state ^ 0x1f
 }
@@ -102,15 +100,13 @@ fn word(s: &[u8], i: usize) -> u64
     join(s[i], join(s[i + 1], y))
 }
 
-// The register after the bytes of s from a place, a byte a turn.
-fn by_bytes(from: u64, s: &[u8], at: usize) -> u64
-    ensures { result ≡ bytes generator16 from (drop at s.now) }
+// The register after the bytes of s, a byte a turn.
+fn by_bytes(from: u64, s: &[u8]) -> u64
+    ensures { result ≡ bytes generator16 from s.now }
 {
     let mut state = from;
-    let mut i = at;
-    while i < s.len() {
-        state = advance8(state ^ s[i] as u64);
-        i += 1;
+    for b in s {
+        state = advance8(state ^ *b as u64);
     }
     state
 }
@@ -122,12 +118,13 @@ fn by_words(from: u64, s: &[u8], at: usize) -> u64
 {
     let n = s.len();
     let mut a = from;
+    // Stays: chunks would be no plainer, here and in by_lanes: what is left behind the last is read on from its place.
     let mut i = at;
     while 8 <= n - i {
         a = fold(a) ^ word(s, i);
         i += 8;
     }
-    by_bytes(advance64(a), s, i)
+    by_bytes(advance64(a), &s[i..])
 }
 
 // Four words, 32 bytes, that stand for the register after them; the first holds the first bytes.
@@ -226,7 +223,7 @@ pub fn crc16(s: &[u8]) -> u16
     ensures { result ≡ crc16_of s.now }
 {
     if s.len() < 8 {
-        return inverted(by_bytes(0xffff, s, 0));
+        return inverted(by_bytes(0xffff, s));
     }
     let taken = by_lanes(s);
     inverted(by_words(taken.word, s, taken.at))

@@ -1,5 +1,5 @@
 -- Inner (cited by private contracts alone): what a packet's steps go by of the devices (src/near.rt), and the steps by that alone.
-use Rattle.std.specs.Prelude.{◌≡◌, ℕ, ◌+◌, true, false, List, ◌==◌}
+use Rattle.std.specs.Prelude.{◌≡◌, ℕ, ◌+◌, true, false, List, ◌==◌, Option, Some, None}
 use Rattle.usb.specs.Pid.{SETUP, IN, OUT, PING, SOF}
 use Rattle.usb.specs.Fields.{token_of}
 use Rattle.transaction.specs.Table.{pick, only, ◌or◌}
@@ -8,8 +8,6 @@ use Rattle.details.specs.Kind.{Invalid, Framing}
 use Rattle.details.specs.declared.Detail.{Detail}
 use Rattle.details.specs.declared.Device.{Device}
 use Rattle.endpoints.specs.declared.Endpoint.{Endpoint}
-use Rattle.details.specs.declared.Found.{Found}
-use Rattle.details.specs.declared.Found.TheVariants.{At, Nothing}
 use Rattle.transaction.specs.declared.Status.{Status}
 use Rattle.transaction.specs.declared.Transaction.{Transaction}
 use Rattle.rules.specs.World.{World, with_pid, invalid_ep, framing_ep}
@@ -24,12 +22,12 @@ use Rattle.plan.specs.declared.Place.{Place}
 use Rattle.decide.specs.declared.near.Near.{Near}
 
 -- the place of a device that was found, else the first
-abbrev pub place_in : Found → ℕ
-place_in (At i) = i
-place_in Nothing = 0
+abbrev pub place_in : Option ℕ → ℕ
+place_in (Some i) = i
+place_in None = 0
 
 -- by the row of that device, the number of the packet's token, and the details of the old transaction's endpoint
-abbrev pub near_by : Found → ℕ → Device → Detail → Near
+abbrev pub near_by : Option ℕ → ℕ → Device → Detail → Near
 near_by found number row old =
     record { found = found; inward = details_of row (address_for IN number); outward = details_of row number; old = old }
 
@@ -47,12 +45,12 @@ ForSeen near x0 packet d table p = (devices : List Device) → Seen near x0 pack
 -- ---- the endpoint of a packet (plan, Packet), by the device and the details
 
 -- found, on the device that stands for the packet's address
-abbrev pub found_on : Found → ℕ → List ℕ → World → Found
+abbrev pub found_on : Option ℕ → ℕ → List ℕ → World → Option ℕ
 found_on device pid packet w =
-    pick (pid == SOF) (At framing_ep)
+    pick (pid == SOF) (Some framing_ep)
     (pick ((SETUP or IN or OUT or only PING) pid)
     (endpoint_lookup device (address_for pid (token_of packet).number) w)
-    (At invalid_ep))
+    (Some invalid_ep))
 
 -- its details: a special endpoint has a kind of its own
 abbrev pub detail_by : ℕ → Near → Detail
@@ -68,10 +66,10 @@ standing_on x0 e0 i detail e =
     record { x = i; new = false; device = false; place = e.device; number = e.address; detail = detail; entry = pick (i == x0) e0 e }
 
 -- new_on, where the details on a device that was found are known
-abbrev pub new_by : Found → Detail → ℕ → ℕ → Counts → Place
-new_by (At i) detail owner address n =
+abbrev pub new_by : Option ℕ → Detail → ℕ → ℕ → Counts → Place
+new_by (Some i) detail owner address n =
     record { x = n.endpoints; new = true; device = false; place = i; number = address; detail = detail; entry = new_endpoint i address }
-new_by Nothing detail owner address n =
+new_by None detail owner address n =
     record { x = n.endpoints; new = true; device = true; place = n.devices; number = address; detail = details_of (fresh owner) address; entry = new_endpoint n.devices address }
 
 -- going_on, on the endpoint p

@@ -14,22 +14,14 @@ use endpoints::{Endpoint, Table};
 use plan::{Begin, Middle, Place};
 use record::Decoder;
 use transaction::{Status, Style, Transaction};
-use update::{Then, Update, decide_early_append, decide_early_start};
+use update::{NO_UPDATE, Update, decide_early_append, decide_early_start};
 use usb::fields::{split_kind, split_sc, token_of};
 use usb::pid::{MALFORMED, SPLIT};
 
 pub fn no_update() -> Update
     ensures { result ≡ none }
 {
-    Update {
-        over: false,
-        cut: false,
-        link: false,
-        start: false,
-        group: Then::Keep,
-        end: false,
-        item: false,
-    }
+    NO_UPDATE
 }
 
 // A step with no new endpoint.
@@ -65,15 +57,11 @@ fn start_by(u: Update, t: Transaction, e: Endpoint) -> Update
 fn update_for(status: Status, pid: u8, t: Transaction, e: Endpoint) -> Update
     ensures { result ≡ update_for status pid t e }
 {
-    let phase = e.phase;
     match status {
-        Status::New => start_by(decide_early_start(pid, phase, false), t, e),
+        Status::New => start_by(decide_early_start(pid, e.phase, false), t, e),
         Status::Continue => decide_early_append(t, e),
-        Status::Retry => no_update(),
-        Status::Done => no_update(),
-        Status::Fail => no_update(),
-        Status::Ambiguous => no_update(),
-        Status::Invalid => decide_early_start(pid, phase, false),
+        Status::Invalid => decide_early_start(pid, e.phase, false),
+        Status::Retry | Status::Done | Status::Fail | Status::Ambiguous => no_update(),
     }
 }
 
@@ -92,10 +80,8 @@ pub fn type_by(kind: u8) -> u8
 fn start_on(status: Status, p: Place, kind: u8, owner: u8, pid: u8, n: u64) -> Middle
     ensures { result ≡ start_on status p kind owner pid n }
 {
-    let entry = p.entry;
-    let detail = p.detail;
     let t = new_transaction(Style::Simple(pid), n, pid, p.x, kind);
-    let update = update_for(status, pid, t, entry);
+    let update = update_for(status, pid, t, p.entry);
     let begin = Begin {
         row: true,
         device: p.device,
@@ -110,8 +96,8 @@ fn start_on(status: Status, p: Place, kind: u8, owner: u8, pid: u8, n: u64) -> M
     };
     Middle {
         begin,
-        entry,
-        detail,
+        entry: p.entry,
+        detail: p.detail,
     }
 }
 
@@ -119,24 +105,21 @@ fn start_on(status: Status, p: Place, kind: u8, owner: u8, pid: u8, n: u64) -> M
 fn start_split(packet: &[u8], pid: u8, n: u64, p: Place) -> Middle
     ensures { result ≡ start_split packet.now pid n p }
 {
-    let entry = p.entry;
-    let detail = p.detail;
     let sc = split_sc(packet);
     let kind = split_kind(packet);
     let t = new_transaction(Style::Split(sc, kind), n, pid, 0, kind);
     let begin = go_on(true, t, no_update());
     Middle {
         begin,
-        entry,
-        detail,
+        entry: p.entry,
+        detail: p.detail,
     }
 }
 
 fn start_plain(status: Status, p: Place, pid: u8, packet: &[u8], n: u64) -> Middle
     ensures { result ≡ start_plain status p pid packet.now n }
 {
-    let detail = p.detail;
-    let kind = type_by(detail.kind);
+    let kind = type_by(p.detail.kind);
     let token = token_of(packet);
     start_on(status, p, kind, token.address, pid, n)
 }
@@ -180,27 +163,17 @@ fn transaction_start(
 pub fn with_pid(pid: u8, t: Transaction) -> Transaction
     ensures { result ≡ with_pid pid t }
 {
-    let mut t = t;
-    t.last = pid;
-    t
+    Transaction { last: pid, ..t }
 }
 
-// A split's token has come; a field that is an enum is not assigned in place.
+// A split's token has come.
 fn with_token(style: Style, x: usize, t: Transaction) -> Transaction
     ensures { result ≡ with_token style x t }
 {
     Transaction {
         style,
-        id: t.id,
-        last: t.last,
         endpoint: x,
-        kind: t.kind,
-        linked: t.linked,
-        link: t.link,
-        ready: t.ready,
-        setup: t.setup,
-        filled: t.filled,
-        payload: t.payload,
+        ..t
     }
 }
 
@@ -210,11 +183,7 @@ fn typed_detail(address: u8, kind: u8, detail: Detail) -> Detail
 {
     let number = address % 128;
     if (number != 0) & ((number < 16) & (detail.kind == kind::UNKNOWN)) {
-        Detail {
-            kind,
-            given: detail.given,
-            max: detail.max,
-        }
+        Detail { kind, ..detail }
     } else {
         detail
     }
@@ -232,9 +201,8 @@ fn with_token_on(
 ) -> Middle
     ensures { result ≡ with_token_on status p sc kind owner pid b }
 {
-    let entry = p.entry;
     let t = with_pid(pid, with_token(Style::Token(sc, kind, pid), p.x, b));
-    let update = update_for(status, pid, t, entry);
+    let update = update_for(status, pid, t, p.entry);
     let detail = typed_detail(p.number, kind, p.detail);
     let begin = Begin {
         row: false,
@@ -250,7 +218,7 @@ fn with_token_on(
     };
     Middle {
         begin,
-        entry,
+        entry: p.entry,
         detail,
     }
 }
@@ -269,15 +237,13 @@ fn append_on(
     ensures { result ≡ going_by status (standing_on x0 e0 x0 detail (entry_at table.now x0)) pid b }
 {
     let p = stand_at(x0, e0, x0, detail, table);
-    let entry = p.entry;
-    let detail = p.detail;
     let t = with_pid(pid, b);
-    let update = update_for(status, pid, t, entry);
+    let update = update_for(status, pid, t, p.entry);
     let begin = go_on(false, t, update);
     Middle {
         begin,
-        entry,
-        detail,
+        entry: p.entry,
+        detail: p.detail,
     }
 }
 
@@ -297,17 +263,15 @@ fn transaction_append(
     requires x0_lt_endpoints { x0 < d.counts.endpoints }
     ensures { ForSeen near x0 packet.now d table.now (λ w. result ≡ appending status x0 e0 pid packet.now b w) }
 {
-    let style = b.style;
-    let old = near.old;
-    match style {
-        Style::Nothing => append_on(status, x0, e0, pid, b, old, table),
-        Style::Simple(_) => append_on(status, x0, e0, pid, b, old, table),
+    match b.style {
+        Style::Nothing | Style::Simple(_) | Style::Token(..) => {
+            append_on(status, x0, e0, pid, b, near.old, table)
+        }
         Style::Split(sc, kind) => {
             let p = packet_endpoint(x0, e0, pid, packet, d, near, table);
             let token = token_of(packet);
             with_token_on(status, p, sc, kind, token.address, pid, b)
         }
-        Style::Token(_, _, _) => append_on(status, x0, e0, pid, b, old, table),
     }
 }
 
@@ -329,12 +293,9 @@ pub fn middle_of(
     ensures { ForSeen near x0 packet.now d table.now (λ w. result ≡ middle_of status x0 e0 pid packet.now n b w) }
 {
     match status {
-        Status::New => transaction_start(status, x0, e0, pid, packet, n, d, near, table),
-        Status::Continue => transaction_append(status, x0, e0, pid, packet, b, d, near, table),
-        Status::Retry => transaction_append(status, x0, e0, pid, packet, b, d, near, table),
-        Status::Done => transaction_append(status, x0, e0, pid, packet, b, d, near, table),
-        Status::Fail => transaction_append(status, x0, e0, pid, packet, b, d, near, table),
-        Status::Ambiguous => transaction_append(status, x0, e0, pid, packet, b, d, near, table),
-        Status::Invalid => transaction_start(status, x0, e0, pid, packet, n, d, near, table),
+        Status::New | Status::Invalid => {
+            transaction_start(status, x0, e0, pid, packet, n, d, near, table)
+        }
+        _ => transaction_append(status, x0, e0, pid, packet, b, d, near, table),
     }
 }

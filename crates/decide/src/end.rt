@@ -29,15 +29,11 @@ pub fn end_of(
     ensures { result ≡ end_of x e t detail last success complete }
 {
     let g = group_status(e, t, detail, success, complete);
-    let status = g.status;
-    let effect = g.effect;
-    let entry = g.endpoint;
-    let phase = entry.phase;
-    let update = decide_update(status, phase, t.linked, last == x);
+    let update = decide_update(g.status, g.endpoint.phase, t.linked, last == x);
     End {
-        entry,
+        entry: g.endpoint,
         update,
-        effect,
+        effect: g.effect,
     }
 }
 
@@ -74,13 +70,7 @@ pub fn decided_end(
 fn item_after(u: Update, x: usize, last: usize) -> usize
     ensures { result ≡ item_after u x last }
 {
-    if u.item {
-        return x;
-    }
-    if u.start {
-        return x;
-    }
-    last
+    if u.item || u.start { x } else { last }
 }
 
 // The entry of the old endpoint once the old transaction, with the token pid, has ended.
@@ -88,9 +78,7 @@ pub fn entry_ended(ends: bool, end: End, pid: u8, e: Endpoint) -> Endpoint
     ensures { result ≡ pick ends (words_after end.update pid end.entry) e }
 {
     if ends {
-        let update = end.update;
-        let entry = end.entry;
-        entry_update(update, pid, entry)
+        entry_update(end.update, pid, end.entry)
     } else {
         e
     }
@@ -101,8 +89,7 @@ pub fn last_ended(ends: bool, end: End, x: usize, last: usize) -> usize
     ensures { result ≡ last_ended ends end x last }
 {
     if ends {
-        let update = end.update;
-        item_after(update, x, last)
+        item_after(end.update, x, last)
     } else {
         last
     }
@@ -112,17 +99,13 @@ pub fn last_ended(ends: bool, end: End, x: usize, last: usize) -> usize
 fn close_of(m: Middle, last: usize, success: bool, complete: bool) -> End
     ensures { result ≡ close_words m last success complete }
 {
-    let begin = m.begin;
-    let detail = m.detail;
-    let entry = m.entry;
-    let u = begin.update;
-    let t = begin.transaction;
-    let style = t.style;
+    let u = m.begin.update;
+    let t = m.begin.transaction;
     let x = t.endpoint;
-    let e = entry_update(u, start_pid(style), entry);
-    let t = transaction_update(u, t, entry.transactions);
+    let e = entry_update(u, start_pid(t.style), m.entry);
+    let t = transaction_update(u, t, m.entry.transactions);
     let last = item_after(u, x, last);
-    end_of(x, e, t, detail, last, success, complete)
+    end_of(x, e, t, m.detail, last, success, complete)
 }
 
 // The same where it ends; else nothing is done.
@@ -132,7 +115,6 @@ pub fn close_if(closes: bool, m: Middle, last: usize, success: bool, complete: b
     if closes {
         close_of(m, last, success, complete)
     } else {
-        let entry = m.entry;
-        resting_end(entry)
+        resting_end(m.entry)
     }
 }

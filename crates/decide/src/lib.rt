@@ -27,7 +27,7 @@ use crate::slot::{
 };
 use crate::status::{completes_by, is_last, is_new, is_success, slot_by};
 use details::{Device, endpoint_details};
-use endpoints::entry::{flag_word, load};
+use endpoints::entry::load;
 use endpoints::{Endpoint, Table};
 use plan::{Begin, Ending, Plan};
 use record::Decoder;
@@ -41,9 +41,7 @@ use usb::fields::setup_of;
 fn resume_of(d: Decoder) -> Begin
     ensures { result ≡ going true (with_id d.counts.transactions d.transaction) decide_resume }
 {
-    let counts = d.counts;
-    let t = d.transaction;
-    let t = with_id(counts.transactions as u64, t);
+    let t = with_id(d.counts.transactions as u64, d.transaction);
     go_on(true, t, decide_resume())
 }
 
@@ -51,10 +49,8 @@ fn resume_of(d: Decoder) -> Begin
 fn next_row(d: Decoder) -> u64
     ensures { result ≡ (d.counts.transactions + one (resumes d.slot)) % 2 ^ 64 }
 {
-    let counts = d.counts;
-    let slot = d.slot;
-    let row = counts.transactions as u64;
-    std::num::wrapping_add_u64(row, flag_word(is_suspended(slot)))
+    let row = d.counts.transactions as u64;
+    row.wrapping_add(u64::from(is_suspended(d.slot)))
 }
 
 // By the old transaction, resumed, its endpoint and the entry that is stored for that one; j is the packet's status. The numbers are words: whether they fit
@@ -77,38 +73,32 @@ fn plan_by(
 {
     let status = j.status;
     let pid = j.pid;
-    let slot = d.slot;
-    let style = t.style;
-    let e = link_entry(is_suspended(slot), stored);
+    let e = link_entry(is_suspended(d.slot), stored);
     let brought = extract_payload(d.high, t, pid, packet.len(), setup_of(packet));
-    let token = brought.style;
-    let old = near.old;
     let ends = is_new(status) & (x0 != 0);
-    let end = decided_end(ends, x0, e, brought, d.last, old);
-    let e0 = entry_ended(ends, end, start_pid(token), e);
+    let end = decided_end(ends, x0, e, brought, d.last, near.old);
+    let e0 = entry_ended(ends, end, start_pid(brought.style), e);
     let last = last_ended(ends, end, x0, d.last);
     let n = next_row(d);
     let m = middle_of(status, x0, e0, pid, packet, n, brought, d, near, table);
-    let begin = m.begin;
-    let own = begin.transaction;
-    let closes = is_last(status) & (own.endpoint != 0);
+    let closes = is_last(status) & (m.begin.transaction.endpoint != 0);
     Plan {
-        resumes: is_suspended(slot),
+        resumes: is_suspended(d.slot),
         resume: resume_of(d),
         ends,
         old: x0,
         brought,
         end,
-        begin,
+        begin: m.begin,
         closes,
         close: close_if(
             closes,
             m,
             last,
             is_success(status),
-            completes_by(status, style),
+            completes_by(status, t.style),
         ),
-        slot: slot_by(status, slot),
+        slot: slot_by(status, d.slot),
         reason: j.reason,
     }
 }
@@ -118,13 +108,10 @@ pub fn plan_near(d: Decoder, near: Near, table: &Table, packet: &[u8]) -> Plan
     requires { Ready d table.now }
     ensures { ForSeen near (old_endpoint d.slot d.transaction) packet.now d table.now (λ w. result ≡ plan_words (plan_of d.high packet.now w)) }
 {
-    let counts = d.counts;
-    let slot = d.slot;
-    let held = d.transaction;
-    let x0 = old_endpoint(slot, held);
+    let x0 = old_endpoint(d.slot, d.transaction);
     let stored = load(table, x0);
-    let t = transaction_then(slot, counts.transactions as u64, stored, held);
-    let j = transaction_status(d.high, state_at(slot_then(slot), t), packet);
+    let t = transaction_then(d.slot, d.counts.transactions as u64, stored, d.transaction);
+    let j = transaction_status(d.high, state_at(slot_then(d.slot), t), packet);
     plan_by(j, x0, stored, t, packet, d, near, table)
 }
 
@@ -133,14 +120,10 @@ pub fn plan_ending(d: Decoder, devices: [Device; 64], table: &Table) -> Ending
     requires { Ready d table.now }
     ensures { result ≡ ending_of (world_of d devices table.now) }
 {
-    let slot = d.slot;
-    let t = d.transaction;
-    let x = current_endpoint(slot, t);
+    let x = current_endpoint(d.slot, d.transaction);
     let e = load(table, x);
-    let place = e.device as usize;
-    let known = devices[place];
-    let detail = endpoint_details(known, e.address);
-    let end = end_of(x, e, t, detail, d.last, false, false);
+    let detail = endpoint_details(devices[e.device as usize], e.address);
+    let end = end_of(x, e, d.transaction, detail, d.last, false, false);
     Ending {
         ends: x != 0,
         old: x,

@@ -9,7 +9,7 @@ ghost use Rattle.decide.specs.Near.{Seen, place_in, near_by};
 use crate::place::address_for;
 use crate::slot::old_endpoint;
 use details::find::find_device;
-use details::{Detail, Device, Found, endpoint_details};
+use details::{Detail, Device, endpoint_details};
 use endpoints::entry::load;
 use endpoints::{Endpoint, Table};
 use record::Decoder;
@@ -19,20 +19,17 @@ use usb::pid::IN;
 // The device that stands for the packet's address; the details of the packet's endpoint there, in either direction; those of the old transaction's.
 #[derive(Clone, Copy)]
 pub struct Near {
-    pub found: Found,
+    pub found: Option<usize>,
     pub inward: Detail,
     pub outward: Detail,
     pub old: Detail,
 }
 
 // The place of a device that was found, else the first.
-pub fn place_in(found: Found) -> usize
+pub fn place_in(found: Option<usize>) -> usize
     ensures { result ≡ place_in found }
 {
-    match found {
-        Found::At(i) => i,
-        Found::Nothing => 0,
-    }
+    found.unwrap_or(0)
 }
 
 // The entry of the endpoint of the transaction that is held.
@@ -40,13 +37,11 @@ pub fn old_entry(d: Decoder, table: &Table) -> Endpoint
     requires { Ready d table.now }
     ensures { result ≡ entry_at table.now (old_endpoint d.slot d.transaction) }
 {
-    let slot = d.slot;
-    let held = d.transaction;
-    load(table, old_endpoint(slot, held))
+    load(table, old_endpoint(d.slot, d.transaction))
 }
 
 // By the row of the device that was found, the number in the packet's token, and the details of the old transaction's endpoint.
-pub fn near_of(found: Found, number: u8, row: Device, old: Detail) -> Near
+pub fn near_of(found: Option<usize>, number: u8, row: Device, old: Detail) -> Near
     requires { number < 16 }
     ensures { result ≡ near_by found number row old }
 {

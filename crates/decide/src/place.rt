@@ -10,7 +10,7 @@ ghost use Rattle.decide.specs.Ready.{Ready};
 ghost use Rattle.decide.specs.Near.{ForSeen, found_on, detail_by, standing_on, new_by};
 
 use crate::near::Near;
-use details::{Detail, Found, endpoint_details, fresh_device, kind};
+use details::{Detail, endpoint_details, fresh_device, kind};
 use endpoints::entry::{load, new_endpoint};
 use endpoints::find::find_endpoint;
 use endpoints::{Endpoint, Table};
@@ -44,24 +44,20 @@ fn is_token(pid: u8) -> bool
 }
 
 // endpoint_lookup of capture.rs, on the device that was found.
-fn endpoint_lookup(device: Found, address: u8, d: Decoder, table: &Table) -> Found
+fn endpoint_lookup(device: Option<usize>, address: u8, d: Decoder, table: &Table) -> Option<usize>
     requires { d.counts.endpoints ≤ 128 }
     ensures { result ≡ endpoint_lookup device address (world_of d [] table.now) }
 {
-    let counts = d.counts;
-    match device {
-        Found::At(i) => find_endpoint(table, counts.endpoints, i as u64, address),
-        Found::Nothing => Found::Nothing,
-    }
+    find_endpoint(table, d.counts.endpoints, device? as u64, address)
 }
 
 // packet_endpoint of capture.rs.
-pub fn find_place(pid: u8, packet: &[u8], d: Decoder, near: Near, table: &Table) -> Found
+pub fn find_place(pid: u8, packet: &[u8], d: Decoder, near: Near, table: &Table) -> Option<usize>
     requires { d.counts.endpoints ≤ 128 }
     ensures { result ≡ found_on near.found pid packet.now (world_of d [] table.now) }
 {
     if pid == SOF {
-        return Found::At(FRAMING_EP_ID);
+        return Some(FRAMING_EP_ID);
     }
     if is_token(pid) {
         let token = token_of(packet);
@@ -69,7 +65,7 @@ pub fn find_place(pid: u8, packet: &[u8], d: Decoder, near: Near, table: &Table)
         let device = near.found;
         endpoint_lookup(device, address, d, table)
     } else {
-        Found::At(INVALID_EP_ID)
+        Some(INVALID_EP_ID)
     }
 }
 
@@ -101,13 +97,13 @@ pub fn stand_at(x0: usize, e0: Endpoint, i: usize, detail: Detail, table: &Table
 }
 
 // A new endpoint (add_endpoint), with a new device where the address has none.
-fn new_on(owner: u8, address: u8, d: Decoder, found: Found, detail: Detail) -> Place
+fn new_on(owner: u8, address: u8, d: Decoder, found: Option<usize>, detail: Detail) -> Place
     ensures { result ≡ new_by found detail owner address d.counts }
 {
     let counts = d.counts;
     let x = counts.endpoints;
     match found {
-        Found::At(place) => {
+        Some(place) => {
             let entry = new_endpoint(place as u64, address);
             Place {
                 x,
@@ -119,7 +115,7 @@ fn new_on(owner: u8, address: u8, d: Decoder, found: Found, detail: Detail) -> P
                 entry,
             }
         }
-        Found::Nothing => {
+        None => {
             let place = counts.devices;
             let detail = endpoint_details(fresh_device(owner), address);
             let entry = new_endpoint(place as u64, address);
@@ -174,8 +170,8 @@ pub fn packet_endpoint(
     let found = find_place(pid, packet, d, near, table);
     let detail = detail_by(pid, near);
     match found {
-        Found::At(i) => stand_at(x0, e0, i, detail, table),
-        Found::Nothing => {
+        Some(i) => stand_at(x0, e0, i, detail, table),
+        None => {
             let token = token_of(packet);
             let address = address_for(pid, token.number);
             let device = near.found;

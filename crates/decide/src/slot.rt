@@ -14,11 +14,7 @@ use transaction::{Style, Transaction};
 pub fn is_suspended(slot: Slot) -> bool
     ensures { result ≡ resumes slot }
 {
-    match slot {
-        Slot::Empty => false,
-        Slot::Current => false,
-        Slot::Suspended => true,
-    }
+    matches!(slot, Slot::Suspended)
 }
 
 // The slot once it is resumed.
@@ -26,9 +22,8 @@ pub fn slot_then(slot: Slot) -> Slot
     ensures { result ≡ slot_then slot }
 {
     match slot {
-        Slot::Empty => Slot::Empty,
-        Slot::Current => Slot::Current,
         Slot::Suspended => Slot::Current,
+        _ => slot,
     }
 }
 
@@ -38,8 +33,7 @@ pub fn old_endpoint(slot: Slot, t: Transaction) -> usize
 {
     match slot {
         Slot::Empty => 0,
-        Slot::Current => t.endpoint,
-        Slot::Suspended => t.endpoint,
+        Slot::Current | Slot::Suspended => t.endpoint,
     }
 }
 
@@ -48,9 +42,8 @@ pub fn current_endpoint(slot: Slot, t: Transaction) -> usize
     ensures { result ≡ current_endpoint slot t }
 {
     match slot {
-        Slot::Empty => 0,
         Slot::Current => t.endpoint,
-        Slot::Suspended => 0,
+        _ => 0,
     }
 }
 
@@ -58,9 +51,7 @@ pub fn current_endpoint(slot: Slot, t: Transaction) -> usize
 pub fn with_id(id: u64, t: Transaction) -> Transaction
     ensures { result ≡ with_id id t }
 {
-    let mut t = t;
-    t.id = id;
-    t
+    Transaction { id, ..t }
 }
 
 // The transaction once it is resumed, in row id; e is the entry of its endpoint.
@@ -68,11 +59,12 @@ pub fn transaction_then(slot: Slot, id: u64, e: Endpoint, t: Transaction) -> Tra
     ensures { result ≡ transaction_then slot id e t }
 {
     if is_suspended(slot) {
-        let mut t = t;
-        t.id = id;
-        t.linked = true;
-        t.link = e.transactions;
-        t
+        Transaction {
+            id,
+            linked: true,
+            link: e.transactions,
+            ..t
+        }
     } else {
         t
     }
@@ -102,8 +94,7 @@ pub fn state_at(slot: Slot, t: Transaction) -> Transaction
     ensures { result ≡ state_at slot t }
 {
     match slot {
-        Slot::Empty => new_transaction(Style::Nothing, 0, 0, 0, kind::UNKNOWN),
         Slot::Current => t,
-        Slot::Suspended => new_transaction(Style::Nothing, 0, 0, 0, kind::UNKNOWN),
+        _ => new_transaction(Style::Nothing, 0, 0, 0, kind::UNKNOWN),
     }
 }

@@ -11,71 +11,40 @@ use usb::types::COMPLETE;
 pub fn is_new(status: Status) -> bool
     ensures { result ≡ is_new status }
 {
-    match status {
-        Status::New => true,
-        Status::Continue => false,
-        Status::Retry => false,
-        Status::Done => false,
-        Status::Fail => false,
-        Status::Ambiguous => false,
-        Status::Invalid => false,
-    }
+    matches!(status, Status::New)
 }
 
 // Whether it ends the transaction.
 pub fn is_last(status: Status) -> bool
     ensures { result ≡ is_last status }
 {
-    match status {
-        Status::New => false,
-        Status::Continue => false,
-        Status::Retry => true,
-        Status::Done => true,
-        Status::Fail => true,
-        Status::Ambiguous => false,
-        Status::Invalid => true,
-    }
+    matches!(
+        status,
+        Status::Retry | Status::Done | Status::Fail | Status::Invalid
+    )
 }
 
 // Whether with success.
 pub fn is_success(status: Status) -> bool
     ensures { result ≡ succeeds status }
 {
-    match status {
-        Status::New => false,
-        Status::Continue => false,
-        Status::Retry => true,
-        Status::Done => true,
-        Status::Fail => false,
-        Status::Ambiguous => false,
-        Status::Invalid => false,
-    }
+    matches!(status, Status::Retry | Status::Done)
 }
 
 fn is_retry(status: Status) -> bool
     ensures { result ≡ is_retry status }
 {
-    match status {
-        Status::New => false,
-        Status::Continue => false,
-        Status::Retry => true,
-        Status::Done => false,
-        Status::Fail => false,
-        Status::Ambiguous => false,
-        Status::Invalid => false,
-    }
+    matches!(status, Status::Retry)
 }
 
 // Whether a transaction of that style is then complete: a plain one, or a complete split that is not to be tried again.
 fn is_complete(style: Style, status: Status) -> bool
     ensures { result ≡ completes style status }
 {
-    let retry = is_retry(status);
     match style {
         Style::Nothing => false,
         Style::Simple(_) => true,
-        Style::Split(sc, _) => (sc == COMPLETE) & !retry,
-        Style::Token(sc, _, _) => (sc == COMPLETE) & !retry,
+        Style::Split(sc, _) | Style::Token(sc, _, _) => sc == COMPLETE && !is_retry(status),
     }
 }
 
@@ -83,13 +52,8 @@ pub fn completes_by(status: Status, style: Style) -> bool
     ensures { result ≡ completes_by status style }
 {
     match status {
-        Status::New => false,
-        Status::Continue => false,
-        Status::Retry => is_complete(style, Status::Retry),
-        Status::Done => is_complete(style, Status::Done),
-        Status::Fail => is_complete(style, Status::Fail),
-        Status::Ambiguous => false,
-        Status::Invalid => false,
+        Status::Retry | Status::Done | Status::Fail => is_complete(style, status),
+        _ => false,
     }
 }
 
@@ -99,11 +63,7 @@ pub fn slot_by(status: Status, slot: Slot) -> Slot
 {
     match status {
         Status::New => Slot::Current,
-        Status::Continue => slot_then(slot),
-        Status::Retry => Slot::Empty,
-        Status::Done => Slot::Empty,
-        Status::Fail => Slot::Empty,
-        Status::Ambiguous => slot_then(slot),
-        Status::Invalid => Slot::Empty,
+        Status::Continue | Status::Ambiguous => slot_then(slot),
+        _ => Slot::Empty,
     }
 }

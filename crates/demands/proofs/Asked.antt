@@ -24,8 +24,7 @@ use Rattle.details.specs.Details.{fresh}
 use Rattle.details.proofs.DetailsLaws.{type-kept}
 use Rattle.details.specs.declared.Detail.{Detail}
 use Rattle.details.specs.declared.Device.{Device}
-use Rattle.details.specs.declared.Found.{Found}
-use Rattle.details.specs.declared.Found.TheVariants.{At, Nothing as Missing}
+use Rattle.std.specs.Prelude.{Option, Some, None}
 use Rattle.endpoints.specs.Table.{new_endpoint}
 use Rattle.endpoints.specs.declared.Endpoint.{Endpoint}
 use Rattle.group.proofs.Laws.{group-keeps}
@@ -194,17 +193,17 @@ module _ (w : World) (h g : List ℕ) (same : (x : ℕ) → Agree ((w.endpoints 
       by true = k
       by false = same i
 
-  new_good : (f : Found) (owner address : ℕ) → Good (new_on f owner address w).entry
-  new_good (At d) owner address = refl
-  new_good Missing owner address = refl
+  new_good : (f : Option ℕ) (owner address : ℕ) → Good (new_on f owner address w).entry
+  new_good (Some d) owner address = refl
+  new_good None owner address = refl
 
   place_good : (x0 : ℕ) (e0 : Endpoint) → Good e0 → (pid : ℕ) (packet : List ℕ) → Good (place_of x0 e0 pid packet w).entry
   unfolding place_of
   place_good x0 e0 k pid packet = by (found pid packet w)
     where
-      by : (f : Found) → Good (place_at f x0 e0 pid packet w).entry
-      by (At i) = standing_good x0 e0 k i
-      by Missing = new_good (device_for (token_of packet).address w) (token_of packet).address (address_for pid (token_of packet).number)
+      by : (f : Option ℕ) → Good (place_at f x0 e0 pid packet w).entry
+      by (Some i) = standing_good x0 e0 k i
+      by None = new_good (device_for (token_of packet).address w) (token_of packet).address (address_for pid (token_of packet).number)
 
   appending_good : (s : Status) (x0 : ℕ) (e0 : Endpoint) → Good e0 → (pid : ℕ) (packet : List ℕ) (b : Transaction) → Good (appending s x0 e0 pid packet b w).entry
   unfolding appending

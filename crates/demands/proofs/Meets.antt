@@ -6,7 +6,7 @@ use mathlib.Core.List.{List, [], ◌∷◌, ◌++◌}
 use borrow.Author.Tests.{eq-eqb}
 use lib.ListN.{length, get_or}
 use Rattle.rows.proofs.WidthsLaws.{log-number}
-use Rattle.details.specs.declared.Found.TheVariants.{At}
+use Rattle.std.specs.Prelude.{Some}
 use Rattle.endpoints.specs.declared.Phase.{Phase}
 use Rattle.endpoints.specs.declared.Phase.TheVariants.{None, Early, Active, Ended}
 use Rattle.rules.specs.Demand.{Demand3, links_of}
@@ -42,7 +42,7 @@ asserted-rest item ms h = h
 asserted-rest (closed i) ms h = h.1
 
 module _ (e i : ℕ) (before : List Row) where
-  asserted_at : (later : List Row) → Asserted (marks e (later ++ (E e i ∷ before))) → last_ended (marks e before) ≡ At (length (closings (marks e before)))
+  asserted_at : (later : List Row) → Asserted (marks e (later ++ (E e i ∷ before))) → last_ended (marks e before) ≡ Some (length (closings (marks e before)))
   asserted_at [] h = (rw (eq-eqb e e refl) at h).0
   asserted_at (r ∷ later) h = asserted_at later (asserted-rest (mark e r) (marks e (later ++ (E e i ∷ before))) h)
 
@@ -72,7 +72,7 @@ module _ {js : List Row} {s : State} (h : Kept js s) where
       rw c (omega (arith, first-there k _ (marks e js) (f.named k (rw c at l))))
 
   assert : (e : ℕ) → AssertHolds e js
-  assert e later before i q = asserted_at e i before later (rw q at (h.rules.keeps e).facts.asserted) ∙ ap (λ (l : List ℕ). At (length l)) (sym (closing-rows e before))
+  assert e later before i q = asserted_at e i before later (rw q at (h.rules.keeps e).facts.asserted) ∙ ap (λ (l : List ℕ). Some (length l)) (sym (closing-rows e before))
 
 pub meets : {js : List Row} {s : State} → Sequence js s → Meets js s
 meets {js} {s} q =

@@ -6,8 +6,8 @@ use mathlib.Core.List.{List, [], ◌∷◌, map}
 use lib.ListN.{length}
 use Rattle.usb.specs.Packet.{reason_of, checked_of}
 use Rattle.usb.proofs.Laws.{why_of, why-is, reason-none}
-use Rattle.usb.specs.declared.Checked.{Checked}
-use Rattle.usb.specs.declared.Checked.TheVariants.{Valid, Malformed}
+use Rattle.std.specs.Prelude.{Result, Ok, Err}
+use Rattle.usb.specs.declared.reason.Reason.{Reason}
 use Rattle.transaction.specs.Payload.{extract_payload}
 use Rattle.transaction.specs.Status.{malformed, judged_of, transaction_status}
 use Rattle.transaction.specs.declared.Judged.{Judged}
@@ -159,9 +159,9 @@ malformed-judged : (high : Bool) (t : Transaction) (p : List ℕ) → (reason_of
 unfolding transaction_status
 malformed-judged high t p h = by (checked_of p) refl
   where
-    by : (c : Checked) → checked_of p ≡ c → judged_of high t c (length p) ≡ malformed (reason_of p)
-    by (Valid pid) e = absurd (h (reason-none p pid e))
-    by (Malformed reason) e = ap malformed (sym (ap why_of e) ∙ why-is p)
+    by : (c : Result ℕ Reason) → checked_of p ≡ c → judged_of high t c (length p) ≡ malformed (reason_of p)
+    by (Ok pid) e = absurd (h (reason-none p pid e))
+    by (Err reason) e = ap malformed (sym (ap why_of e) ∙ why-is p)
 
 -- none of its bytes is looked at
 bytes-unread : (high : Bool) (reason x0 : ℕ) (e : Endpoint) (t : Transaction) (p : List ℕ) (w : World) → plan_by high (malformed reason) x0 e t p w ≡ plan_by high (malformed reason) x0 e t [] w

@@ -3,12 +3,11 @@
 -- What it leans on: rules, specs/Rows (a row's log and its words there), specs/Marks (`First`: the first item after an end; `last_ended`) and specs/Demand
 -- (`Standing`, `Demand3`, `links_of`, `Quiet`); call, specs/Outcome (`Answers`: what a call leaves), with the tests of each call beside its contract.
 -- Hold it to: demand 3, sentence by sentence (docs/PROVED.md); 01, "Answer numbers": "none of those calls answers 1"
-use Rattle.std.specs.Prelude.{ℕ, suc, ◌*◌, ◌<◌, ◌≡◌, Bool, false, List, [], ◌∷◌, ◌++◌, length, take, get_or}
+use Rattle.std.specs.Prelude.{ℕ, suc, ◌*◌, ◌<◌, ◌≡◌, Bool, false, List, [], ◌∷◌, ◌++◌, length, take, get_or, Some}
 use Rattle.endpoints.specs.Word as word
 use Rattle.rows.specs.Widths.{link_width, place}
 use Rattle.transaction.specs.Table.{pick}
 use Rattle.details.specs.declared.Device.{Device}
-use Rattle.details.specs.declared.Found.TheVariants.{At}
 use Rattle.endpoints.specs.declared.Phase.{Phase}
 use Rattle.endpoints.specs.declared.Phase.TheVariants.{None, Early, Active, Ended}
 use Rattle.rules.specs.Decoder.{fresh}
@@ -84,7 +83,7 @@ Extra Ended started ended closed = (started ≡ suc closed) × (ended ≡ suc cl
 -- these, and ep_group_id the group of e that had ended last
 abbrev pub AssertHolds : ℕ → List Row → Type 0
 AssertHolds e js =
-    (later before : List Row) (i : ℕ) → js ≡ later ++ (E e i ∷ before) → last_ended (marks e before) ≡ At (length (links_of 3 e (log 10 before)))
+    (later before : List Row) (i : ℕ) → js ≡ later ++ (E e i ∷ before) → last_ended (marks e before) ≡ Some (length (links_of 3 e (log 10 before)))
 
 -- ---- the claim, of every sequence with the history js that leaves the state s
 

@@ -1,10 +1,10 @@
 -- Laws (proved): a turn of the loops over the entries that a choice means; which details it sets, and that the others stay; what is laid by.
 -- Assumes nothing.
-use Rattle.std.specs.Prelude.{ℕ, ◌+◌, ◌-◌, ◌*◌, ◌%◌, ◌≤◌, ◌<◌, ◌≡◌, refl, Bool, true, false, length, get_or, drop}
+use Rattle.std.specs.Prelude.{ℕ, ◌+◌, ◌-◌, ◌*◌, ◌≤◌, ◌<◌, ◌≡◌, Bool, true, length, get_or, drop}
 use native.Mathlib.Omega.{arith}
 use Rattle.std.proofs.Math.Path.{sym, ap}
 use Rattle.std.proofs.Common.{◌∙◌, take-take, take_all}
-use mathlib.Core.List.{List, [], ◌∷◌, ◌++◌}
+use mathlib.Core.List.{List}
 use Rattle.std.proofs.Math.ListN.{take, length-drop}
 use Rattle.std.proofs.Math.Seq.{sets, length-take-le}
 use Rattle.rows.specs.One.{one}
@@ -27,19 +27,15 @@ module _ (store : List ℕ) (from : ℕ) where
       let e = sym (entry_byte store from 2 (omega arith)) in
       λ i. is_meant c (a i) (b i) (e i)
 
-  pub set_at : (on : Bool) (d : Device) → on ≡ true
-      → set_from (get_or store (from + 3) 0) (get_or store (from + 4) 0) (get_or store (from + 5) 0) (get_or store (from + 6) 0) d ≡ set_if on (take 7 (drop from store)) d
+  pub set_at : (d : Device) → set_from (get_or store (from + 3) 0) (get_or store (from + 4) 0) (get_or store (from + 5) 0) (get_or store (from + 6) 0) d
+      ≡ set_if true (take 7 (drop from store)) d
   unfolding set_if
-  set_at on d h =
+  set_at d =
       let a = sym (entry_byte store from 3 (omega arith)) in
       let b = sym (entry_byte store from 4 (omega arith)) in
       let e = sym (entry_byte store from 5 (omega arith)) in
       let f = sym (entry_byte store from 6 (omega arith)) in
-      rw h (λ i. set_from (a i) (b i) (e i) (f i) d)
-
-  pub set-none : (on : Bool) (d : Device) → on ≡ false → d ≡ set_if on (take 7 (drop from store)) d
-  unfolding set_if
-  set-none on d h = rw h
+      λ i. set_from (a i) (b i) (e i) (f i) d
 
 -- the entries behind i give the whole
 pub record Applying (c : Choice) (base kept : ℕ) (store : List ℕ) (d₀ d : Device) (i : ℕ) : Type 0 where
@@ -50,19 +46,6 @@ pub record Counting (c : Choice) (base kept : ℕ) (store : List ℕ) (n i : ℕ
   pub most : i ≤ kept
   pub few : n ≤ i
   pub left : count_set c (stored_at base kept store) ≡ n + count_set c (stored_at (base + i * 7) (kept - i) store)
-
-module _ (c : Choice) (base kept : ℕ) (store : List ℕ) where
-  at-start : stored_at base kept store ≡ stored_at (base + 0 * 7) (kept - 0) store
-  at-start =
-      let z : base ≡ base + 0 * 7 = omega arith in
-      let y : kept ≡ kept - 0 = omega arith in
-      λ i. stored_at (z i) (y i) store
-
-  pub applying-start : (d : Device) → Applying c base kept store d d 0
-  applying-start d = record { most = omega arith; left = ap (λ (es : List (List ℕ)). applied c es d) at-start }
-
-  pub counting-start : Counting c base kept store 0 0
-  counting-start = record { most = omega arith; few = omega arith; left = omega (arith, ap (count_set c) at-start) }
 
 module _ {c : Choice} {base kept : ℕ} {store : List ℕ} {d₀ d : Device} {i : ℕ} (p : Applying c base kept store d₀ d i) where
   pub applying-end : kept ≤ i → d ≡ applied c (stored_at base kept store) d₀

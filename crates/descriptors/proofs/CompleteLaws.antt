@@ -1,7 +1,8 @@
 -- Laws (proved): what the parts of a completed request come to, and that a note tells what it counts.
 -- Assumes nothing.
-use Rattle.std.specs.Prelude.{ℕ, ◌+◌, ◌-◌, ◌/◌, ◌%◌, ◌≤◌, ◌<◌, min, ◌≡◌, refl, List, [], ◌∷◌, length, take, drop}
-use Rattle.std.proofs.Common.{arith, ◌∙◌, subst, length-append}
+use Rattle.std.specs.Prelude.{ℕ, ◌+◌, ◌-◌, ◌/◌, ◌%◌, ◌≤◌, ◌<◌, min, ◌≡◌, refl, List, [], ◌∷◌, length, take, drop, Bool, Option, is_some, ◌⊎◌}
+use Rattle.std.specs.Option.{option_map_or}
+use Rattle.std.proofs.Common.{arith, ◌∙◌, subst, length-append, inl, inr}
 use Rattle.std.proofs.Math.Path.{sym, ap}
 use Rattle.std.proofs.Math.Bool.{true, false}
 use borrow.Author.Tests.{lt-ltb, le-ltb}
@@ -16,13 +17,12 @@ use Rattle.descriptors.specs.Store.{stored_at, left_by, added_by}
 use Rattle.descriptors.specs.Steps.{Reads}
 use Rattle.descriptors.proofs.HeldLaws.{chunks-length}
 use Rattle.descriptors.specs.Chosen.{configuration_choice, interface_choice, is_chosen, applied, count_set}
-use Rattle.descriptors.specs.Complete.{payload_at, noted, max_note, set_note, note_of, with_max, device_after, count_after, shelf_after, payload_for, entries_for, completed_by, CompletesAs, device_by}
+use Rattle.descriptors.specs.Complete.{payload_at, noted, max_note, set_note, note_of, with_max, device_after, count_after, shelf_after, payload_for, entries_for, completed_by, CompletesAs, Completes, device_by}
 use Rattle.descriptors.specs.declared.choose.Choice.{Choice}
 use Rattle.descriptors.specs.declared.complete.Asked.{Asked}
 use Rattle.descriptors.specs.declared.complete.Completed.{Completed}
 use Rattle.descriptors.specs.declared.request.Kind.{Kind}
 use Rattle.descriptors.specs.declared.request.Kind.TheVariants.{DeviceRead, ConfigurationRead, SetConfiguration, SetInterface, Other}
-use Rattle.descriptors.specs.declared.walk.Taken.{Taken}
 
 -- a note tells what it counts, and how many
 module _ (what count : ℕ) (h : what < 4) where
@@ -37,20 +37,10 @@ pub part-is : (start n k : ℕ) (shelf : List ℕ) → k ≡ min n 4096 → take
 part-is start n k shelf e = let z : start + k - start ≡ min n 4096 = omega arith in ap (λ (i : ℕ). take i (drop start shelf)) z
 
 -- the max of a device read
-module _ (p : List ℕ) (t : Taken) (e : t ≡ max_of p) where
-  pub max_none : t.taken ≡ false → 0 ≡ max_note p
-  max_none h = let q = sym (ap (λ (t : Taken). t.taken) e) ∙ h in rw q
-
-  pub max_some : t.taken ≡ true → noted 1 t.number ≡ max_note p
-  max_some h = let q = sym (ap (λ (t : Taken). t.taken) e) ∙ h in rw q (ap (λ (t : Taken). noted 1 t.number) e)
-
-  pub max-unset : (d : Device) → t.taken ≡ false → d ≡ with_max p d
+module _ (p : List ℕ) (r : Option ℕ) (e : r ≡ max_of p) where
+  pub max-given : (d : Device) → option_map_or (with_given d 0 0 0) r d ≡ with_max p d
   unfolding with_max
-  max-unset d h = let q = sym (ap (λ (t : Taken). t.taken) e) ∙ h in rw q
-
-  pub max-set : (d : Device) → t.taken ≡ true → with_given d 0 0 0 t.number ≡ with_max p d
-  unfolding with_max
-  max-set d h = let q = sym (ap (λ (t : Taken). t.taken) e) ∙ h in rw q (ap (λ (t : Taken). with_given d 0 0 0 t.number) e)
+  max-given d = ap (λ (r : Option ℕ). option_map_or (with_given d 0 0 0) r d) e
 
 -- entries that are meant are no more than entries
 pub count_few : (c : Choice) (es : List (List ℕ)) → count_set c es ≤ length es
@@ -62,13 +52,6 @@ pub count_most : (c : Choice) (base k kept : ℕ) (shelf : List ℕ) → k ≡ m
 count_most c base k kept shelf e = omega (arith, e, count_few c (stored_at base k shelf), chunks-length k (drop base shelf))
 
 module _ (a : Asked) (shelf : List ℕ) where
-  pub set-noted : (c : Choice) (k : ℕ) → k ≡ min a.kept 585 → noted 3 (count_set c (stored_at (a.start + 4096) k shelf)) ≡ set_note c (entries_for a shelf)
-  set-noted c k e = ap (λ (i : ℕ). set_note c (stored_at (a.start + 4096) i shelf)) e
-
-  pub applied-kept : (c : Choice) (d : Device) (k : ℕ) → k ≡ min a.kept 585
-      → applied c (stored_at (a.start + 4096) k shelf) d ≡ applied c (entries_for a shelf) d
-  applied-kept c d k e = ap (λ (i : ℕ). applied c (stored_at (a.start + 4096) i shelf) d) e
-
   -- SET_CONFIGURATION
   pub configuration-told : (note chosen : ℕ) (c : Choice) → c ≡ configuration_choice (setup_of a.setup) → note ≡ set_note c (entries_for a shelf)
       → chosen ≡ (setup_of a.setup).value → record { note = note; kept = a.kept; chosen = chosen } ≡ completed_by a shelf SetConfiguration
@@ -102,17 +85,17 @@ module _ (a : Asked) (shelf : List ℕ) where
       rw z (e ∙ ap (λ (c : Choice). applied c (entries_for a shelf) d) q)
 
   -- a configuration read
-  module _ (t : Taken) (e : t ≡ value_of (payload_for a shelf)) where
-    pub read_none : t.taken ≡ false → (r : Completed) → r ≡ record { note = 0; kept = a.kept; chosen = a.chosen } → CompletesAs ConfigurationRead a shelf shelf r
+  module _ (b : Bool) (e : b ≡ is_some (value_of (payload_for a shelf))) where
+    pub read_none : b ≡ false → (r : Completed) → r ≡ record { note = 0; kept = a.kept; chosen = a.chosen } → CompletesAs ConfigurationRead a shelf shelf r
     unfolding note_of count_after shelf_after
-    read_none h r q = let n = sym (ap (λ (t : Taken). t.taken) e) ∙ h in record { stored = rw n; told = rw n q }
+    read_none h r q = let n = sym e ∙ h in record { stored = rw n; told = rw n q }
 
-    pub read_some : t.taken ≡ true → {shelf₁ : List ℕ} {count added : ℕ} → (note : ℕ)
+    pub read_some : b ≡ true → {shelf₁ : List ℕ} {count added : ℕ} → (note : ℕ)
         → Reads (a.start + 4096) (min a.kept 585) (payload_for a shelf) shelf shelf₁ count added → note ≡ noted 2 added
         → CompletesAs ConfigurationRead a shelf shelf₁ (record { note = note; kept = count; chosen = a.chosen })
     unfolding note_of count_after shelf_after
     read_some h {shelf₁} {count} {added} note r q =
-        let n = sym (ap (λ (t : Taken). t.taken) e) ∙ h in
+        let n = sym e ∙ h in
         let m = q ∙ ap (noted 2) r.more in
         record { stored = rw n r.stored; told = rw n (λ i. record { note = m i; kept = r.counted i; chosen = a.chosen }) }
 
@@ -133,9 +116,8 @@ pub completes-once : {kind : Kind} {a : Asked} {shelf x y : List ℕ} {r t : Com
 completes-once h g = (h.stored ∙ sym g.stored, h.told ∙ sym g.told)
 
 -- a kind that the setup data tell
-pub as-kind : (a : Asked) (k m : Kind) (shelf shelf₁ : List ℕ) (r : Completed) → m ≡ kind_of a.setup → m ≡ k → CompletesAs k a shelf shelf₁ r
-    → CompletesAs (kind_of a.setup) a shelf shelf₁ r
-as-kind a k m shelf shelf₁ r e f h = subst (λ (k : Kind). CompletesAs k a shelf shelf₁ r) (sym f ∙ e) h
+pub as-kind : {a : Asked} {k : Kind} {shelf shelf₁ : List ℕ} {r : Completed} → k ≡ kind_of a.setup → CompletesAs k a shelf shelf₁ r → Completes a shelf shelf₁ r
+as-kind {a} {k} {shelf} {shelf₁} {r} e h = subst (λ (k : Kind). CompletesAs k a shelf shelf₁ r) e h
 
 -- requests that leave the shelf
 module _ (a : Asked) (shelf : List ℕ) (r : Completed) where
@@ -157,8 +139,8 @@ module _ (a : Asked) (shelf : List ℕ) (r : Completed) where
 
 -- the details
 module _ (a : Asked) (shelf : List ℕ) (d r : Device) where
-  pub by_kind : (k m : Kind) → m ≡ kind_of a.setup → m ≡ k → r ≡ device_by k a shelf d → r ≡ device_by (kind_of a.setup) a shelf d
-  by_kind k m e f h = h ∙ ap (λ (k : Kind). device_by k a shelf d) (sym f ∙ e)
+  pub by_kind : {k : Kind} → k ≡ kind_of a.setup → r ≡ device_by k a shelf d → r ≡ device_by (kind_of a.setup) a shelf d
+  by_kind e h = h ∙ ap (λ (k : Kind). device_by k a shelf d) e
 
   pub max_by : r ≡ with_max (payload_for a shelf) d → r ≡ device_by DeviceRead a shelf d
   unfolding device_after
@@ -170,10 +152,7 @@ module _ (a : Asked) (shelf : List ℕ) (d r : Device) where
   configuration_by c q e = e ∙ ap (λ (c : Choice). applied c (entries_for a shelf) d) q
 
 -- and where they stay
-pub read_by : (a : Asked) (shelf : List ℕ) (d : Device) → d ≡ device_by ConfigurationRead a shelf d
+pub still_by : (a : Asked) (shelf : List ℕ) (d : Device) (m : Kind) → m ≡ kind_of a.setup → (m ≡ ConfigurationRead) ⊎ (m ≡ Other) → d ≡ device_by (kind_of a.setup) a shelf d
 unfolding device_after
-read_by a shelf d = refl
-
-pub other_by : (a : Asked) (shelf : List ℕ) (d : Device) → d ≡ device_by Other a shelf d
-unfolding device_after
-other_by a shelf d = refl
+still_by a shelf d m e (inl f) = by_kind a shelf d d (sym f ∙ e) refl
+still_by a shelf d m e (inr f) = by_kind a shelf d d (sym f ∙ e) refl

@@ -1,6 +1,7 @@
 -- Laws (proved): what is known of the entries: which bytes they need, that other descriptors are stepped over, that a cut payload gives a beginning of them.
 -- Assumes nothing.
-use Rattle.std.specs.Prelude.{ℕ, zero, suc, ◌+◌, ◌-◌, ◌*◌, ◌≤◌, ◌<◌, ◌≡◌, Bool, ◌&&◌, List, [], ◌∷◌, ◌++◌, eqb, leb, length, get_or, take, drop}
+use Rattle.std.specs.Prelude.{ℕ, zero, suc, ◌+◌, ◌-◌, ◌*◌, ◌≤◌, ◌<◌, ◌≡◌, Bool, ◌&&◌, List, [], ◌∷◌, ◌++◌, eqb, leb, length, get_or, take, drop, Option, Some, None}
+use Rattle.std.proofs.lemmas.Option.{none-some, cond_some}
 use Rattle.std.proofs.Common.{arith, sym, ap, ◌∙◌, append_assoc, drop_of_length-le, take-append-drop, length-append, get_or-drop, take_all}
 use Rattle.std.proofs.Math.Path.{refl}
 use Rattle.std.proofs.Math.Bool.{true, false, cond}
@@ -8,7 +9,7 @@ use borrow.Author.Tests.{leb-true, le-leb, lt-leb}
 use Rattle.std.proofs.Math.ListN.{length-drop}
 use Rattle.descriptors.specs.Whole.{b_length, is_whole, whole, joined}
 use Rattle.descriptors.proofs.WholeLaws.{Begins, is-whole, whole_inside, whole-more, whole-none, whole_cut}
-use Rattle.descriptors.specs.Entries.{is_of, named, maybe, unset, setting_after, gives_entry, entry_of, entries_in, entries_behind, entries_of, fitting}
+use Rattle.descriptors.specs.Entries.{is_of, named, given, unset, setting_after, gives_entry, entries_in, entries_behind, entries_of, fitting}
 use Rattle.descriptors.specs.Steps.{whole_at}
 use Rattle.descriptors.specs.declared.walk.Setting.{Setting}
 
@@ -29,42 +30,39 @@ module _ (p : List ℕ) (at : ℕ) where
   unfolding is_whole
   test = rw (first_byte, length-drop at p)
 
-  pub none_past : length p ≤ at → 0 ≡ whole_at p at
+  pub none_past : length p ≤ at → None ≡ whole_at p at
   unfolding whole_at is_whole
   none_past h = rw (drop_of_length-le p h)
 
-  pub none_small : get_or p at 0 < 2 → 0 ≡ whole_at p at
+  pub none_small : get_or p at 0 < 2 → None ≡ whole_at p at
   unfolding whole_at
   none_small h = rw (test, lt-leb 2 _ h)
 
-  pub none_cut : 2 ≤ get_or p at 0 → length p - at < get_or p at 0 → 0 ≡ whole_at p at
+  pub none_cut : 2 ≤ get_or p at 0 → length p - at < get_or p at 0 → None ≡ whole_at p at
   unfolding whole_at
   none_cut h g = rw (test, le-leb 2 _ h, lt-leb _ _ g)
 
-  pub one-there : 2 ≤ get_or p at 0 → get_or p at 0 ≤ length p - at → get_or p at 0 ≡ whole_at p at
+  pub one-there : 2 ≤ get_or p at 0 → get_or p at 0 ≤ length p - at → Some (get_or p at 0) ≡ whole_at p at
   unfolding whole_at
   one-there h g = rw (test, le-leb 2 _ h, le-leb _ _ g)
 
-  -- a length that is not 0 is a descriptor's
-  pub none_at : (len : ℕ) → len ≡ whole_at p at → len ≡ 0 → is_whole (drop at p) ≡ false
+  -- a length is a whole descriptor's
+  pub none_at : None ≡ whole_at p at → is_whole (drop at p) ≡ false
   unfolding whole_at
-  none_at len e h = by (is_whole (drop at p)) refl e
+  none_at e = by (is_whole (drop at p)) e
     where
-      by : (b : Bool) → is_whole (drop at p) ≡ b → len ≡ cond b (get_or p at 0) 0 → b ≡ false
-      by false q e = refl
-      by true q e = absurd (omega (arith, (is-whole (drop at p) q).two, first_byte))
+      by : (b : Bool) → None ≡ cond b (Some (get_or p at 0)) None → b ≡ false
+      by false e = refl
+      by true e = absurd (none-some _ e)
 
-  pub one_at : (len : ℕ) → len ≡ whole_at p at → (len ≡ 0 → ⊥) → is_whole (drop at p) ≡ true
-  unfolding whole_at
-  one_at len e h = by (is_whole (drop at p)) e
-    where
-      by : (b : Bool) → len ≡ cond b (get_or p at 0) 0 → b ≡ true
-      by false e = absurd (h e)
-      by true e = refl
+  module _ {len : ℕ} (e : Some len ≡ whole_at p at) where
+    pub one_at : is_whole (drop at p) ≡ true
+    unfolding whole_at
+    one_at = (cond_some (is_whole (drop at p)) (get_or p at 0) len (sym e)).0
 
-  pub length_at : (len : ℕ) → len ≡ whole_at p at → is_whole (drop at p) ≡ true → len ≡ get_or p at 0
-  unfolding whole_at
-  length_at len e q = rw q at e
+    pub length_at : len ≡ get_or p at 0
+    unfolding whole_at
+    length_at = sym (cond_some (is_whole (drop at p)) (get_or p at 0) len (sym e)).1
 
   pub record Inside (len : ℕ) : Type 0 where
     pub two : 2 ≤ len
@@ -75,33 +73,32 @@ module _ (p : List ℕ) (at : ℕ) where
       let w = is-whole (drop at p) q in
       record { two = omega (arith, w.two, first_byte); there = omega (arith, w.two, w.there, first_byte, length-drop at p) }
 
-  pub inside_at : (len : ℕ) → len ≡ whole_at p at → (len ≡ 0 → ⊥) → Inside len
-  inside_at len e h =
-      let q = one_at len e h in
-      let l = length_at len e q in
-      let i = inside q in
+  pub inside_at : {len : ℕ} → Some len ≡ whole_at p at → Inside len
+  inside_at {len} e =
+      let l = length_at e in
+      let i = inside (one_at e) in
       record { two = omega (arith, i.two); there = omega (arith, i.there) }
 
 -- a descriptor that is neither an interface's nor an endpoint's may stand anywhere
 pub unknown-over : (value : ℕ) (d : List ℕ) → is_of 4 9 d ≡ false → is_of 5 7 d ≡ false
-    → (xs ys : List (List ℕ)) (s : Setting) → entries_in value s (xs ++ (d ∷ ys)) ≡ entries_in value s (xs ++ ys)
+    → (xs ys : List (List ℕ)) (s : Option Setting) → entries_in value s (xs ++ (d ∷ ys)) ≡ entries_in value s (xs ++ ys)
 unfolding entries_in gives_entry setting_after
 unknown-over value d h g [] ys s = rw (h, g)
 unknown-over value d h g (x ∷ xs) ys s =
-    ap (λ (es : List (List ℕ)). maybe (gives_entry x s) (entry_of value s x) ++ es) (unknown-over value d h g xs ys (setting_after x s))
+    ap (λ (es : List (List ℕ)). given value x (gives_entry x s) ++ es) (unknown-over value d h g xs ys (setting_after x s))
 
 -- the setting behind descriptors
-abbrev pub setting_over : List (List ℕ) → Setting → Setting
+abbrev pub setting_over : List (List ℕ) → Option Setting → Option Setting
 setting_over [] s = s
 setting_over (d ∷ ds) s = setting_over ds (setting_after d s)
 
-pub entries-append : (value : ℕ) (xs ys : List (List ℕ)) (s : Setting)
+pub entries-append : (value : ℕ) (xs ys : List (List ℕ)) (s : Option Setting)
     → entries_in value s (xs ++ ys) ≡ entries_in value s xs ++ entries_in value (setting_over xs s) ys
 unfolding entries_in
 entries-append value [] ys s = refl
 entries-append value (x ∷ xs) ys s =
-    ap (λ (es : List (List ℕ)). maybe (gives_entry x s) (entry_of value s x) ++ es) (entries-append value xs ys (setting_after x s))
-    ∙ sym (append_assoc (maybe (gives_entry x s) (entry_of value s x)) _ _)
+    ap (λ (es : List (List ℕ)). given value x (gives_entry x s) ++ es) (entries-append value xs ys (setting_after x s))
+    ∙ sym (append_assoc (given value x (gives_entry x s)) _ _)
 
 -- the whole descriptors of a beginning are a beginning of the whole descriptors
 cut-none : (a b : List ℕ) → is_whole a ≡ false → Begins (whole a) (whole (a ++ b))
@@ -151,23 +148,23 @@ cut_at n p =
     record { rest = r.rest; all = ap entries_of (sym (take-append-drop n p)) ∙ r.all }
 
 -- each entry takes seven bytes of the payload or more, so that the entries of 4,096 bytes always fit
-pub entry-bytes : (d : List ℕ) (s : Setting) → gives_entry d s ≡ true → 7 ≤ length d
+pub entry-bytes : (d : List ℕ) (s : Option Setting) (t : Setting) → gives_entry d s ≡ Some t → 7 ≤ length d
 unfolding gives_entry
-entry-bytes d s h = by (is_of 5 7 d) (s.known && named (get_or d 2 0)) refl h
+entry-bytes d s t h = by (is_of 5 7 d) (named (get_or d 2 0)) refl h
   where
-    by : (b t : Bool) → is_of 5 7 d ≡ b → (b && t) ≡ true → 7 ≤ length d
-    by true t q h = of-long 5 7 d q
-    by false t q h = absurd (let z : ◌≡◌ {A = ℕ} 0 1 = cc in omega arith)
+    by : (b n : Bool) → is_of 5 7 d ≡ b → cond (b && n) s None ≡ Some t → 7 ≤ length d
+    by true n q h = of-long 5 7 d q
+    by false n q h = absurd (none-some t h)
 
-few_in : (value : ℕ) (ds : List (List ℕ)) (s : Setting) → length (entries_in value s ds) * 7 ≤ length (joined ds)
+few_in : (value : ℕ) (ds : List (List ℕ)) (s : Option Setting) → length (entries_in value s ds) * 7 ≤ length (joined ds)
 unfolding entries_in
 few_in value [] s = omega arith
 few_in value (d ∷ ds) s = by (gives_entry d s) refl (few_in value ds (setting_after d s))
   where
-    by : (b : Bool) → gives_entry d s ≡ b → length (entries_in value (setting_after d s) ds) * 7 ≤ length (joined ds)
-        → length (maybe b (entry_of value s d) ++ entries_in value (setting_after d s) ds) * 7 ≤ length (d ++ joined ds)
-    by true q h = omega (arith, entry-bytes d s q, length-append d (joined ds))
-    by false q h = omega (arith, length-append d (joined ds))
+    by : (g : Option Setting) → gives_entry d s ≡ g → length (entries_in value (setting_after d s) ds) * 7 ≤ length (joined ds)
+        → length (given value d g ++ entries_in value (setting_after d s) ds) * 7 ≤ length (d ++ joined ds)
+    by (Some t) q h = omega (arith, entry-bytes d s t q, length-append d (joined ds))
+    by None q h = omega (arith, length-append d (joined ds))
 
 few-behind : (ds : List (List ℕ)) → length (entries_behind ds) * 7 ≤ length (joined ds)
 unfolding entries_behind

@@ -5,6 +5,7 @@ use mathlib.Core.Path.{◌≡◌, refl}
 use mathlib.Core.Bool.{true, false}
 use mathlib.Core.List.{List, [], ◌∷◌, ◌++◌, map}
 use lib.ListN.{take, drop}
+use Rattle.std.specs.Prelude.{Some, None}
 use Rattle.descriptors.specs.Whole.{is_whole, whole_in, whole}
 use Rattle.descriptors.specs.Kind.{is_read, is_set_configuration, is_set_interface, kind_by, kind_of}
 use Rattle.descriptors.specs.Entries.{is_of, first_of, max_of, value_of, setting_after, gives_entry, entry_of, entries_in, entries_behind, entries_of}
@@ -38,7 +39,7 @@ unfolding disk in_entry out-entry is_whole whole_in whole is_of setting_after gi
 disks = refl
 
 values : map (λ (n : ℕ). value_of (take n disk)) (32 ∷ 9 ∷ 8 ∷ [])
-    ≡ record { taken = true; number = 1 } ∷ record { taken = true; number = 1 } ∷ record { taken = false; number = 0 } ∷ []
+    ≡ Some 1 ∷ Some 1 ∷ None ∷ []
 unfolding disk is_whole whole_in whole is_of first_of value_of
 values = refl
 
@@ -65,7 +66,7 @@ device : List ℕ
 device = 0x12 ∷ 0x01 ∷ 0x00 ∷ 0x02 ∷ 0x00 ∷ 0x00 ∷ 0x00 ∷ 0x40 ∷ 0x81 ∷ 0x07 ∷ 0x81 ∷ 0x55 ∷ 0x00 ∷ 0x01 ∷ 0x01 ∷ 0x02 ∷ 0x03 ∷ 0x01 ∷ []
 
 maxes : map max_of (device ∷ take 8 device ∷ disk ∷ [])
-    ≡ record { taken = true; number = 64 } ∷ record { taken = false; number = 0 } ∷ record { taken = false; number = 0 } ∷ []
+    ≡ Some 64 ∷ None ∷ None ∷ []
 unfolding device disk is_whole whole_in whole is_of first_of max_of
 maxes = refl
 

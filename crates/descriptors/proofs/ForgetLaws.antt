@@ -2,7 +2,7 @@
 -- Assumes nothing.
 use Rattle.std.specs.Prelude.{ℕ, suc, ◌+◌, ◌-◌, ◌*◌, ◌≤◌, ◌<◌, ◌≡◌, refl, Bool, eqb, get_or, drop, set}
 use native.Mathlib.Omega.{arith}
-use Rattle.std.proofs.Common.{add-one, ◌∙◌, drop-drop, drop-cons, drop-set-lt, get_or-take, get_or-drop}
+use Rattle.std.proofs.Common.{◌∙◌, drop-drop, drop-set-lt, get_or-take, get_or-drop}
 use Rattle.std.proofs.Math.Path.{sym, ap, subst}
 use Rattle.std.proofs.Math.Bool.{not}
 use mathlib.Core.List.{List, [], ◌∷◌, ◌++◌}
@@ -20,33 +20,6 @@ use Rattle.descriptors.specs.Steps.{Forgets}
 pub drop-sets : (vs l : List ℕ) (i k : ℕ) → i + length vs ≤ k → drop k (sets l i vs) ≡ drop k l
 drop-sets [] l i k h = refl
 drop-sets (v ∷ vs) l i k h = drop-sets vs (set l i v) (suc i) k (omega arith) ∙ drop-set-lt k l i v (omega arith)
-
-one_more : (l : List ℕ) (n i : ℕ) → i < length l → take (suc n) (drop i l) ≡ get_or l i 0 ∷ take n (drop (i + 1) l)
-one_more l n i h = rw (add-one, drop-cons l i 0)
-
--- seven bytes one by one
-pub seven : (l : List ℕ) (i : ℕ) → i + 7 ≤ length l
-    → get_or l i 0 ∷ get_or l (i + 1) 0 ∷ get_or l (i + 2) 0 ∷ get_or l (i + 3) 0 ∷ get_or l (i + 4) 0 ∷ get_or l (i + 5) 0 ∷ get_or l (i + 6) 0 ∷ [] ≡ take 7 (drop i l)
-seven l i h =
-    let b : i + 1 + 1 ≡ i + 2 = omega arith in
-    let c : i + 2 + 1 ≡ i + 3 = omega arith in
-    let d : i + 3 + 1 ≡ i + 4 = omega arith in
-    let e : i + 4 + 1 ≡ i + 5 = omega arith in
-    let f : i + 5 + 1 ≡ i + 6 = omega arith in
-    rw (
-      one_more l 6 i (omega arith),
-      one_more l 5 (i + 1) (omega arith),
-      b,
-      one_more l 4 (i + 2) (omega arith),
-      c,
-      one_more l 3 (i + 3) (omega arith),
-      d,
-      one_more l 2 (i + 4) (omega arith),
-      e,
-      one_more l 1 (i + 5) (omega arith),
-      f,
-      one_more l 0 (i + 6) (omega arith),
-    )
 
 -- the entry at i, and those behind it
 pub entry-turn : (base kept i : ℕ) (store : List ℕ) → i < kept
@@ -72,12 +45,6 @@ pub record Passed (base kept value : ℕ) (store₀ store : List ℕ) (n i : ℕ
   pub stored : sets store₀ base (joined (without value (stored_at base kept store₀)))
       ≡ sets store (base + n * 7) (joined (without value (stored_at (base + i * 7) (kept - i) store)))
   pub counted : length (without value (stored_at base kept store₀)) ≡ n + length (without value (stored_at (base + i * 7) (kept - i) store))
-
-pub passed_start : (base kept value : ℕ) (store : List ℕ) → Passed base kept value store store 0 0
-passed_start base kept value store =
-    let z : base + 0 * 7 ≡ base = omega arith in
-    let y : kept - 0 ≡ kept = omega arith in
-    record { order = omega arith; most = omega arith; same = refl; stored = rw (z, y); counted = rw (z, y) (omega arith) }
 
 module _ {base kept value : ℕ} {store₀ store : List ℕ} {n i : ℕ} (p : Passed base kept value store₀ store n i) where
   pub passed-end : kept ≤ i → Forgets base kept value store₀ store n

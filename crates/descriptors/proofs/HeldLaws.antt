@@ -1,14 +1,15 @@
 -- Laws (proved): what a store holds after entries were forgotten and kept.
 -- Assumes nothing.
-use Rattle.std.specs.Prelude.{ℕ, zero, suc, ◌+◌, ◌-◌, ◌*◌, ◌≤◌, ◌≡◌, refl, Bool, true, false, cond, List, [], ◌∷◌, ◌++◌, get_or, take, drop}
+use Rattle.std.specs.Prelude.{ℕ, zero, suc, ◌+◌, ◌-◌, ◌*◌, ◌≤◌, ◌≡◌, refl, Bool, true, false, cond, List, [], ◌∷◌, ◌++◌, get_or, take, drop, Option, Some, None}
+use Rattle.std.specs.Option.{option_map_or}
 use Rattle.std.proofs.Common.{arith, ◌∙◌, subst, append_assoc, append-nil, length-take, take-append-drop, length-take-le, take_at, drop_at, drop-drop, take-add}
 use Rattle.std.proofs.Math.Path.{sym, ap}
 use Rattle.std.proofs.Math.ListN.{length, length-append, length-drop}
 use Rattle.std.proofs.lemmas.List.Edits.{sets, sets-eq}
-use Rattle.std.proofs.Math.Seq.{length-sets, take-nil}
+use Rattle.std.proofs.Math.Seq.{take-nil}
 use Rattle.std.proofs.lemmas.List.{take-append-le, drop-append-le}
 use Rattle.descriptors.specs.Whole.{whole, joined}
-use Rattle.descriptors.specs.Entries.{maybe, value_of, entry_of, entries_in, entries_behind, entries_of, fitting, gives_entry, setting_after, is_of, unset}
+use Rattle.descriptors.specs.Entries.{maybe, given, value_of, entry_of, entries_in, entries_behind, entries_of, fitting, gives_entry, setting_after, is_of, unset}
 use Rattle.descriptors.proofs.Configuration.{All}
 use Rattle.descriptors.proofs.ReadBack.{all_append}
 use Rattle.rows.specs.Sets.{sets_then}
@@ -17,7 +18,6 @@ use Rattle.descriptors.proofs.StepLaws.{entries_none}
 use Rattle.descriptors.specs.Store.{chunks, stored_at, is_other, without, left_by, added_by, kept_after}
 use Rattle.descriptors.specs.Steps.{Keeps, Forgets, Reads}
 use Rattle.descriptors.specs.declared.walk.Setting.{Setting}
-use Rattle.descriptors.specs.declared.walk.Taken.{Taken}
 
 abbrev pub Seven : List ℕ → Type 0
 Seven e = length e ≡ 7
@@ -78,10 +78,15 @@ without_fewer value (e ∷ es) = by (is_other value e) (without_fewer value es)
     by true h = omega arith
     by false h = omega arith
 
-in_seven : (value : ℕ) (ds : List (List ℕ)) (s : Setting) → All Seven (entries_in value s ds)
-unfolding entries_in entry_of
+given_seven : (value : ℕ) (d : List ℕ) (g : Option Setting) → All Seven (given value d g)
+unfolding entry_of
+given_seven value d None = tt
+given_seven value d (Some s) = (refl, tt)
+
+in_seven : (value : ℕ) (ds : List (List ℕ)) (s : Option Setting) → All Seven (entries_in value s ds)
+unfolding entries_in
 in_seven value [] s = tt
-in_seven value (d ∷ ds) s = all_append Seven (maybe (gives_entry d s) (entry_of value s d)) (entries_in value (setting_after d s) ds) (maybe_seven (gives_entry d s) (entry_of value s d) refl) (in_seven value ds (setting_after d s))
+in_seven value (d ∷ ds) s = all_append Seven (given value d (gives_entry d s)) (entries_in value (setting_after d s) ds) (given_seven value d (gives_entry d s)) (in_seven value ds (setting_after d s))
 
 behind_seven : (ds : List (List ℕ)) → All Seven (entries_behind ds)
 unfolding entries_behind
@@ -164,9 +169,6 @@ module _ {base kept value : ℕ} {store store₁ : List ℕ} {n : ℕ} (f : Forg
   pub forgets_few : n ≤ kept
   forgets_few = omega (arith, f.counted, without_fewer value (stored_at base kept store), chunks-length kept (drop base store))
 
-  pub forgets-length : length store₁ ≡ length store
-  forgets-length = ap length f.stored ∙ length-sets store base (joined (without value (stored_at base kept store)))
-
 pub joined-append : (xs ys : List (List ℕ)) → joined (xs ++ ys) ≡ joined xs ++ joined ys
 joined-append [] ys = refl
 joined-append (x ∷ xs) ys = ap (λ (l : List ℕ). x ++ l) (joined-append xs ys) ∙ sym (append_assoc x (joined xs) (joined ys))
@@ -189,53 +191,50 @@ same_again base k l h =
     ∙ take-append-drop (base + k) l
 
 -- what a read leaves and adds, by what `read_value` gave
-module _ (p : List ℕ) (es : List (List ℕ)) (r : Taken) (e : r ≡ value_of p) where
-  left-none : r.taken ≡ false → left_by p es ≡ es
+module _ (p : List ℕ) (es : List (List ℕ)) where
+  left_some : {v : ℕ} → Some v ≡ value_of p → without v es ≡ left_by p es
   unfolding left_by
-  left-none h = let t = sym (ap (λ (r : Taken). r.taken) e) ∙ h in rw t
-
-  left_some : r.taken ≡ true → without r.number es ≡ left_by p es
-  unfolding left_by
-  left_some h = let t = sym (ap (λ (r : Taken). r.taken) e) ∙ h in rw t (ap (λ (r : Taken). without r.number es) e)
-
-  added_none : r.taken ≡ false → added_by p es ≡ []
-  unfolding added_by fitting
-  added_none h = ap (take (585 - length (left_by p es))) (entries_none p r e h) ∙ take-nil (585 - length (left_by p es))
+  left_some e = ap (λ (r : Option ℕ). option_map_or (λ v. without v es) r es) e
 
   added_some : (n : ℕ) → n ≡ length (left_by p es) → fitting n (entries_of p) ≡ added_by p es
   unfolding added_by
   added_some n h = ap (λ (i : ℕ). fitting i (entries_of p)) h
 
-  pub after_none : r.taken ≡ false → kept_after p es ≡ es
-  after_none h = (λ i. left-none h i ++ added_none h i) ∙ append-nil es
+  module _ (e : None ≡ value_of p) where
+    left-none : left_by p es ≡ es
+    unfolding left_by
+    left-none = sym (ap (λ (r : Option ℕ). option_map_or (λ v. without v es) r es) e)
 
-pub reads_none : (base kept : ℕ) (p store : List ℕ) (r : Taken) → r ≡ value_of p → r.taken ≡ false → kept ≤ 585 → base + 4095 ≤ length store
-    → Reads base kept p store store kept 0
-reads_none base kept p store r e h few room =
+    added_none : added_by p es ≡ []
+    unfolding added_by fitting
+    added_none = ap (take (585 - length (left_by p es))) (entries_none p e) ∙ take-nil (585 - length (left_by p es))
+
+    pub after_none : kept_after p es ≡ es
+    after_none = (λ i. left-none i ++ added_none i) ∙ append-nil es
+
+pub reads_none : (base kept : ℕ) (p store : List ℕ) → None ≡ value_of p → kept ≤ 585 → base + 4095 ≤ length store → Reads base kept p store store kept 0
+reads_none base kept p store e few room =
     let es = stored_at base kept store in
-    let a = after_none p es r e h in
+    let a = after_none p es e in
     record {
       stored = sym
           (ap (λ (xs : List (List ℕ)). sets store base (joined xs)) a
           ∙ ap (sets store base) (joined-chunks kept (drop base store))
           ∙ same_again base (kept * 7) store (omega arith));
       counted = sym (chunks-length kept (drop base store)) ∙ ap length (sym a);
-      more = ap length (sym (added_none p es r e h));
+      more = ap length (sym (added_none p es e));
     }
 
-pub keeps-more : {base n m : ℕ} {es : List (List ℕ)} {store store₁ : List ℕ} → Keeps base n es store store₁ m → n ≤ m
-keeps-more k = omega (arith, k.counted)
-
-pub reads_some : (base kept : ℕ) (p store : List ℕ) (r : Taken) → r ≡ value_of p → r.taken ≡ true → kept ≤ 585 → base + 4095 ≤ length store
-    → {store₁ store₂ : List ℕ} {n m : ℕ} → Forgets base kept r.number store store₁ n → Keeps base n (entries_of p) store₁ store₂ m
+pub reads_some : (base kept : ℕ) (p store : List ℕ) {v : ℕ} → Some v ≡ value_of p → kept ≤ 585 → base + 4095 ≤ length store
+    → {store₁ store₂ : List ℕ} {n m : ℕ} → Forgets base kept v store store₁ n → Keeps base n (entries_of p) store₁ store₂ m
     → Reads base kept p store store₂ m (m - n)
-reads_some base kept p store r e t h room {store₁} {store₂} {n} {m} f k =
+reads_some base kept p store {v} e h room {store₁} {store₂} {n} {m} f k =
     let es = stored_at base kept store in
-    let gone = without r.number es in
-    let left = left_some p es r e t in
+    let gone = without v es in
+    let left = left_some p es e in
     let count : n ≡ length (left_by p es) = f.counted ∙ ap length left in
-    let added = added_some p es r e n count in
-    let seven = without_seven r.number es (chunks_seven kept (drop base store) (omega (arith, length-drop base store))) in
+    let added = added_some p es n count in
+    let seven = without_seven v es (chunks_seven kept (drop base store) (omega (arith, length-drop base store))) in
     let place : base + n * 7 ≡ base + length (joined gone) = omega (arith, f.counted, joined_length gone seven) in
     record {
       stored = sets_then store store₁ store₂ base (base + n * 7) (joined gone) (joined (fitting n (entries_of p))) f.stored place k.stored
@@ -250,19 +249,19 @@ reads_same {base} {kept} {p} {q} {store} {store₁} {n} {m} e r = subst (λ (p :
 
 left_seven : (p : List ℕ) (es : List (List ℕ)) → All Seven es → All Seven (left_by p es)
 unfolding left_by
-left_seven p es h = by (value_of p).taken
+left_seven p es h = by (value_of p)
   where
-    by : (b : Bool) → All Seven (cond b (without (value_of p).number es) es)
-    by true = without_seven (value_of p).number es h
-    by false = h
+    by : (r : Option ℕ) → All Seven (option_map_or (λ v. without v es) r es)
+    by (Some v) = without_seven v es h
+    by None = h
 
 left_fewer : (p : List ℕ) (es : List (List ℕ)) → length (left_by p es) ≤ length es
 unfolding left_by
-left_fewer p es = by (value_of p).taken
+left_fewer p es = by (value_of p)
   where
-    by : (b : Bool) → length (cond b (without (value_of p).number es) es) ≤ length es
-    by true = without_fewer (value_of p).number es
-    by false = omega arith
+    by : (r : Option ℕ) → length (option_map_or (λ v. without v es) r es) ≤ length es
+    by (Some v) = without_fewer v es
+    by None = omega arith
 
 -- what is held after a read: the entries that it leaves; and bytes outside the store's 4,095 are as they were
 module _ {base kept : ℕ} {p store store₁ : List ℕ} {count added : ℕ} (r : Reads base kept p store store₁ count added) (h : kept ≤ 585)

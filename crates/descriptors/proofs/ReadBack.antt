@@ -1,6 +1,6 @@
 -- Laws (proved): the entries of a configuration's bytes are its endpoints.
 -- Assumes nothing.
-use Rattle.std.specs.Prelude.{ℕ, ◌+◌, ◌≤◌, ◌≡◌, Bool, true, false, ◌&&◌, leb, take, drop}
+use Rattle.std.specs.Prelude.{ℕ, ◌+◌, ◌≤◌, ◌≡◌, Bool, true, false, ◌&&◌, leb, take, drop, Option, Some}
 use native.Mathlib.Omega.{arith}
 use Rattle.std.proofs.Math.Path.{refl}
 use Rattle.std.proofs.Common.{ap, ◌∙◌, le-leb}
@@ -69,20 +69,20 @@ formed-behind c g =
     (all-flat GoodInterface Formed of_interface formed_interface c.interfaces g.interfaces)
 
 -- descriptors that are neither an interface's nor an endpoint's give nothing and leave the setting
-module _ (value : ℕ) (s : Setting) where
+module _ (value : ℕ) (s : Option Setting) where
   foreign-none : (ds : List (List ℕ)) → All Foreign ds → entries_in value s ds ≡ []
   unfolding entries_in gives_entry setting_after
   foreign-none [] h = refl
   foreign-none (d ∷ ds) h = let p = h.0.interface in let q = h.0.endpoint in rw (p, q) (foreign-none ds h.1)
 
-foreign-stays : (s : Setting) (ds : List (List ℕ)) → All Foreign ds → setting_over ds s ≡ s
+foreign-stays : (s : Option Setting) (ds : List (List ℕ)) → All Foreign ds → setting_over ds s ≡ s
 unfolding setting_after
 foreign-stays s [] h = refl
 foreign-stays s (d ∷ ds) h = let p = h.0.interface in rw p (foreign-stays s ds h.1)
 
 -- what gives the same whatever the setting is, behind each other
 each_in : {A : Type 0} (value : ℕ) (P : A → Type 0) (f g : A → List (List ℕ))
-    → ((x : A) → P x → (s : Setting) → entries_in value s (f x) ≡ g x) → (xs : List A) → All P xs → (s : Setting) → entries_in value s (flat f xs) ≡ flat g xs
+    → ((x : A) → P x → (s : Option Setting) → entries_in value s (f x) ≡ g x) → (xs : List A) → All P xs → (s : Option Setting) → entries_in value s (flat f xs) ≡ flat g xs
 unfolding entries_in
 each_in value P f g h [] p s = refl
 each_in value P f g h (x ∷ xs) p s =
@@ -91,13 +91,13 @@ each_in value P f g h (x ∷ xs) p s =
     ∙ ap (λ (es : List (List ℕ)). g x ++ es) (each_in value P f g h xs p.1 (setting_over (f x) s))
 
 -- what leaves a setting, behind each other
-each_at : {A : Type 0} (value : ℕ) (s : Setting) (P : A → Type 0) (f g : A → List (List ℕ))
+each_at : {A : Type 0} (value : ℕ) (s : Option Setting) (P : A → Type 0) (f g : A → List (List ℕ))
     → ((x : A) → P x → entries_in value s (f x) ≡ g x) → ((x : A) → P x → setting_over (f x) s ≡ s) → (xs : List A) → All P xs → entries_in value s (flat f xs) ≡ flat g xs
 unfolding entries_in
 each_at value s P f g h k [] p = refl
 each_at value s P f g h k (x ∷ xs) p =
     entries-append value (f x) (flat f xs) s
-    ∙ ap (λ (t : Setting). entries_in value s (f x) ++ entries_in value t (flat f xs)) (k x p.0)
+    ∙ ap (λ (t : Option Setting). entries_in value s (f x) ++ entries_in value t (flat f xs)) (k x p.0)
     ∙ ap (λ (es : List (List ℕ)). es ++ entries_in value s (flat f xs)) (h x p.0)
     ∙ ap (λ (es : List (List ℕ)). g x ++ es) (each_at value s P f g h k xs p.1)
 
@@ -116,8 +116,8 @@ module _ (e : Endpoint) where
   no_interface = and_false (leb 9 (length (endpoint_bytes e)))
 
 module _ (value n a : ℕ) where
-  abbrev here : Setting
-  here = record { known = true; interface = n; alternate = a }
+  abbrev here : Option Setting
+  here = Some (record { interface = n; alternate = a })
 
   endpoint_in : (e : Endpoint) → GoodEndpoint e → entries_in value here (of_endpoint e) ≡ endpoint_entry value n a e
   unfolding entries_in gives_entry setting_after entry_of
@@ -133,20 +133,20 @@ module _ (value n a : ℕ) where
   endpoints_in : (es : List Endpoint) → All GoodEndpoint es → entries_in value here (flat of_endpoint es) ≡ flat (endpoint_entry value n a) es
   endpoints_in es h = each_at value here GoodEndpoint of_endpoint (endpoint_entry value n a) endpoint_in endpoint-stays es h
 
-alternate_in : (value n : ℕ) (a : Alternate) → GoodAlternate a → (s : Setting) → entries_in value s (of_alternate n a) ≡ alternate_entries value n a
+alternate_in : (value n : ℕ) (a : Alternate) → GoodAlternate a → (s : Option Setting) → entries_in value s (of_alternate n a) ≡ alternate_entries value n a
 unfolding entries_in gives_entry setting_after is_of
 alternate_in value n a g s =
-    let t : Setting = here value n a.alternate in
+    let t : Option Setting = here value n a.alternate in
     entries-append value a.others (flat of_endpoint a.endpoints) t
     ∙ ap (λ (es : List (List ℕ)). es ++ entries_in value (setting_over a.others t) (flat of_endpoint a.endpoints)) (foreign-none value t a.others g.foreign)
-    ∙ ap (λ (u : Setting). entries_in value u (flat of_endpoint a.endpoints)) (foreign-stays t a.others g.foreign)
+    ∙ ap (λ (u : Option Setting). entries_in value u (flat of_endpoint a.endpoints)) (foreign-stays t a.others g.foreign)
     ∙ endpoints_in value n a.alternate a.endpoints g.endpoints
 
-interface_in : (value : ℕ) (i : Interface) → GoodInterface i → (s : Setting) → entries_in value s (of_interface i) ≡ interface_entries value i
+interface_in : (value : ℕ) (i : Interface) → GoodInterface i → (s : Option Setting) → entries_in value s (of_interface i) ≡ interface_entries value i
 interface_in value i g s =
     each_in value GoodAlternate (of_alternate i.number) (alternate_entries value i.number) (alternate_in value i.number) i.alternates g.alternates s
 
-behind_in : (c : Configuration) → Good c → (s : Setting) → entries_in c.value s (behind_head c) ≡ endpoints_of c
+behind_in : (c : Configuration) → Good c → (s : Option Setting) → entries_in c.value s (behind_head c) ≡ endpoints_of c
 behind_in c g s =
     entries-append c.value c.others (flat of_interface c.interfaces) s
     ∙ ap (λ (es : List (List ℕ)). es ++ entries_in c.value (setting_over c.others s) (flat of_interface c.interfaces)) (foreign-none c.value s c.others g.foreign)

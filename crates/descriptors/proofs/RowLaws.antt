@@ -1,6 +1,7 @@
 -- Laws (proved): the row of a device that a request completes on: it may be made when the shelf has been written, and its address and its number of details stay.
 -- Assumes nothing.
-use Rattle.std.specs.Prelude.{ℕ, ◌/◌, ◌%◌, ◌+◌, ◌*◌, ◌≡◌, refl, Bool, true, false, cond, List, [], ◌∷◌, ltb, length, get_or}
+use Rattle.std.specs.Prelude.{ℕ, ◌/◌, ◌%◌, ◌+◌, ◌*◌, ◌≡◌, refl, Bool, true, false, cond, List, [], ◌∷◌, ltb, length, get_or, Option, Some, None}
+use Rattle.std.specs.Option.{option_map_or}
 use Rattle.std.proofs.Common.{◌∙◌}
 use Rattle.usb.specs.Fields.{setup_of}
 use Rattle.usb.specs.Types.{Control}
@@ -10,7 +11,7 @@ use Rattle.details.proofs.DetailsLaws.{Kept, given-kept}
 use Rattle.details.specs.declared.Device.{Device}
 use Rattle.descriptors.specs.Entries.{max_of}
 use Rattle.descriptors.specs.Chosen.{configuration_choice, interface_choice, is_chosen, set_from, set_if, applied}
-use Rattle.descriptors.specs.Complete.{payload_for, entries_for, completed_by, CompletesAs, with_max, device_after, device_by, row_with, row_after}
+use Rattle.descriptors.specs.Complete.{payload_for, entries_for, CompletesAs, with_max, device_after, device_by, row_with, row_after}
 use Rattle.descriptors.proofs.FateLaws.{device_still}
 use Rattle.descriptors.specs.declared.choose.Choice.{Choice}
 use Rattle.descriptors.specs.declared.complete.Asked.{Asked}
@@ -47,7 +48,11 @@ applied-kept c (e ∷ es) d = then (set-kept e d (is_chosen c e)) (applied-kept 
 -- the details alone change
 device-kept : (kind : Kind) (s : Setup) (chosen : ℕ) (p : List ℕ) (es : List (List ℕ)) (d : Device) → Kept d (device_after kind s chosen p es d)
 unfolding device_after with_max
-device-kept DeviceRead s chosen p es d = maybe (max_of p).taken d (with_given d 0 0 Control (max_of p).number) (given-kept d 0 0 Control (max_of p).number)
+device-kept DeviceRead s chosen p es d = by (max_of p)
+  where
+    by : (r : Option ℕ) → Kept d (option_map_or (with_given d 0 0 Control) r d)
+    by (Some m) = given-kept d 0 0 Control m
+    by None = same d
 device-kept ConfigurationRead s chosen p es d = same d
 device-kept SetConfiguration s chosen p es d = applied-kept (configuration_choice s) es d
 device-kept SetInterface s chosen p es d = maybe (ltb chosen 256) d (applied (interface_choice s chosen) es d) (applied-kept (interface_choice s chosen) es d)

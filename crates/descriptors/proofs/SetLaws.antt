@@ -1,7 +1,9 @@
 -- Laws (proved): which details a choice sets: the last entry that is meant decides, and the details of other endpoints stay; a configuration that was read is set
 -- by what was read of it last, one that was not sets nothing; what a read leaves of each configuration.
 -- Assumes nothing.
-use Rattle.std.specs.Prelude.{ℕ, ◌+◌, ◌-◌, ◌*◌, ◌/◌, ◌%◌, ◌<◌, Bool, cond, ◌&&◌, ◌||◌}
+use Rattle.std.specs.Prelude.{ℕ, ◌+◌, ◌-◌, ◌*◌, ◌/◌, ◌%◌, ◌<◌, Bool, cond, ◌&&◌, Option, Some, None, MatchOption}
+use Rattle.std.specs.Option.{option_map_or}
+use Rattle.std.proofs.lemmas.Option.{same_Some}
 use Rattle.std.proofs.Common.{arith, ◌∙◌}
 use Rattle.std.proofs.Math.Path.{◌≡◌, refl, sym, ap, subst}
 use Rattle.std.proofs.Math.Bool.{true, false, not}
@@ -16,11 +18,12 @@ use Rattle.details.specs.declared.Detail.{Detail}
 use Rattle.details.specs.declared.Device.{Device}
 use Rattle.descriptors.specs.Whole.{whole}
 use Rattle.descriptors.proofs.WholeLaws.{both_right}
-use Rattle.descriptors.specs.Entries.{is_of, nothing, first_of, unset, named, maybe, value_of, setting_after, gives_entry, entry_of, entries_in, entries_behind, entries_of, fitting}
+use Rattle.descriptors.specs.Entries.{is_of, first_of, unset, named, maybe, given, value_of, setting_after, gives_entry, entry_of, entries_in, entries_behind, entries_of, fitting}
 use Rattle.descriptors.specs.Store.{is_other, without, left_by, added_by, kept_after}
 use Rattle.descriptors.proofs.Configuration.{Configuration, All, Good, bytes_of, endpoints_of}
 use Rattle.descriptors.proofs.ReadBack.{all_append, all_map, read_back}
 use Rattle.descriptors.proofs.HeldLaws.{take-all_of}
+use Rattle.descriptors.proofs.StepLaws.{entries_none}
 use Rattle.descriptors.specs.Chosen.{is_chosen, set_from, set_if, applied, count_set}
 use Rattle.descriptors.specs.declared.choose.Choice.{Choice}
 use Rattle.descriptors.specs.declared.walk.Setting.{Setting}
@@ -92,7 +95,7 @@ module _ (c : Choice) where
   unfolding is_chosen
   other_unmeant e h = by (eqb (get_or e 0 0) c.value) h
     where
-      by : (b : Bool) → not b ≡ true → (b && ((c.all || eqb (get_or e 1 0) c.interface) && eqb (get_or e 2 0) c.alternate)) ≡ false
+      by : (b : Bool) → not b ≡ true → (b && (option_map_or (eqb (get_or e 1 0)) c.interface true && eqb (get_or e 2 0) c.alternate)) ≡ false
       by false h = refl
       by true h = absurd (let z : ◌≡◌ {A = ℕ} 0 1 = cc in omega arith)
 
@@ -107,15 +110,12 @@ module _ (c : Choice) where
       by false h = tt
 
   -- a configuration that was read is set by what was read of it last
-  pub set-read : (p : List ℕ) (es : List (List ℕ)) (d : Device) → (value_of p).taken ≡ true → c.value ≡ (value_of p).number
-      → applied c (kept_after p es) d ≡ applied c (added_by p es) d
+  pub set-read : (p : List ℕ) (es : List (List ℕ)) (d : Device) → value_of p ≡ Some c.value → applied c (kept_after p es) d ≡ applied c (added_by p es) d
   unfolding left_by
-  set-read p es d t v =
+  set-read p es d t =
       applied-append (left_by p es) (added_by p es) d
       ∙ ap (applied c (added_by p es))
-      (ap (λ (b : Bool). applied c (cond b (without (value_of p).number es) es) d) t
-      ∙ ap (λ (n : ℕ). applied c (without n es) d) (sym v)
-      ∙ applied-none (without c.value es) d (without_unmeant es))
+      (ap (λ (r : Option ℕ). applied c (option_map_or (λ v. without v es) r es) d) t ∙ applied-none (without c.value es) d (without_unmeant es))
 
 -- for every configuration that keeps to chapter 9: where no later endpoint that is meant has the same place, an endpoint's details are its own
 pub configured : (c : Choice) (k : Configuration) → Good k → (xs ys : List (List ℕ)) (e : List ℕ) (d : Device) → endpoints_of k ≡ xs ++ (e ∷ ys)
@@ -128,16 +128,17 @@ configured c k g xs ys e d split q h room =
 abbrev pub Numbered : List ℕ → Type 0
 Numbered e = named (get_or e 3 0) ≡ true
 
-numbered_in : (value : ℕ) (ds : List (List ℕ)) (s : Setting) → All Numbered (entries_in value s ds)
+numbered_in : (value : ℕ) (ds : List (List ℕ)) (s : Option Setting) → All Numbered (entries_in value s ds)
 unfolding entries_in gives_entry entry_of
 numbered_in value [] s = tt
 numbered_in value (d ∷ ds) s =
-    all_append Numbered (maybe (gives_entry d s) (entry_of value s d)) (entries_in value (setting_after d s) ds) (by (gives_entry d s) refl)
+    all_append Numbered (given value d (gives_entry d s)) (entries_in value (setting_after d s) ds) (by (is_of 5 7 d && named (get_or d 2 0)) refl s)
     (numbered_in value ds (setting_after d s))
   where
-    by : (b : Bool) → gives_entry d s ≡ b → All Numbered (maybe b (entry_of value s d))
-    by true h = (both_right s.known (named (get_or d 2 0)) (both_right (is_of 5 7 d) (s.known && named (get_or d 2 0)) h), tt)
-    by false h = tt
+    by : (b : Bool) → (is_of 5 7 d && named (get_or d 2 0)) ≡ b → (s : Option Setting) → All Numbered (given value d (cond b s None))
+    by true h (Some s) = (both_right (is_of 5 7 d) (named (get_or d 2 0)) h, tt)
+    by true h None = tt
+    by false h s = tt
 
 numbered-behind : (ds : List (List ℕ)) → All Numbered (entries_behind ds)
 unfolding entries_behind
@@ -221,52 +222,59 @@ module _ (u : ℕ) where
       one_left false q = append-nil (maybe (eqb (get_or e 0 0) u) e)
 
 -- the entries of a read are of the configuration that was read
-valued_in : (value : ℕ) (ds : List (List ℕ)) (s : Setting) → Valued value (entries_in value s ds)
+valued_in : (value : ℕ) (ds : List (List ℕ)) (s : Option Setting) → Valued value (entries_in value s ds)
 unfolding entries_in entry_of
 valued_in value [] s = tt
 valued_in value (d ∷ ds) s =
-    all_append (λ (e : List ℕ). get_or e 0 0 ≡ value) (maybe (gives_entry d s) (entry_of value s d)) (entries_in value (setting_after d s) ds) (by (gives_entry d s))
+    all_append (λ (e : List ℕ). get_or e 0 0 ≡ value) (given value d (gives_entry d s)) (entries_in value (setting_after d s) ds) (by (gives_entry d s))
     (valued_in value ds (setting_after d s))
   where
-    by : (b : Bool) → Valued value (maybe b (entry_of value s d))
-    by true = (refl, tt)
-    by false = tt
+    by : (g : Option Setting) → Valued value (given value d g)
+    by (Some s) = (refl, tt)
+    by None = tt
 
-valued-behind : (ds : List (List ℕ)) → Valued (first_of 2 9 5 ds).number (entries_behind ds)
+valued-behind : (v : ℕ) (ds : List (List ℕ)) → first_of 2 9 5 ds ≡ Some v → Valued v (entries_behind ds)
 unfolding entries_behind first_of
-valued-behind [] = tt
-valued-behind (d ∷ ds) = by (is_of 2 9 d)
+valued-behind v [] h = tt
+valued-behind v (d ∷ ds) h = by (is_of 2 9 d) h
   where
-    by : (b : Bool) → Valued (cond b (record { taken = true; number = get_or d 5 0 }) nothing).number (cond b (entries_in (get_or d 5 0) unset ds) [])
-    by true = valued_in (get_or d 5 0) ds unset
-    by false = tt
+    by : (b : Bool) → cond b (Some (get_or d 5 0)) None ≡ Some v → Valued v (cond b (entries_in (get_or d 5 0) unset ds) [])
+    by true h = subst (λ (n : ℕ). Valued v (entries_in n unset ds)) (sym (same_Some _ _ h)) (valued_in v ds unset)
+    by false h = tt
 
-pub entries_valued : (p : List ℕ) → Valued (value_of p).number (entries_of p)
+read-valued : (p : List ℕ) (v : ℕ) → value_of p ≡ Some v → Valued v (entries_of p)
 unfolding entries_of value_of
-entries_valued p = valued-behind (whole p)
+read-valued p v t = valued-behind v (whole p) t
 
-module _ (p : List ℕ) (es : List (List ℕ)) (t : (value_of p).taken ≡ true) where
-  added_valued : Valued (value_of p).number (added_by p es)
-  unfolding added_by fitting
-  added_valued = take-all_of (λ (e : List ℕ). get_or e 0 0 ≡ (value_of p).number) (585 - length (left_by p es)) (entries_of p) (entries_valued p)
+-- the entries of a read have its value, and where it has none there are none
+pub entries_valued : (p : List ℕ) → MatchOption (value_of p) (entries_of p ≡ []) (λ v. Valued v (entries_of p))
+entries_valued p = by (value_of p) refl
+  where
+    by : (o : Option ℕ) → value_of p ≡ o → MatchOption o (entries_of p ≡ []) (λ v. Valued v (entries_of p))
+    by (Some v) e = read-valued p v e
+    by None e = entries_none p (sym e)
 
-  left_is : left_by p es ≡ without (value_of p).number es
-  unfolding left_by
-  left_is = rw t
+module _ (p : List ℕ) (v : ℕ) (t : value_of p ≡ Some v) where
+  module _ (es : List (List ℕ)) where
+    added_valued : Valued v (added_by p es)
+    unfolding added_by fitting
+    added_valued = take-all_of (λ (e : List ℕ). get_or e 0 0 ≡ v) (585 - length (left_by p es)) (entries_of p) (read-valued p v t)
 
-  -- of the configuration that was read stand the entries of this read, and no others
-  pub read-own : only (value_of p).number (kept_after p es) ≡ added_by p es
-  read-own =
-      let v = (value_of p).number in
-      only-append v (left_by p es) (added_by p es)
-      ∙ (λ i. only v (left_is i) ++ only-own v (added_by p es) added_valued i)
-      ∙ ap (λ (xs : List (List ℕ)). xs ++ added_by p es) (only_gone v es)
+    left_is : left_by p es ≡ without v es
+    unfolding left_by
+    left_is = ap (λ (r : Option ℕ). option_map_or (λ v. without v es) r es) t
 
-  -- and of every other what stood before
-  pub read-others : (u : ℕ) → (u ≡ (value_of p).number → ⊥) → only u (kept_after p es) ≡ only u es
-  read-others u ne =
-      let v = (value_of p).number in
-      only-append u (left_by p es) (added_by p es)
-      ∙ (λ i. only u (left_is i) ++ only_foreign u v (added_by p es) ne added_valued i)
-      ∙ append-nil (only u (without v es))
-      ∙ only-left u v es ne
+    -- of the configuration that was read stand the entries of this read, and no others
+    pub read-own : only v (kept_after p es) ≡ added_by p es
+    read-own =
+        only-append v (left_by p es) (added_by p es)
+        ∙ (λ i. only v (left_is i) ++ only-own v (added_by p es) added_valued i)
+        ∙ ap (λ (xs : List (List ℕ)). xs ++ added_by p es) (only_gone v es)
+
+    -- and of every other what stood before
+    pub read-others : (u : ℕ) → (u ≡ v → ⊥) → only u (kept_after p es) ≡ only u es
+    read-others u ne =
+        only-append u (left_by p es) (added_by p es)
+        ∙ (λ i. only u (left_is i) ++ only_foreign u v (added_by p es) ne added_valued i)
+        ∙ append-nil (only u (without v es))
+        ∙ only-left u v es ne

@@ -1,7 +1,7 @@
 -- Laws (proved): what lies on the shelf: a payload that is laid by and entries that are kept leave each other as they were, and every other device's part; payloads
 -- that are laid by behind each other are read as one.
 -- Assumes nothing.
-use Rattle.std.specs.Prelude.{ℕ, suc, ◌+◌, ◌-◌, ◌*◌, ◌≤◌, min, ◌≡◌, Bool, cond, List, [], ◌∷◌, ◌++◌, length, take, drop, set}
+use Rattle.std.specs.Prelude.{ℕ, suc, ◌+◌, ◌-◌, ◌*◌, ◌≤◌, min, ◌≡◌, Bool, cond, List, [], ◌∷◌, ◌++◌, length, take, drop, set, Option, Some, None, is_some}
 use native.Mathlib.Omega.{arith}
 use Rattle.std.proofs.Math.Path.{refl, ap}
 use Rattle.std.proofs.Common.{sym, ◌∙◌, length-take, length-drop, length-append, take-append-drop, length-take-le, take_all, take_at, drop-drop}
@@ -201,9 +201,9 @@ module _ (start kept : ℕ) (p shelf : List ℕ) (room : start + 8192 ≤ length
       }
   kept-behind false other h = same_part other shelf
 
-  kept-entries : (b : Bool) → (value_of p).taken ≡ b
-      → entries_at start (cond b (length (kept_after p (entries_at start kept shelf))) kept) (kept-shelf b) ≡ kept_after p (entries_at start kept shelf)
-  kept-entries true q =
+  kept-entries : (r : Option ℕ) → value_of p ≡ r
+      → entries_at start (cond (is_some r) (length (kept_after p (entries_at start kept shelf))) kept) (kept-shelf (is_some r)) ≡ kept_after p (entries_at start kept shelf)
+  kept-entries (Some v) q =
       let base = start + 4096 in
       let r = read_as base (min kept 585) p shelf in
       let few : min kept 585 ≤ 585 = omega arith in
@@ -211,7 +211,7 @@ module _ (start kept : ℕ) (p shelf : List ℕ) (room : start + 8192 ≤ length
       let count = length (kept_after p (entries_at start kept shelf)) in
       let z : min count 585 ≡ count = omega (arith, reads_few r few there) in
       ap (λ (k : ℕ). stored_at base k (kept-shelf true)) z ∙ reads_held r few there
-  kept-entries false q = sym (after_none p (entries_at start kept shelf) (value_of p) refl q)
+  kept-entries None q = sym (after_none p (entries_at start kept shelf) (sym q))
 
 module _ (start kept : ℕ) (p shelf : List ℕ) (room : start + 8192 ≤ length shelf) where
   abbrev after : Kind → List ℕ
@@ -220,7 +220,7 @@ module _ (start kept : ℕ) (p shelf : List ℕ) (room : start + 8192 ≤ length
   pub after-length : (kind : Kind) → length (after kind) ≡ length shelf
   unfolding shelf_after
   after-length DeviceRead = refl
-  after-length ConfigurationRead = kept-length start kept p shelf room (value_of p).taken
+  after-length ConfigurationRead = kept-length start kept p shelf room (is_some (value_of p))
   after-length SetConfiguration = refl
   after-length SetInterface = refl
   after-length Other = refl
@@ -229,7 +229,7 @@ module _ (start kept : ℕ) (p shelf : List ℕ) (room : start + 8192 ≤ length
   pub after-payload : (kind : Kind) (n : ℕ) → payload_at start n (after kind) ≡ payload_at start n shelf
   unfolding shelf_after
   after-payload DeviceRead n = refl
-  after-payload ConfigurationRead n = kept_payload start kept p shelf room (value_of p).taken n
+  after-payload ConfigurationRead n = kept_payload start kept p shelf room (is_some (value_of p)) n
   after-payload SetConfiguration n = refl
   after-payload SetInterface n = refl
   after-payload Other n = refl
@@ -238,7 +238,7 @@ module _ (start kept : ℕ) (p shelf : List ℕ) (room : start + 8192 ≤ length
   pub after-entries : (kind : Kind) → entries_at start (count_after kind p (entries_at start kept shelf) kept) (after kind) ≡ entries_after kind p (entries_at start kept shelf)
   unfolding shelf_after count_after
   after-entries DeviceRead = refl
-  after-entries ConfigurationRead = kept-entries start kept p shelf room (value_of p).taken refl
+  after-entries ConfigurationRead = kept-entries start kept p shelf room (value_of p) refl
   after-entries SetConfiguration = refl
   after-entries SetInterface = refl
   after-entries Other = refl
@@ -247,7 +247,7 @@ module _ (start kept : ℕ) (p shelf : List ℕ) (room : start + 8192 ≤ length
   pub after-before : (kind : Kind) (other : ℕ) → other + 8192 ≤ start → other + 8192 ≤ length shelf → SamePart other (after kind) shelf
   unfolding shelf_after
   after-before DeviceRead other h g = same_part other shelf
-  after-before ConfigurationRead other h g = kept-before start kept p shelf room (value_of p).taken other h g
+  after-before ConfigurationRead other h g = kept-before start kept p shelf room (is_some (value_of p)) other h g
   after-before SetConfiguration other h g = same_part other shelf
   after-before SetInterface other h g = same_part other shelf
   after-before Other other h g = same_part other shelf
@@ -255,7 +255,7 @@ module _ (start kept : ℕ) (p shelf : List ℕ) (room : start + 8192 ≤ length
   pub after-behind : (kind : Kind) (other : ℕ) → start + 8192 ≤ other → SamePart other (after kind) shelf
   unfolding shelf_after
   after-behind DeviceRead other h = same_part other shelf
-  after-behind ConfigurationRead other h = kept-behind start kept p shelf room (value_of p).taken other h
+  after-behind ConfigurationRead other h = kept-behind start kept p shelf room (is_some (value_of p)) other h
   after-behind SetConfiguration other h = same_part other shelf
   after-behind SetInterface other h = same_part other shelf
   after-behind Other other h = same_part other shelf

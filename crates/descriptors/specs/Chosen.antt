@@ -1,7 +1,8 @@
 -- To be believed: what SET_CONFIGURATION and SET_INTERFACE make the details of a device.
 -- Assumes nothing.
 -- Hold it to: 02, 2: "SET_CONFIGURATION makes .. the device's details", "SET_INTERFACE changes one interface"; USB 2.0, 9.4.7, 9.4.10, 9.6.6 (table 9-13)
-use Rattle.std.specs.Prelude.{ℕ, ◌+◌, ◌*◌, ◌/◌, ◌%◌, Bool, true, false, cond, ◌&&◌, ◌||◌, List, [], ◌∷◌, eqb, get_or}
+use Rattle.std.specs.Prelude.{ℕ, ◌+◌, ◌*◌, ◌/◌, ◌%◌, Bool, true, cond, ◌&&◌, List, [], ◌∷◌, eqb, get_or, Some, None}
+use Rattle.std.specs.Option.{option_map_or}
 use Rattle.rows.specs.One.{one}
 use Rattle.usb.specs.declared.fields.Setup.{Setup}
 use Rattle.details.specs.Details.{with_given}
@@ -12,11 +13,11 @@ use Rattle.descriptors.specs.declared.request.Kind.TheVariants.{DeviceRead, Conf
 
 -- 9.4.7: the configuration in wValue; all its interfaces are at alternate setting 0
 abbrev pub configuration_choice : Setup → Choice
-configuration_choice s = record { value = s.value; all = true; interface = 0; alternate = 0 }
+configuration_choice s = record { value = s.value; interface = None; alternate = 0 }
 
 -- 9.4.10: the alternate setting in wValue, the interface in wIndex; of the configuration that is chosen
 abbrev pub interface_choice : Setup → ℕ → Choice
-interface_choice s chosen = record { value = chosen; all = false; interface = s.index; alternate = s.value }
+interface_choice s chosen = record { value = chosen; interface = Some s.index; alternate = s.value }
 
 -- the configuration that is chosen after a request (9.4.7); 0 is one like others
 abbrev pub chosen_after : Kind → Setup → ℕ → ℕ
@@ -26,9 +27,9 @@ chosen_after DeviceRead s chosen = chosen
 chosen_after ConfigurationRead s chosen = chosen
 chosen_after Other s chosen = chosen
 
--- an entry's configuration value, interface and alternate setting
+-- an entry's configuration value, interface and alternate setting; all interfaces are meant where none is named
 abbrev pub is_meant : Choice → ℕ → ℕ → ℕ → Bool
-is_meant c value interface alternate = eqb value c.value && ((c.all || eqb interface c.interface) && eqb alternate c.alternate)
+is_meant c value interface alternate = eqb value c.value && (option_map_or (eqb interface) c.interface true && eqb alternate c.alternate)
 
 unfoldable pub is_chosen : Choice → List ℕ → Bool
 is_chosen c e = is_meant c (get_or e 0 0) (get_or e 1 0) (get_or e 2 0)

@@ -2,7 +2,8 @@
 -- of the device's part of the shelf.
 -- Assumes nothing.
 -- Hold it to: 02, 2: "When a standard GET_DESCRIPTOR completes", "SET_CONFIGURATION makes ..", "SET_INTERFACE changes one interface", "up to 4,096 bytes a device", "gains a note of what was taken"; USB 2.0, 9.4.3, 9.4.7, 9.4.10, 9.6.1; the note's numbers are ours
-use Rattle.std.specs.Prelude.{ℕ, ◌+◌, ◌*◌, min, ◌≡◌, cond, List, ltb, length, take, drop}
+use Rattle.std.specs.Prelude.{ℕ, ◌+◌, ◌*◌, min, ◌≡◌, cond, List, ltb, length, take, drop, is_some}
+use Rattle.std.specs.Option.{option_map_or}
 use Rattle.std.proofs.lemmas.List.Edits.{sets}
 use Rattle.usb.specs.Fields.{setup_of}
 use Rattle.usb.specs.Types.{Control}
@@ -33,10 +34,10 @@ abbrev pub noted : ℕ → ℕ → ℕ
 noted what count = 4 * count + what
 
 abbrev pub max_note : List ℕ → ℕ
-max_note p = cond (max_of p).taken (noted 1 (max_of p).number) 0
+max_note p = option_map_or (noted 1) (max_of p) 0
 
 abbrev pub read_note : List ℕ → List (List ℕ) → ℕ
-read_note p es = cond (value_of p).taken (noted 2 (length (added_by p es))) 0
+read_note p es = cond (is_some (value_of p)) (noted 2 (length (added_by p es))) 0
 
 abbrev pub set_note : Choice → List (List ℕ) → ℕ
 set_note c es = noted 3 (count_set c es)
@@ -51,7 +52,7 @@ note_of Other s chosen p es = 0
 
 -- 9.6.1, table 9-8: bMaxPacketSize0 is the max of number 0, which is control
 unfoldable pub with_max : List ℕ → Device → Device
-with_max p d = cond (max_of p).taken (with_given d 0 0 Control (max_of p).number) d
+with_max p d = option_map_or (with_given d 0 0 Control) (max_of p) d
 
 -- the device's details: the SETs make them, and no configuration read does
 unfoldable pub device_after : Kind → Setup → ℕ → List ℕ → List (List ℕ) → Device → Device
@@ -64,7 +65,7 @@ device_after Other s chosen p es d = d
 -- how many entries the device keeps then: only a configuration read changes it
 unfoldable pub count_after : Kind → List ℕ → List (List ℕ) → ℕ → ℕ
 count_after DeviceRead p es kept = kept
-count_after ConfigurationRead p es kept = cond (value_of p).taken (length (kept_after p es)) kept
+count_after ConfigurationRead p es kept = cond (is_some (value_of p)) (length (kept_after p es)) kept
 count_after SetConfiguration p es kept = kept
 count_after SetInterface p es kept = kept
 count_after Other p es kept = kept
@@ -72,7 +73,7 @@ count_after Other p es kept = kept
 -- the shelf then: its entries stand where they are kept, and every other byte is as it was
 unfoldable pub shelf_after : Kind → ℕ → List ℕ → List (List ℕ) → List ℕ → List ℕ
 shelf_after DeviceRead start p es shelf = shelf
-shelf_after ConfigurationRead start p es shelf = cond (value_of p).taken (sets shelf (start + 4096) (joined (kept_after p es))) shelf
+shelf_after ConfigurationRead start p es shelf = cond (is_some (value_of p)) (sets shelf (start + 4096) (joined (kept_after p es))) shelf
 shelf_after SetConfiguration start p es shelf = shelf
 shelf_after SetInterface start p es shelf = shelf
 shelf_after Other start p es shelf = shelf

@@ -1,7 +1,8 @@
 -- To be believed: the entries that a store holds, and what a configuration read leaves of them.
 -- Assumes nothing.
 -- Hold it to: 02, 2: what a read of a configuration gives takes the place of what was read of it before; that entries lie in a store of bytes, 585 of 7 bytes, is ours
-use Rattle.std.specs.Prelude.{ℕ, zero, suc, Bool, cond, not, List, [], ◌∷◌, ◌++◌, eqb, length, get_or, take, drop}
+use Rattle.std.specs.Prelude.{ℕ, zero, suc, Bool, not, List, [], ◌∷◌, ◌++◌, eqb, length, get_or, take, drop}
+use Rattle.std.specs.Option.{option_map_or}
 use Rattle.descriptors.specs.Entries.{maybe, value_of, fitting, entries_of}
 
 -- the first n entries of a list of bytes
@@ -24,7 +25,7 @@ without value (e ∷ es) = maybe (is_other value e) e ++ without value es
 
 -- what a configuration read leaves of the entries that were there: those of other configurations
 unfoldable pub left_by : List ℕ → List (List ℕ) → List (List ℕ)
-left_by p es = cond (value_of p).taken (without (value_of p).number es) es
+left_by p es = option_map_or (λ value. without value es) (value_of p) es
 
 -- and what it adds behind them, while there are fewer than 585; a read of something else has no entries
 unfoldable pub added_by : List ℕ → List (List ℕ) → List (List ℕ)

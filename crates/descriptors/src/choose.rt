@@ -1,18 +1,16 @@
 // What SET_CONFIGURATION and SET_INTERFACE do (USB 2.0, 9.4.7 and 9.4.10): the entries that they mean set the details of their endpoints.
-ghost use Rattle.std.specs.Prelude.{◌≡◌, ◌+◌, ◌≤◌, length, take, drop};
+ghost use Rattle.std.specs.Prelude.{◌≡◌, ◌+◌, ◌≤◌, true, length, take, drop};
 ghost use Rattle.usb.specs.Fields.{setup_of};
 ghost use Rattle.descriptors.specs.Store.{stored_at};
 ghost use Rattle.descriptors.specs.Chosen.{configuration_choice, interface_choice, is_meant, is_chosen, set_from, set_if, applied, count_set};
 
-use crate::store::count_if;
 use details::Device;
 
-// Which entries a request means: those of a configuration, of all interfaces or of one, at an alternate setting.
+// Which entries a request means: those of a configuration, of one interface or (none) of all, at an alternate setting.
 #[derive(Clone, Copy)]
 pub struct Choice {
     pub value: u16,
-    pub all: bool,
-    pub interface: u16,
+    pub interface: Option<u16>,
     pub alternate: u16,
 }
 
@@ -22,8 +20,7 @@ pub fn configuration_choice(setup: u64) -> Choice
 {
     Choice {
         value: usb::fields::value(setup),
-        all: true,
-        interface: 0,
+        interface: None,
         alternate: 0,
     }
 }
@@ -34,8 +31,7 @@ pub fn interface_choice(setup: u64, chosen: u16) -> Choice
 {
     Choice {
         value: chosen,
-        all: false,
-        interface: usb::fields::index(setup),
+        interface: Some(usb::fields::index(setup)),
         alternate: usb::fields::value(setup),
     }
 }
@@ -43,8 +39,9 @@ pub fn interface_choice(setup: u64, chosen: u16) -> Choice
 fn is_meant(c: Choice, value: u8, interface: u8, alternate: u8) -> bool
     ensures { result ≡ is_meant c value interface alternate }
 {
-    (value as u16 == c.value)
-        & ((c.all | (interface as u16 == c.interface)) & (alternate as u16 == c.alternate))
+    u16::from(value) == c.value
+        && c.interface.is_none_or(|i| u16::from(interface) == i)
+        && u16::from(alternate) == c.alternate
 }
 
 // Whether the entry at a place is meant.
@@ -66,21 +63,18 @@ fn set_from(device: Device, address: u8, attributes: u8, low: u8, high: u8) -> D
     details::set_given(device, number, direction, kind, max)
 }
 
-// The details of the endpoint of the entry at a place, where `on`.
-fn set_if(on: bool, device: Device, store: &[u8], from: usize) -> Device
+// The details of the endpoint of the entry at a place.
+fn set_entry(device: Device, store: &[u8], from: usize) -> Device
     requires { from + 7 ≤ length store.now }
-    ensures { result ≡ set_if on (take 7 (drop from store.now)) device }
+    ensures { result ≡ set_if true (take 7 (drop from store.now)) device }
 {
-    if on {
-        return set_from(
-            device,
-            store[from + 3],
-            store[from + 4],
-            store[from + 5],
-            store[from + 6],
-        );
-    }
-    device
+    set_from(
+        device,
+        store[from + 3],
+        store[from + 4],
+        store[from + 5],
+        store[from + 6],
+    )
 }
 
 // The entries of the store that are meant set the details, in their order.
@@ -90,12 +84,11 @@ pub fn apply(device: Device, choice: Choice, store: &[u8], base: usize, kept: us
     ensures { result ≡ applied choice (stored_at base kept store.now) device }
 {
     let mut d = device;
-    let mut i: usize = 0;
-    while i < kept {
+    for i in 0..kept {
         let from = base + i * 7;
-        let on = is_chosen(choice, store, from);
-        d = set_if(on, d, store, from);
-        i += 1;
+        if is_chosen(choice, store, from) {
+            d = set_entry(d, store, from);
+        }
     }
     d
 }
@@ -106,13 +99,11 @@ pub fn count_set(choice: Choice, store: &[u8], base: usize, kept: usize) -> usiz
     requires base_in_bounds { base + 4095 ≤ length store.now }
     ensures { result ≡ count_set choice (stored_at base kept store.now) }
 {
-    let mut n: usize = 0;
-    let mut i: usize = 0;
-    while i < kept {
-        let from = base + i * 7;
-        let on = is_chosen(choice, store, from);
-        n = count_if(on, n);
-        i += 1;
+    let mut n = 0;
+    for i in 0..kept {
+        if is_chosen(choice, store, base + i * 7) {
+            n += 1;
+        }
     }
     n
 }

@@ -1,8 +1,9 @@
 // What a completed request does (change request 2): to the device's part of the shelf, to the device's row, and the note of the request's row.
-ghost use Rattle.std.specs.Prelude.{◌≡◌, ◌+◌, ◌≤◌, ◌<◌, min, length};
+ghost use Rattle.std.specs.Prelude.{◌≡◌, ◌+◌, ◌≤◌, length};
 ghost use Rattle.descriptors.specs.Kind.{kind_of};
 ghost use Rattle.descriptors.specs.Chosen.{applied};
 ghost use Rattle.descriptors.specs.Complete.{payload_for, entries_for, noted, max_note, set_note, with_max, completed_by, CompletesAs, Completes, device_by, row_with};
+ghost use Rattle.descriptors.specs.Steps.{number_of};
 ghost use Rattle.descriptors.specs.declared.request.Kind.TheVariants.{ConfigurationRead, SetConfiguration, SetInterface};
 
 use crate::choose::{Choice, apply, configuration_choice, count_set, interface_choice};
@@ -33,37 +34,34 @@ pub struct Completed {
 }
 
 // What a note counts.
-const MAX: u64 = 1;
-
-const READ: u64 = 2;
-
-const SET: u64 = 3;
-
-fn least(n: usize, limit: usize) -> usize
-    ensures { result ≡ min n limit }
-{
-    if n <= limit { n } else { limit }
+#[derive(Clone, Copy)]
+enum What {
+    Max = 1,
+    Read,
+    Set,
 }
 
-fn note_of(what: u64, count: usize) -> u64
-    requires what_bound { what < 4 }
-    requires count_bound { count ≤ 585 }
-    ensures { result ≡ noted what count }
+// The payload, as far as it was laid by.
+fn payload_of(shelf: &[u8], a: Asked) -> &[u8]
+    requires { a.start + 8192 ≤ length shelf.now }
+    ensures { result.now ≡ payload_for a shelf.now }
 {
-    4 * count as u64 + what
+    let count = (a.length as usize).min(MOST);
+    &shelf[a.start..a.start + count]
+}
+
+fn note_of(what: What, count: usize) -> u64
+    requires { count ≤ 585 }
+    ensures { result ≡ noted (number_of what) count }
+{
+    4 * count as u64 + what as u64
 }
 
 fn max_note(shelf: &[u8], a: Asked) -> u64
     requires { a.start + 8192 ≤ length shelf.now }
     ensures { result ≡ max_note (payload_for a shelf.now) }
 {
-    let start = a.start;
-    let stop = start + least(a.length as usize, MOST);
-    let first = read_max(&shelf[start..stop]);
-    if !first.taken {
-        return 0;
-    }
-    note_of(MAX, first.number as usize)
+    read_max(payload_of(shelf, a)).map_or(0, |max| note_of(What::Max, usize::from(max)))
 }
 
 fn set_note(shelf: &[u8], a: Asked, choice: Choice) -> u64
@@ -71,9 +69,9 @@ fn set_note(shelf: &[u8], a: Asked, choice: Choice) -> u64
     ensures { result ≡ set_note choice (entries_for a shelf.now) }
 {
     let base = a.start + MOST;
-    let kept = least(a.kept as usize, LIMIT);
+    let kept = usize::from(a.kept).min(LIMIT);
     let count = count_set(choice, shelf, base, kept);
-    note_of(SET, count)
+    note_of(What::Set, count)
 }
 
 // The device's row keeps what it says.
@@ -91,21 +89,16 @@ fn complete_read(shelf: &mut [u8], a: Asked) -> Completed
     requires { a.start + 8192 ≤ length shelf.old }
     ensures { CompletesAs ConfigurationRead a shelf.old shelf.new result }
 {
-    let start = a.start;
-    let count = least(a.length as usize, MOST);
-    let stop = start + count;
-    let first = read_value(&shelf[start..stop]);
-    if !first.taken {
+    if read_value(payload_of(shelf, a)).is_none() {
         return only_noted(a, 0);
     }
-    let kept = least(a.kept as usize, LIMIT);
-    let left = keep_own(shelf, start, count, kept);
-    let note = note_of(READ, left.added);
-    let behind = left.count as u16;
+    let count = (a.length as usize).min(MOST);
+    let kept = usize::from(a.kept).min(LIMIT);
+    let left = keep_own(shelf, a.start, count, kept);
+    let note = note_of(What::Read, left.added);
     Completed {
-        note,
-        kept: behind,
-        chosen: a.chosen,
+        kept: left.count as u16,
+        ..only_noted(a, note)
     }
 }
 
@@ -115,10 +108,10 @@ fn complete_configuration(shelf: &[u8], a: Asked) -> Completed
 {
     let choice = configuration_choice(a.setup);
     let note = set_note(shelf, a, choice);
-    let value = usb::fields::value(a.setup);
-    let mut r = only_noted(a, note);
-    r.chosen = value;
-    r
+    Completed {
+        chosen: choice.value,
+        ..only_noted(a, note)
+    }
 }
 
 fn complete_interface(shelf: &[u8], a: Asked) -> Completed
@@ -129,8 +122,7 @@ fn complete_interface(shelf: &[u8], a: Asked) -> Completed
         return only_noted(a, 0);
     }
     let choice = interface_choice(a.setup, a.chosen);
-    let set = set_note(shelf, a, choice);
-    only_noted(a, set)
+    only_noted(a, set_note(shelf, a, choice))
 }
 
 // A request completes: what it leaves on the shelf and of the device's row, but for the details.
@@ -138,12 +130,8 @@ pub fn complete(shelf: &mut [u8], a: Asked) -> Completed
     requires { a.start + 8192 ≤ length shelf.old }
     ensures { Completes a shelf.old shelf.new result }
 {
-    let kind = kind_of(a.setup);
-    match kind {
-        Kind::DeviceRead => {
-            let max = max_note(shelf, a);
-            only_noted(a, max)
-        }
+    match kind_of(a.setup) {
+        Kind::DeviceRead => only_noted(a, max_note(shelf, a)),
         Kind::ConfigurationRead => complete_read(shelf, a),
         Kind::SetConfiguration => complete_configuration(shelf, a),
         Kind::SetInterface => complete_interface(shelf, a),
@@ -156,13 +144,10 @@ fn set_max(device: Device, a: Asked, shelf: &[u8]) -> Device
     requires { a.start + 8192 ≤ length shelf.now }
     ensures { result ≡ with_max (payload_for a shelf.now) device }
 {
-    let start = a.start;
-    let stop = start + least(a.length as usize, MOST);
-    let first = read_max(&shelf[start..stop]);
-    if !first.taken {
-        return device;
+    match read_max(payload_of(shelf, a)) {
+        Some(max) => details::set_given(device, 0, 0, types::CONTROL, u16::from(max)),
+        None => device,
     }
-    details::set_given(device, 0, 0, types::CONTROL, first.number as u16)
 }
 
 fn apply_kept(device: Device, a: Asked, choice: Choice, shelf: &[u8]) -> Device
@@ -170,7 +155,7 @@ fn apply_kept(device: Device, a: Asked, choice: Choice, shelf: &[u8]) -> Device
     ensures { result ≡ applied choice (entries_for a shelf.now) device }
 {
     let base = a.start + MOST;
-    let kept = least(a.kept as usize, LIMIT);
+    let kept = usize::from(a.kept).min(LIMIT);
     apply(device, choice, shelf, base, kept)
 }
 
@@ -190,16 +175,11 @@ pub fn device_after(device: Device, a: Asked, shelf: &[u8]) -> Device
     requires { a.start + 8192 ≤ length shelf.now }
     ensures { result ≡ device_by (kind_of a.setup) a shelf.now device }
 {
-    let kind = kind_of(a.setup);
-    match kind {
+    match kind_of(a.setup) {
         Kind::DeviceRead => set_max(device, a, shelf),
-        Kind::ConfigurationRead => device,
-        Kind::SetConfiguration => {
-            let all = configuration_choice(a.setup);
-            apply_kept(device, a, all, shelf)
-        }
+        Kind::SetConfiguration => apply_kept(device, a, configuration_choice(a.setup), shelf),
         Kind::SetInterface => apply_interface(device, a, shelf),
-        Kind::Other => device,
+        Kind::ConfigurationRead | Kind::Other => device,
     }
 }
 

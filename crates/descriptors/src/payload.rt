@@ -12,13 +12,7 @@ pub const MOST: usize = 4096;
 pub fn is_laid(kind: Kind) -> bool
     ensures { result ≡ is_laid kind }
 {
-    match kind {
-        Kind::DeviceRead => true,
-        Kind::ConfigurationRead => true,
-        Kind::SetConfiguration => false,
-        Kind::SetInterface => false,
-        Kind::Other => false,
-    }
+    matches!(kind, Kind::DeviceRead | Kind::ConfigurationRead)
 }
 
 // The payload of a data packet, behind the `count` bytes of the part of the shelf that begins at `start`, as far as the part goes.
@@ -34,8 +28,8 @@ pub fn lay(shelf: &mut [u8], start: usize, count: usize, packet: &[u8])
     let at = start + count;
     let end = packet.len() - 2;
     if room < end - 1 {
-        rows::put_bytes(shelf, at, &packet[1..room + 1]);
+        rows::put(shelf, at, &packet[1..room + 1]);
         return;
     }
-    rows::put_bytes(shelf, at, &packet[1..end]);
+    rows::put(shelf, at, &packet[1..end]);
 }

@@ -4,7 +4,7 @@ ghost use Rattle.usb.specs.Fields.{setup_of};
 ghost use Rattle.descriptors.specs.Kind.{is_read, is_set_configuration, is_set_interface, kind_of};
 
 // What a request is to the decoder.
-#[derive(Clone, Copy)]
+#[derive(Clone, Copy, PartialEq, Eq)]
 pub enum Kind {
     DeviceRead,
     ConfigurationRead,
@@ -58,16 +58,14 @@ pub fn kind_of(setup: u64) -> Kind
     ensures { result ≡ kind_of setup }
 {
     if is_read(setup, DEVICE) {
-        return Kind::DeviceRead;
+        Kind::DeviceRead
+    } else if is_read(setup, CONFIGURATION) {
+        Kind::ConfigurationRead
+    } else if is_set_configuration(setup) {
+        Kind::SetConfiguration
+    } else if is_set_interface(setup) {
+        Kind::SetInterface
+    } else {
+        Kind::Other
     }
-    if is_read(setup, CONFIGURATION) {
-        return Kind::ConfigurationRead;
-    }
-    if is_set_configuration(setup) {
-        return Kind::SetConfiguration;
-    }
-    if is_set_interface(setup) {
-        return Kind::SetInterface;
-    }
-    Kind::Other
 }

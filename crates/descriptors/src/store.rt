@@ -1,13 +1,11 @@
 // The entries that a device keeps of its configurations, in a lent store: 7 bytes for each endpoint that a configuration has.
-ghost use Rattle.std.specs.Prelude.{◌≡◌, ◌+◌, ◌≤◌, ◌<◌, ◌^◌, length, take, drop};
+ghost use Rattle.std.specs.Prelude.{◌≡◌, ◌+◌, ◌≤◌, length, take, drop};
 ghost use Rattle.std.proofs.lemmas.List.Edits.{sets};
-ghost use Rattle.rows.specs.One.{one};
-ghost use Rattle.rows.specs.Sets.{opt};
 ghost use Rattle.descriptors.specs.Whole.{whole};
 ghost use Rattle.descriptors.specs.Entries.{entry_of, unset, entries_in, entries_of};
-ghost use Rattle.descriptors.specs.Steps.{Roomy, Keeps, Forgets, Reads};
+ghost use Rattle.descriptors.specs.Steps.{Keeps, Forgets, Reads};
 
-use crate::walk::{Setting, no_setting, read_step, read_value, whole_at};
+use crate::walk::{Setting, read_step, read_value, whole_at};
 
 // What a read left: how many entries the device has, and how many of them the read added.
 #[derive(Clone, Copy)]
@@ -19,14 +17,6 @@ pub struct Kept {
 // Entries that a device keeps, of 7 bytes each.
 pub const LIMIT: usize = 585;
 
-// One more, where there is one.
-pub fn count_if(on: bool, n: usize) -> usize
-    requires { n < 2 ^ 63 }
-    ensures { result ≡ n + one on }
-{
-    if on { n + 1 } else { n }
-}
-
 // An entry's 7 bytes.
 fn put_entry(store: &mut [u8], at: usize, value: u8, s: Setting, d: &[u8])
     requires in_bounds { 7 ≤ length d.now }
@@ -34,17 +24,7 @@ fn put_entry(store: &mut [u8], at: usize, value: u8, s: Setting, d: &[u8])
     ensures { store.new ≡ sets store.old at (entry_of value s d.now) }
 {
     let row = [value, s.interface, s.alternate, d[2], d[3], d[4], d[5]];
-    rows::put_bytes(store, at, &row);
-}
-
-// An entry where `on`, and none otherwise.
-fn put_entry_if(on: bool, store: &mut [u8], at: usize, value: u8, s: Setting, d: &[u8])
-    requires { Roomy on at store.old d.now }
-    ensures { store.new ≡ sets store.old at (opt on (entry_of value s d.now)) }
-{
-    if on {
-        put_entry(store, at, value, s, d);
-    }
+    rows::put(store, at, &row);
 }
 
 // The entries of the descriptors from a place on, behind the `kept` that the store has from `base` on; how many it has then.
@@ -62,20 +42,19 @@ fn keep_behind(
 {
     let mut n = kept;
     let mut at = from;
-    let mut s = no_setting();
-    loop {
-        let step = read_step(payload, at, s);
-        if !step.whole {
-            return n;
+    let mut setting = None;
+    while let Some(step) = read_step(payload, at, setting) {
+        // Stays: one `if` in the other; of one `if` with both tests that fails, a proof does not learn which did.
+        if let Some(s) = step.gives {
+            if n < LIMIT {
+                put_entry(store, base + n * 7, value, s, &payload[at..step.end]);
+                n += 1;
+            }
         }
-        let end = step.end;
-        let on = step.gives & (n < LIMIT);
-        let place = base + n * 7;
-        put_entry_if(on, store, place, value, s, &payload[at..end]);
-        n = count_if(on, n);
-        s = step.setting;
-        at = end;
+        setting = step.setting;
+        at = step.end;
     }
+    n
 }
 
 // The entries of a configuration read, behind the `kept` that the store has from `base` on; how many it has then.
@@ -84,13 +63,13 @@ fn keep(store: &mut [u8], base: usize, kept: usize, payload: &[u8]) -> usize
     requires base_in_bounds { base + 4095 ≤ length store.old }
     ensures { Keeps base kept (entries_of payload.now) store.old store.new result }
 {
-    let first = read_value(payload);
-    if !first.taken {
+    let Some(value) = read_value(payload) else {
         return kept;
+    };
+    match whole_at(payload, 0) {
+        Some(from) => keep_behind(store, base, kept, payload, from, value),
+        None => kept,
     }
-    let from = whole_at(payload, 0);
-    let value = first.number;
-    keep_behind(store, base, kept, payload, from, value)
 }
 
 // The 7 bytes of an entry, moved down.
@@ -108,17 +87,7 @@ fn move_entry(store: &mut [u8], to: usize, from: usize)
         store[from + 5],
         store[from + 6],
     ];
-    rows::put_bytes(store, to, &row);
-}
-
-fn move_entry_if(on: bool, store: &mut [u8], to: usize, from: usize)
-    requires to_in_bounds { to + 7 ≤ length store.old }
-    requires from_in_bounds { from + 7 ≤ length store.old }
-    ensures { store.new ≡ sets store.old to (opt on (take 7 (drop from store.old))) }
-{
-    if on {
-        move_entry(store, to, from);
-    }
+    rows::put(store, to, &row);
 }
 
 // The entries of a configuration are forgotten, and the others moved together; how many these are.
@@ -127,15 +96,14 @@ fn forget(store: &mut [u8], base: usize, kept: usize, value: u8) -> usize
     requires base_in_bounds { base + 4095 ≤ length store.old }
     ensures { Forgets base kept value store.old store.new result }
 {
-    let mut n: usize = 0;
-    let mut i: usize = 0;
-    while i < kept {
+    let mut n = 0;
+    for i in 0..kept {
         let from = base + i * 7;
         let to = base + n * 7;
-        let on = store[from] != value;
-        move_entry_if(on, store, to, from);
-        n = count_if(on, n);
-        i += 1;
+        if store[from] != value {
+            move_entry(store, to, from);
+            n += 1;
+        }
     }
     n
 }
@@ -146,14 +114,12 @@ fn keep_read(store: &mut [u8], base: usize, kept: usize, payload: &[u8]) -> Kept
     requires base_in_bounds { base + 4095 ≤ length store.old }
     ensures { Reads base kept payload.now store.old store.new result.count result.added }
 {
-    let first = read_value(payload);
-    if !first.taken {
+    let Some(value) = read_value(payload) else {
         return Kept {
             count: kept,
             added: 0,
         };
-    }
-    let value = first.number;
+    };
     let left = forget(store, base, kept, value);
     let count = keep(store, base, left, payload);
     let added = count - left;
@@ -170,6 +136,6 @@ pub fn keep_own(shelf: &mut [u8], start: usize, count: usize, kept: usize) -> Ke
 {
     let mut page = [0u8; 4096];
     let stop = start + count;
-    rows::put_bytes(&mut page, 0, &shelf[start..stop]);
+    rows::put(&mut page, 0, &shelf[start..stop]);
     keep_read(shelf, start + 4096, kept, &page[..count])
 }

@@ -1,4 +1,3 @@
 pub mod Searches
-pub mod Entries
 pub mod DetailsLaws
 pub mod SearchLaws

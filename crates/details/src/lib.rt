@@ -6,7 +6,7 @@ pub mod kind;
 
 ghost use Rattle.std.specs.Prelude.{◌≡◌, ◌<◌};
 ghost use Rattle.details.specs.Details.{entry_for, bare, ordinary, details_of, with_type, detail_entry, with_detail, with_given, fresh};
-ghost use Rattle.details.specs.Lookup.{no_device, detail_answer};
+ghost use Rattle.details.specs.Lookup.{detail_answer};
 
 use usb::types;
 
@@ -26,13 +26,6 @@ pub struct Device {
     pub chosen: u16,
     pub kept: u16,
     pub details: [Detail; 32],
-}
-
-// Where a search ended: at a row, or after the last.
-#[derive(Clone, Copy)]
-pub enum Found {
-    At(usize),
-    Nothing,
 }
 
 pub const CONTROL_EP_NUM: u8 = 0;
@@ -73,13 +66,13 @@ fn ordinary_details(device: Device, address: u8) -> Detail
     ensures { result ≡ ordinary device address }
 {
     if address % 128 < 16 {
-        let at = entry_for(address);
-        device.details[at]
+        device.details[entry_for(address)]
     } else {
         bare_kind(kind::UNKNOWN)
     }
 }
 
+#[tactic(auto, unfolding(crate::specs::Details::details_of))]
 pub fn endpoint_details(device: Device, address: u8) -> Detail
     ensures { result ≡ details_of device address }
 {
@@ -87,39 +80,26 @@ pub fn endpoint_details(device: Device, address: u8) -> Detail
         EVENT_EP_NUM => bare_kind(kind::EVENT),
         INVALID_EP_NUM => bare_kind(kind::INVALID),
         FRAMING_EP_NUM => bare_kind(kind::FRAMING),
-        CONTROL_EP_NUM => {
-            let known = device.details[0];
-            Detail {
-                kind: types::CONTROL,
-                given: known.given,
-                max: known.max,
-            }
-        }
+        CONTROL_EP_NUM => Detail {
+            kind: types::CONTROL,
+            ..device.details[0]
+        },
         _ => ordinary_details(device, address),
     }
 }
 
 // A split's type is stored only where none is known, and never for number 0.
-pub fn set_endpoint_type(device: Device, address: u8, kind: u8) -> Device
+#[tactic(auto, unfolding(crate::specs::Details::with_type))]
+pub fn set_endpoint_type(mut device: Device, address: u8, kind: u8) -> Device
     ensures { result ≡ with_type device address kind }
 {
-    if address % 128 == CONTROL_EP_NUM {
-        return device;
+    let number = address % 128;
+    if number != CONTROL_EP_NUM && number < 16 {
+        let at = entry_for(address);
+        if device.details[at].kind == kind::UNKNOWN {
+            device.details[at].kind = kind;
+        }
     }
-    if 16 <= address % 128 {
-        return device;
-    }
-    let at = entry_for(address);
-    let known = device.details[at];
-    if known.kind != kind::UNKNOWN {
-        return device;
-    }
-    let mut device = device;
-    device.details[at] = Detail {
-        kind,
-        given: known.given,
-        max: known.max,
-    };
     device
 }
 
@@ -136,34 +116,32 @@ fn detail_entry(number: u8, direction: u8) -> usize
 }
 
 // A typed-in detail sets both type and max, except where a descriptor gave them.
-pub fn set_detail(device: Device, number: u8, direction: u8, kind: u8, max: u16) -> Device
+#[tactic(auto, unfolding(crate::specs::Details::with_detail))]
+pub fn set_detail(mut device: Device, number: u8, direction: u8, kind: u8, max: u16) -> Device
     requires number_bound { number < 16 }
     requires direction_bound { direction < 2 }
     ensures { result ≡ with_detail device number direction kind max }
 {
     let at = detail_entry(number, direction);
     let before = device.details[at];
-    if before.given {
-        return device;
+    if !before.given {
+        device.details[at] = Detail {
+            kind,
+            max,
+            ..before
+        };
     }
-    let mut device = device;
-    device.details[at] = Detail {
-        kind,
-        given: before.given,
-        max,
-    };
     device
 }
 
 // A descriptor sets both, and that it gave them.
-pub fn set_given(device: Device, number: u8, direction: u8, kind: u8, max: u16) -> Device
+#[tactic(auto, unfolding(crate::specs::Details::with_given))]
+pub fn set_given(mut device: Device, number: u8, direction: u8, kind: u8, max: u16) -> Device
     requires number_bound { number < 16 }
     requires direction_bound { direction < 2 }
     ensures { result ≡ with_given device number direction kind max }
 {
-    let at = detail_entry(number, direction);
-    let mut device = device;
-    device.details[at] = Detail {
+    device.details[detail_entry(number, direction)] = Detail {
         kind,
         given: true,
         max,
@@ -172,46 +150,31 @@ pub fn set_given(device: Device, number: u8, direction: u8, kind: u8, max: u16) 
 }
 
 // A device of which nothing is known.
+#[tactic(auto, unfolding(crate::specs::Details::fresh))]
 pub fn fresh_device(address: u8) -> Device
     ensures { result ≡ fresh address }
 {
-    let unknown = bare_kind(kind::UNKNOWN);
-    let details = [unknown; 32];
     Device {
         address,
         chosen: UNCHOSEN,
         kept: 0,
-        details,
-    }
-}
-
-fn no_device(found: Found) -> u8
-    ensures { result ≡ no_device found }
-{
-    match found {
-        Found::At(_) => 0,
-        Found::Nothing => NO_DEVICE,
+        details: [bare_kind(kind::UNKNOWN); 32],
     }
 }
 
 // The answer to a detail call; found is the search for its device.
-pub fn detail_answer(number: u8, direction: u8, kind: u8, found: Found) -> u8
+#[tactic(auto, unfolding(crate::specs::Lookup::detail_answer))]
+pub fn detail_answer(number: u8, direction: u8, kind: u8, found: Option<usize>) -> u8
     ensures { result ≡ detail_answer number direction kind found }
 {
-    if 15 < number {
+    if 15 < number || 3 < kind || 1 < direction {
         return WRONG;
     }
-    if 3 < kind {
+    if number == CONTROL_EP_NUM && kind != types::CONTROL {
         return WRONG;
     }
-    if 1 < direction {
-        return WRONG;
+    match found {
+        Some(_) => 0,
+        None => NO_DEVICE,
     }
-    if number == CONTROL_EP_NUM {
-        if kind != types::CONTROL {
-            return WRONG;
-        }
-        return no_device(found);
-    }
-    no_device(found)
 }

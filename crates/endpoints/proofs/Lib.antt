@@ -1,5 +1,4 @@
 pub mod Turns
-pub mod Places
 pub mod StatesLaws
 pub mod EachLaws
 pub mod TableLaws

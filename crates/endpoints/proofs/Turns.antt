@@ -1,15 +1,17 @@
 -- A turn of each loop over the endpoints: what the definition by recursion says of endpoint i and of those after it.
-use Prim.Native.Nat.{ℕ, suc, ◌+◌, ◌*◌, ◌-◌, ◌<◌, ◌≤◌}
+use Prim.Native.Nat.{ℕ, zero, suc, ◌+◌, ◌*◌, ◌-◌, ◌<◌, ◌≤◌}
 use native.Mathlib.Omega.{arith}
 use native.Mathlib.Numerals.{add-one}
 use mathlib.Core.Path.{◌≡◌, ap, ◌∙◌}
-use mathlib.Core.Bool.{Bool, true, false}
+use mathlib.Core.Bool.{Bool, true, false, cond}
 use mathlib.Core.List.{List, [], ◌∷◌}
 use borrow.Author.Tests.{eq-eqb, ne_eqb}
 use lib.Dec.{eqb}
+use Rattle.std.specs.List.{fold, count_by, range_with_len}
 use lib.ListN.{length, set}
 use lib.Seq.{sets, get_or-set_same}
-use Rattle.endpoints.specs.Each.{each, closed, closing, state_bytes, state_word}
+use Rattle.std.proofs.lemmas.List.{set-get_or}
+use Rattle.endpoints.specs.Each.{each, becomes, closed, closing, state_bytes, state_word}
 use Rattle.endpoints.specs.Phases.{count}
 use Rattle.endpoints.proofs.EachLaws.{each_else}
 use Rattle.endpoints.proofs.StatesLaws.{state_byte}
@@ -20,16 +22,32 @@ use Rattle.endpoints.specs.Word as word
 left : (n i : ℕ) → i < n → n - i ≡ suc (n - (i + 1))
 left n i h = omega arith
 
-module _ (test : ℕ → Bool) (n i : ℕ) (h : i < n) where
-  pub count_hit : test i ≡ true → count test i (n - i) ≡ suc (count test (i + 1) (n - (i + 1)))
-  count_hit w = rw (left n i h, w, add-one)
+module _ (test : ℕ → Bool) where
+  counted : (n i m : ℕ) → fold (λ a x. a + cond (test x) 1 0) m (range_with_len i n) ≡ m + count test i n
+  counted zero i m = omega arith
+  counted (suc n) i m = counted n (i + 1) (m + cond (test i) 1 0) ∙ turn (test i) _ _ (ap (λ (j : ℕ). count test j n) (add-one i))
+    where
+      turn : (b : Bool) (x y : ℕ) → x ≡ y → m + cond b 1 0 + x ≡ m + cond b (suc y) y
+      turn true x y e = omega arith
+      turn false x y e = omega arith
 
-  pub count_miss : test i ≡ false → count test i (n - i) ≡ count test (i + 1) (n - (i + 1))
-  count_miss w = rw (left n i h, w, add-one)
+  -- std's count over a range is ours
+  pub count_range : (n i : ℕ) → count_by test (range_with_len i n) ≡ count test i n
+  count_range n i = counted n i 0 ∙ omega arith
 
 module _ (t : List ℕ) (n i : ℕ) (h : i < n) where
   pub each_next : (k r : ℕ) (f : ℕ → ℕ → ℕ) → r ≡ f i (word_at t i k) → each k f t i (n - i) ≡ each k f (set t (i * word.width + k) r) (i + 1) (n - (i + 1))
   each_next k r f e = rw (left n i h, e, add-one)
+
+  -- phase p becomes phase q, and any other stays
+  pub change_hit : (p q : ℕ) → word_at t i word.phase ≡ p
+      → each word.phase (becomes p q) t i (n - i) ≡ each word.phase (becomes p q) (set t (i * word.width + word.phase) q) (i + 1) (n - (i + 1))
+  change_hit p q w = each_next word.phase q (becomes p q) (rw (eq-eqb _ _ w))
+
+  pub change_miss : (p q : ℕ) → (word_at t i word.phase ≡ p → ⊥) → each word.phase (becomes p q) t i (n - i) ≡ each word.phase (becomes p q) t (i + 1) (n - (i + 1))
+  change_miss p q w =
+      each_next word.phase (word_at t i word.phase) (becomes p q) (rw (ne_eqb _ _ w))
+      ∙ ap (λ (u : List ℕ). each word.phase (becomes p q) u (i + 1) (n - (i + 1))) (set-get_or t (i * word.width + word.phase) 0)
 
   pub closing_hit : (item : ℕ) → word_at t i word.phase ≡ word.Ended → closing t item i (n - i) ≡ closed i item (closing t item (i + 1) (n - (i + 1)))
   closing_hit item w = rw (left n i h, eq-eqb _ _ w, add-one)

@@ -11,10 +11,11 @@ pub mod word;
 // The endpoint table, as it is lent.
 pub type Table = [u64; word::TABLE];
 
-// Where the last group of an endpoint stands. The groups before it are closed.
-#[derive(Clone, Copy)]
+// Where the last group of an endpoint stands. The groups before it are closed. The variants stand in the order of the phase words (word.rt).
+#[derive(Clone, Copy, Default, PartialEq, Eq)]
 pub enum Phase {
     // There is none, or an item has closed it.
+    #[default]
     None,
     // Started by a packet whose transaction has not yet ended (early_start).
     Early,
@@ -25,7 +26,7 @@ pub enum Phase {
 }
 
 // An endpoint (EndpointData of the Rust): what a call needs to know of it. No byte or flag stands alone before a word (docs/DECISIONS.md, 102).
-#[derive(Clone, Copy)]
+#[derive(Clone, Copy, Default)]
 pub struct Endpoint {
     // The row of its device, and its number, with 128 more where its direction is In.
     pub device: u64,

@@ -1,10 +1,11 @@
 // The loops over the endpoints' phases: who waits for an item, closing them, and ending all that is active.
-ghost use Rattle.std.specs.Prelude.{◌≡◌, ◌+◌, ◌*◌, ◌≤◌, length};
+ghost use Rattle.std.specs.Prelude.{◌≡◌, ◌+◌, ◌*◌, ◌≤◌, length, count_by};
+ghost use Rattle.std.specs.List.{range_with_len};
 ghost use Rattle.std.proofs.lemmas.List.Edits.{sets};
 ghost use Rattle.rows.specs.Widths.{link_width};
 ghost use Rattle.endpoints.specs.Each.{each, active, closing, becomes, cleared, ended};
 ghost use Rattle.endpoints.specs.Word as word;
-ghost use Rattle.endpoints.specs.Phases.{in_phase, count, waiting};
+ghost use Rattle.endpoints.specs.Phases.{in_phase, waiting};
 
 use crate::{Table, link, word};
 use rows::width;
@@ -12,22 +13,15 @@ use rows::width;
 // How many of the first n endpoints have the phase of this number.
 fn count_phase(table: &Table, n: usize, phase: u64) -> usize
     requires { n ≤ 128 }
-    ensures { result ≡ count (in_phase phase table.now) 0 n }
+    ensures { result ≡ count_by (in_phase phase table.now) (range_with_len 0 n) }
 {
-    let mut count: usize = 0;
-    let mut i: usize = 0;
-    while i < n {
-        if table[i * word::WIDTH + word::PHASE] == phase {
-            count += 1;
-            i += 1;
-        } else {
-            i += 1;
-        }
-    }
-    count
+    (0..n)
+        .filter(|i| table[*i * word::WIDTH + word::PHASE] == phase)
+        .count()
 }
 
 // How many of the first n endpoints wait for an item.
+#[tactic(auto, using(crate::proofs::Turns::count_range))]
 pub fn count_waiting(table: &Table, n: usize) -> usize
     requires { n ≤ 128 }
     ensures { result ≡ waiting table.now n }
@@ -36,6 +30,7 @@ pub fn count_waiting(table: &Table, n: usize) -> usize
 }
 
 // How many of the first n endpoints have an active group.
+#[tactic(auto, using(crate::proofs::Turns::count_range))]
 pub fn count_active(table: &Table, n: usize) -> usize
     requires { n ≤ 128 }
     ensures { result ≡ active table.now n }
@@ -50,38 +45,29 @@ pub fn close_waiting(links: &mut [u64], at: usize, table: &Table, n: usize, item
     ensures { links.new ≡ sets links.old (at * link_width) (closing table.now item 0 n) }
 {
     let mut row = at;
-    let mut i: usize = 0;
-    while i < n {
+    for i in 0..n {
         if table[i * word::WIDTH + word::PHASE] == word::ENDED {
-            rows::put4(links, row * width::LINK, link::E, i as u64, item, 0);
+            rows::put(links, row * width::LINK, &[link::E, i as u64, item, 0]);
             row += 1;
-            i += 1;
-        } else {
-            i += 1;
         }
     }
 }
 
-// Phase p becomes phase q, any other stays: a function of its own, so that the loops' ways do not part.
-fn change(word: u64, p: u64, q: u64) -> u64
-    ensures { result ≡ becomes p q 0 word }
-{
-    if word == p { q } else { word }
-}
-
+// Phase p becomes phase q, any other stays.
 fn change_phases(table: &mut Table, n: usize, p: u64, q: u64)
     requires { n ≤ 128 }
     ensures { table.new ≡ each word.phase (becomes p q) table.old 0 n }
 {
-    let mut i: usize = 0;
-    while i < n {
+    for i in 0..n {
         let at = i * word::WIDTH + word::PHASE;
-        table[at] = change(table[at], p, q);
-        i += 1;
+        if table[at] == p {
+            table[at] = q;
+        }
     }
 }
 
 // No endpoint waits any more (add_item: ended is taken).
+#[tactic(auto, unfolding(crate::specs::Each::cleared))]
 pub fn clear_waiting(table: &mut Table, n: usize)
     requires { n ≤ 128 }
     ensures { table.new ≡ cleared table.old n }
@@ -90,6 +76,7 @@ pub fn clear_waiting(table: &mut Table, n: usize)
 }
 
 // Every active group is over, early ones staying (handle_event).
+#[tactic(auto, unfolding(crate::specs::Each::ended))]
 pub fn end_active(table: &mut Table, n: usize)
     requires { n ≤ 128 }
     ensures { table.new ≡ ended table.old n }

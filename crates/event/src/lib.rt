@@ -112,9 +112,7 @@ fn from_partial_host(kind: u8) -> Turn
 {
     match kind {
         HOST_CHIRP_VALID => to(Act::Nothing, EventState::ValidHostChirp),
-        SE0 => to(Act::Nothing, EventState::PartialHostChirp),
-        CHIRP_J => to(Act::Nothing, EventState::PartialHostChirp),
-        CHIRP_K => to(Act::Nothing, EventState::PartialHostChirp),
+        SE0 | CHIRP_J | CHIRP_K => to(Act::Nothing, EventState::PartialHostChirp),
         _ => from_any(kind),
     }
 }
@@ -123,9 +121,7 @@ fn from_valid_host(kind: u8) -> Turn
     ensures { told result ≡ turn_of ValidHostChirp kind }
 {
     match kind {
-        SE0 => to(Act::Nothing, EventState::ValidHostChirp),
-        CHIRP_J => to(Act::Nothing, EventState::ValidHostChirp),
-        CHIRP_K => to(Act::Nothing, EventState::ValidHostChirp),
+        SE0 | CHIRP_J | CHIRP_K => to(Act::Nothing, EventState::ValidHostChirp),
         _ => from_any(kind),
     }
 }
@@ -150,13 +146,7 @@ pub fn event_turn(state: EventState, kind: u8) -> Turn
 pub fn adds_row(act: Act) -> bool
     ensures { result ≡ adds_row (act_of act) }
 {
-    match act {
-        Act::Nothing => false,
-        Act::Single => true,
-        Act::Group => true,
-        Act::Subgroup => true,
-        Act::Keepalive => true,
-    }
+    !matches!(act, Act::Nothing)
 }
 
 // Whether there is a group: its G row, group row, state row and item. keepalive says whether there is a keepalive group.
@@ -164,10 +154,8 @@ pub fn adds_group(act: Act, keepalive: bool) -> bool
     ensures { result ≡ adds_group (act_of act) keepalive }
 {
     match act {
-        Act::Nothing => false,
-        Act::Single => true,
-        Act::Group => true,
-        Act::Subgroup => false,
+        Act::Nothing | Act::Subgroup => false,
+        Act::Single | Act::Group => true,
         Act::Keepalive => !keepalive,
     }
 }

@@ -6,6 +6,7 @@ use mathlib.Core.Path.{◌≡◌, refl, sym, ap, ◌∙◌, subst}
 use borrow.Author.Tests.{ne_eqb}
 use native.Mathlib.Omega.{arith}
 use lib.Seq.{sets}
+use Rattle.std.specs.Prelude.{Option, Some, None}
 use Rattle.tally.specs.Suited.{EndingTotals}
 use Rattle.transaction.specs.Payload.{start_pid}
 use Rattle.rules.specs.Decoder.{finish}
@@ -18,7 +19,6 @@ use Rattle.write.specs.declared.Written.{Written}
 use Rattle.record.specs.Answers.{first_of, finish_tests}
 use Rattle.record.specs.Bools.{both}
 use Rattle.record.specs.Room.{fitting, numbered}
-use Rattle.transaction.specs.Table.{pick}
 use Rattle.record.specs.RoomLaws.{within, numbered_is}
 use Rattle.record.specs.declared.Counts.{Counts}
 use Rattle.record.specs.declared.Decoder.{Decoder}
@@ -30,13 +30,14 @@ use Rattle.plan.specs.Ending.{slot_ended, ending_of, end_played}
 use Rattle.plan.specs.Step.{ended}
 use Rattle.plan.specs.declared.Ending.{Ending}
 use Rattle.plan.proofs.Ends.{finish-is}
-use Rattle.tally.specs.Tallies.{tally_ending, add_counts}
+use Rattle.tally.specs.Tallies.{tally_ending, add_counts, room_for}
 use Rattle.tally.proofs.Counts.{counts-after, world_has}
 use Rattle.tally.proofs.Formed.{finish-full-is}
 use Rattle.tally.proofs.Least.{ending-links}
 use Rattle.tally.proofs.Quiet.{ending-totals}
 use Rattle.tally.proofs.Unpassed.{ending-over}
-use Rattle.events.specs.After.{sum_of, finished_decoder}
+use Rattle.events.specs.After.{sum_then, sum_of, finished_decoder}
+use Rattle.events.proofs.Decisions.{none-by, some-by}
 use Rattle.events.specs.Call.{finish_tests_of, FinishCall}
 use Rattle.events.specs.Ended.{ended_memory, Endable}
 use Rattle.events.specs.declared.sum.Sum.{Sum}
@@ -49,21 +50,35 @@ module _ (s : State) where
   abbrev pub end_at : Ending
   end_at = ending_of (world_at s)
 
-  abbrev pub sum_at : Sum
+  abbrev pub fits_at : Bool
+  fits_at = room_for (held_at s) s.decoder.counts (tally_ending end_at s.decoder.counts.endpoints s.decoder.waiting) (room_of s.logs)
+
+  abbrev pub sum_at : Option Sum
   sum_at = sum_of (held_at s) s.decoder.counts (tally_ending end_at s.decoder.counts.endpoints s.decoder.waiting) (room_of s.logs)
+
+  abbrev pub sum_left : Sum
+  sum_left = sum_then s.decoder.counts (tally_ending end_at s.decoder.counts.endpoints s.decoder.waiting)
+
+  pub none_at : None ≡ sum_at → fits_at ≡ false
+  unfolding sum_of
+  none_at e = none-by fits_at _ _ e
+
+  pub some_at : {z : Sum} → Some z ≡ sum_at → (fits_at ≡ true) × (z ≡ sum_left)
+  unfolding sum_of
+  some_at e = some-by fits_at _ _ e
 
   abbrev pub ended_at : Memory
   ended_at = ended_memory end_at s.decoder.counts.endpoints s.decoder.transaction.id (start_pid s.decoder.transaction.style) (memory_at (last_stamp s.decoder) s)
 
 module _ (s : State) (sane : is_ill s ≡ false) (known : Known s.table) where
-  full_is : is_full s (finish (world_at s)) ≡ not (sum_at s).fits
+  full_is : is_full s (finish (world_at s)) ≡ not (fits_at s)
   unfolding sum_of
   full_is = ap (is_full s) (finish-is (world_at s)) ∙ finish-full-is (last_stamp s.decoder) s (room_of s.logs) (formed s sane)
 
   over-is : is_over (finish (world_at s)) ≡ false
   over-is = ap is_over (finish-is (world_at s)) ∙ ending-over (end_at s) (world_with (last_stamp s.decoder) s) (subst (λ (a : Ending). EndingTotals a (world_with (last_stamp s.decoder) s)) (ending-with (last_stamp s.decoder) s) (ending-totals (world_with (last_stamp s.decoder) s))) (totalled s known)
 
-  answer-is : s.decoder.finished ≡ false → (b : Bool) → (sum_at s).fits ≡ b → cond b 0 7 ≡ first_of (finish_tests_of (finish (world_at s)) s)
+  answer-is : s.decoder.finished ≡ false → (b : Bool) → fits_at s ≡ b → cond b 0 7 ≡ first_of (finish_tests_of (finish (world_at s)) s)
   unfolding first_of
   answer-is going b e = by (is_ill s) s.decoder.finished (is_full s (finish (world_at s))) (is_over (finish (world_at s))) b sane going (full_is ∙ ap not e) over-is
     where
@@ -71,10 +86,10 @@ module _ (s : State) (sane : is_ill s ≡ false) (known : Known s.table) where
       by ill finished full over true e f g h = rw (e, f, g, h)
       by ill finished full over false e f g h = rw (e, f, g)
 
-  pub finish-full : s.decoder.finished ≡ false → (sum_at s).fits ≡ false → FinishCall s 7 s
+  pub finish-full : s.decoder.finished ≡ false → fits_at s ≡ false → FinishCall s 7 s
   finish-full going e = refused 7 (answer-is going false e) refl
 
-  module _ (byte : start_pid s.decoder.transaction.style < 256) (going : s.decoder.finished ≡ false) (fits : (sum_at s).fits ≡ true) where
+  module _ (byte : start_pid s.decoder.transaction.style < 256) (going : s.decoder.finished ≡ false) (fits : fits_at s ≡ true) where
     -- there are numbers for its T rows and G rows
     numbers : s.decoder.counts.links + end_rows s < 2 ^ 64
     unfolding sum_of add_counts
@@ -95,7 +110,7 @@ module _ (s : State) (sane : is_ill s ≡ false) (known : Known s.table) where
     -- the state that it leaves
     abbrev pub finished_state : State
     finished_state =
-        state (finished_decoder s.decoder (sum_at s) (ended_at s).written) s.devices (ended_at s).table
+        state (finished_decoder s.decoder (sum_left s) (ended_at s).written) s.devices (ended_at s).table
         (logs s.logs.bytes s.logs.devices s.logs.endpoints s.logs.packets s.logs.events s.logs.transactions (ended_at s).groups (ended_at s).statebytes (ended_at s).states (ended_at s).items (ended_at s).links s.logs.requests)
 
     played-left : Left (end_played (end_at s) (world_with (last_stamp s.decoder) s)) true s finished_state
@@ -106,7 +121,7 @@ module _ (s : State) (sane : is_ill s ≡ false) (known : Known s.table) where
         let a = end-adds s sane (last_stamp s.decoder) in
         let none : (k : ℕ) → k < 6 → log k v.journal ≡ [] = λ k u. r.logs k (λ j g h. ne_eqb j k (λ e. omega arith)) in
         left_of (last_stamp s.decoder) s (with_slot (slot_ended s.decoder.slot) v) (ended_at s) r.holds r.table (formed s sane).counts.few_endpoints known.size r.devices r.transaction true _ _ _ _ _
-        (counts-after (world_has s.decoder s.devices s.table) a ∙ ap (λ (b : Bool). pick b (add_counts s.decoder.counts (tally_ending (end_at s) s.decoder.counts.endpoints s.decoder.waiting)) s.decoder.counts) (sym fits)) refl r.event r.keepalive a.waiting s.logs.packets s.logs.events s.logs.transactions
+        (counts-after (world_has s.decoder s.devices s.table) a) refl r.event r.keepalive a.waiting s.logs.packets s.logs.events s.logs.transactions
         (record {
           bytes = none 0 (omega arith);
           devices = none 1 (omega arith);
@@ -122,7 +137,7 @@ module _ (s : State) (sane : is_ill s ≡ false) (known : Known s.table) where
 
 -- ---- as the code has its parts
 
-pub sum-at : (s : State) (e : Ending) (room : Counts) (r : Sum) → e ≡ end_at s → room ≡ room_of s.logs
+pub sum-at : (s : State) (e : Ending) (room : Counts) (r : Option Sum) → e ≡ end_at s → room ≡ room_of s.logs
     → {held : Counts} → held ≡ held_at s → r ≡ sum_of held s.decoder.counts (tally_ending e s.decoder.counts.endpoints s.decoder.waiting) room → r ≡ sum_at s
 sum-at s e room r p q {held} g h =
     h ∙ ap (λ (x : Counts). sum_of x s.decoder.counts (tally_ending e s.decoder.counts.endpoints s.decoder.waiting) room) g
@@ -150,9 +165,9 @@ state_of s d m =
     state d s.devices m.table
     (logs s.logs.bytes s.logs.devices s.logs.endpoints s.logs.packets s.logs.events s.logs.transactions m.groups m.statebytes m.states m.items m.links s.logs.requests)
 
-pub finish_returns : (s : State) (m : Memory) (d : Decoder) (sum : Sum) → FinishCall s 0 (state_of s (finished_decoder s.decoder (sum_at s) (ended_at s).written) (ended_at s)) → m ≡ ended_at s → sum ≡ sum_at s
+pub finish_returns : (s : State) (m : Memory) (d : Decoder) (sum : Sum) → FinishCall s 0 (state_of s (finished_decoder s.decoder (sum_left s) (ended_at s).written) (ended_at s)) → m ≡ ended_at s → sum ≡ sum_left s
     → d ≡ finished_decoder s.decoder sum m.written → FinishCall s 0 (state_of s d m)
 finish_returns s m d sum a p q r =
     subst (λ (x : Decoder). FinishCall s 0 (state_of s x m)) (sym r)
     (subst (λ (x : Sum). FinishCall s 0 (state_of s (finished_decoder s.decoder x m.written) m)) (sym q)
-    (subst (λ (x : Memory). FinishCall s 0 (state_of s (finished_decoder s.decoder (sum_at s) x.written) x)) (sym p) a))
+    (subst (λ (x : Memory). FinishCall s 0 (state_of s (finished_decoder s.decoder (sum_left s) x.written) x)) (sym p) a))

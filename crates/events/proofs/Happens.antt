@@ -8,6 +8,7 @@ use borrow.Author.Tests.{eqb-true, le-ltb}
 use lib.Dec.{eqb, ltb}
 use lib.ListN.{length}
 use lib.Seq.{sets}
+use Rattle.std.specs.Prelude.{Option, Some, None}
 use Rattle.usb.specs.Packet.{no_reason}
 use Rattle.rows.specs.One.{one}
 use Rattle.rows.specs.Widths.{event_width, packet_width, transaction_width}
@@ -37,7 +38,7 @@ use Rattle.plan.specs.Ending.{ending_of, end_played}
 use Rattle.plan.specs.declared.Ending.{Ending}
 use Rattle.plan.proofs.Ends.{ending-is}
 use Rattle.tally.specs.Event.{event_played}
-use Rattle.tally.specs.Tallies.{tally_keepalive, tally_event, add_counts}
+use Rattle.tally.specs.Tallies.{tally_keepalive, tally_event, add_counts, room_for}
 use Rattle.tally.specs.Suited.{EndingTotals}
 use Rattle.tally.proofs.Counted.{adds-from}
 use Rattle.tally.proofs.Anew.{ending_acts, actives-table}
@@ -47,7 +48,8 @@ use Rattle.tally.proofs.Formed.{waiting-is}
 use Rattle.tally.proofs.Least.{keepalive-links, event-links}
 use Rattle.tally.proofs.Quiet.{ending-totals}
 use Rattle.tally.proofs.Unpassed.{keepalive-over, event-over}
-use Rattle.events.specs.After.{resets_by, keepalive_then, sum_of, event_tally, event_decoder}
+use Rattle.events.specs.After.{resets_by, keepalive_then, sum_then, sum_of, event_tally, event_decoder}
+use Rattle.events.proofs.Decisions.{none-by, some-by}
 use Rattle.events.specs.Call.{event_tests_of, EventCall}
 use Rattle.events.specs.Ended.{SettlesIf}
 use Rattle.events.specs.declared.sum.Sum.{Sum}
@@ -78,8 +80,22 @@ handle-is kind code time s = by (eqb kind 0)
 abbrev pub tally_at : Bool → ℕ → State → Tally
 tally_at r kind s = event_tally r s.decoder (ending_of (world_at s)) (rules.turn_of s.decoder.event kind).act (active s.table s.decoder.counts.endpoints)
 
-abbrev pub event_sum : ℕ → State → Sum
+abbrev pub event_fits : ℕ → State → Bool
+event_fits kind s = room_for (held_at s) s.decoder.counts (tally_at (resets_by kind) kind s) (room_of s.logs)
+
+abbrev pub event_sum : ℕ → State → Option Sum
 event_sum kind s = sum_of (held_at s) s.decoder.counts (tally_at (resets_by kind) kind s) (room_of s.logs)
+
+abbrev pub event_left : ℕ → State → Sum
+event_left kind s = sum_then s.decoder.counts (tally_at (resets_by kind) kind s)
+
+pub event-none : (kind : ℕ) (s : State) → None ≡ event_sum kind s → event_fits kind s ≡ false
+unfolding sum_of
+event-none kind s e = none-by (event_fits kind s) _ _ e
+
+pub event-some : (kind : ℕ) (s : State) {z : Sum} → Some z ≡ event_sum kind s → (event_fits kind s ≡ true) × (z ≡ event_left kind s)
+unfolding sum_of
+event-some kind s e = some-by (event_fits kind s) _ _ e
 
 -- it counts the T rows and the G rows
 least : (r : Bool) (a : rules.Act) (s : State)
@@ -128,11 +144,11 @@ module _ (s : State) (sane : is_ill s ≡ false) (code time : ℕ) where
 -- ---- its answer
 
 module _ (s : State) (sane : is_ill s ≡ false) (known : Known s.table) (going : s.decoder.finished ≡ false) (kind code time : ℕ) (low : kind ≤ 7) where
-  full_is : is_full s (handle_event kind code time (world_at s)) ≡ not (event_sum kind s).fits
+  full_is : is_full s (handle_event kind code time (world_at s)) ≡ not (event_fits kind s)
   unfolding sum_of
   full_is = ap (is_full s) (handle-is kind code time s) ∙ state-full s (formed s sane).begun (event-adds s sane code time kind)
 
-  answer-is : (b : Bool) → (event_sum kind s).fits ≡ b → cond b 0 7 ≡ first_of (event_tests_of kind (handle_event kind code time (world_at s)) s)
+  answer-is : (b : Bool) → event_fits kind s ≡ b → cond b 0 7 ≡ first_of (event_tests_of kind (handle_event kind code time (world_at s)) s)
   unfolding first_of
   answer-is b e =
       by (is_ill s) s.decoder.finished (ltb 7 kind) (is_full s (handle_event kind code time (world_at s))) (is_over (handle_event kind code time (world_at s))) b sane going (le-ltb 7 kind low) (full_is ∙ ap not e)
@@ -142,12 +158,12 @@ module _ (s : State) (sane : is_ill s ≡ false) (known : Known s.table) (going 
       by ill finished high full over true e f g h i = rw (e, f, g, h, i)
       by ill finished high full over false e f g h i = rw (e, f, g, h)
 
-  pub event-full : (event_sum kind s).fits ≡ false → EventCall kind code time s 7 s
+  pub event-full : event_fits kind s ≡ false → EventCall kind code time s 7 s
   event-full e = refused 7 (answer-is false e) refl
 
   -- ---- where there is room
 
-  module _ (byte : start_pid s.decoder.transaction.style < 256) (fits : (event_sum kind s).fits ≡ true) where
+  module _ (byte : start_pid s.decoder.transaction.style < 256) (fits : event_fits kind s ≡ true) where
     abbrev turn : rules.Turn
     turn = rules.turn_of s.decoder.event kind
 
@@ -209,7 +225,7 @@ module _ (s : State) (sane : is_ill s ≡ false) (known : Known s.table) (going 
 
     abbrev pub event_state : State
     event_state =
-        state (event_decoder s.decoder (resets_by kind) turn (event_sum kind s) event_memory.written) s.devices event_memory.table
+        state (event_decoder s.decoder (resets_by kind) turn (event_left kind s) event_memory.written) s.devices event_memory.table
         (logs s.logs.bytes s.logs.devices s.logs.endpoints
         (sets s.logs.packets ((held_at s).packets * packet_width) (s.decoder.counts.bytes ∷ time ∷ []))
         (sets s.logs.events ((held_at s).events * event_width) (s.decoder.counts.packets ∷ code ∷ []))
@@ -221,7 +237,7 @@ module _ (s : State) (sane : is_ill s ≡ false) (known : Known s.table) (going 
     final-left =
         let a = event-adds s sane code time kind in
         left_of (brings time s) s final event_memory tail.holds (event-rows_tabled (few s sane) (some s sane) _ _ _ _ settled reached.table) (few s sane) known.size tail.devices tail.transaction s.decoder.finished _ _ _ _ _
-        (counts-after (world_has s.decoder s.devices s.table) a ∙ ap (λ (b : Bool). pick b (add_counts s.decoder.counts (tally_at (resets_by kind) kind s)) s.decoder.counts) (sym fits)) (tail.slot ∙ slot_is (resets_by kind) (brings time s) s) tail.event tail.keepalive a.waiting _ _ _
+        (counts-after (world_has s.decoder s.devices s.table) a) (tail.slot ∙ slot_is (resets_by kind) (brings time s) s) tail.event tail.keepalive a.waiting _ _ _
         (record {
           bytes = tail.first 0 (omega arith);
           devices = tail.first 1 (omega arith);

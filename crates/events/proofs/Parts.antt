@@ -5,6 +5,7 @@ use mathlib.Core.List.{List, [], ◌∷◌}
 use mathlib.Core.Path.{◌≡◌, sym, ap, ◌∙◌, subst}
 use lib.ListN.{length}
 use lib.Seq.{sets}
+use Rattle.std.specs.Prelude.{Some}
 use Rattle.usb.specs.Packet.{no_reason}
 use Rattle.rows.specs.Widths.{event_width, packet_width, transaction_width}
 use Rattle.rows.specs.Sets.{opt}
@@ -28,7 +29,7 @@ use Rattle.call.specs.Share.{written_of}
 use Rattle.events.specs.declared.decided.Decided.{Decided}
 use Rattle.events.specs.declared.sum.Sum.{Sum}
 use Rattle.events.proofs.Before.{memory_then}
-use Rattle.events.proofs.Happens.{brings, tally_at, event_sum}
+use Rattle.events.proofs.Happens.{brings, tally_at, event_sum, event_left, event-some}
 use Rattle.events.proofs.Reached.{first_memory, memory_at}
 use Rattle.events.proofs.Tail.{rows_memory, AbleAt}
 
@@ -78,11 +79,11 @@ module _ (s : State) (kind : ℕ) (room : Counts) (r : Decided) (q : Decides s.d
         ∙ ap (λ (t : Written). settled_memory (resets_by kind) (ending_of (world_at s)) s.decoder.counts.endpoints s.decoder.transaction.id (start_pid s.decoder.transaction.style) (first_memory s t)) f
 
   -- the record
-  pub decoder-at : room ≡ room_of s.logs → (d : Decoder) (h : Written) → d ≡ event_decoder s.decoder r.resets (told r.turn) r.sum h → d ≡ event_decoder s.decoder (resets_by kind) (turn_at s kind) (event_sum kind s) h
-  decoder-at e d h a =
-      a ∙ ap (λ (b : Bool). event_decoder s.decoder b (told r.turn) r.sum h) q.resets
-      ∙ ap (λ (t : rules.Turn). event_decoder s.decoder (resets_by kind) t r.sum h) q.turn
-      ∙ ap (λ (x : Sum). event_decoder s.decoder (resets_by kind) (turn_at s kind) x h) (sum_at e)
+  pub decoder-at : room ≡ room_of s.logs → {z : Sum} → Some z ≡ r.sum → (d : Decoder) (h : Written) → d ≡ event_decoder s.decoder r.resets (told r.turn) z h → d ≡ event_decoder s.decoder (resets_by kind) (turn_at s kind) (event_left kind s) h
+  decoder-at e {z} f d h a =
+      a ∙ ap (λ (b : Bool). event_decoder s.decoder b (told r.turn) z h) q.resets
+      ∙ ap (λ (t : rules.Turn). event_decoder s.decoder (resets_by kind) t z h) q.turn
+      ∙ ap (λ (x : Sum). event_decoder s.decoder (resets_by kind) (turn_at s kind) x h) (event-some kind s (f ∙ sum_at e)).1
 
 -- the rows of a packet, an event and these words of a transaction fit behind the rows held
 abbrev pub Puts : Counts → Logs → List ℕ → Type 0
@@ -131,7 +132,7 @@ module _ (s : State) (kind code time : ℕ) where
   rows_after = rows_memory s (turn_at s kind) (alive_at s kind) (memory_then (resets_by kind) (brings time s) s)
 
   abbrev decoder_at : Memory → Decoder
-  decoder_at m = event_decoder s.decoder (resets_by kind) (turn_at s kind) (event_sum kind s) m.written
+  decoder_at m = event_decoder s.decoder (resets_by kind) (turn_at s kind) (event_left kind s) m.written
 
   abbrev Happens : State → Type 0
   Happens s' = EventCall kind code time s 0 s'

@@ -1,5 +1,5 @@
 -- Inner (cited by private contracts alone): what the two calls leave, as the code puts it together: the sum and the record.
-use Rattle.std.specs.Prelude.{ℕ, Bool, true, false, not, ◌&&◌, ◌≡◌, List, eqb}
+use Rattle.std.specs.Prelude.{ℕ, Bool, true, false, not, ◌&&◌, ◌≡◌, List, eqb, Option, Some, None}
 use Rattle.endpoints.specs.Each.{active}
 use Rattle.details.specs.declared.Device.{Device}
 use Rattle.rules.specs.Decoder.{suspend_at}
@@ -13,7 +13,6 @@ use Rattle.record.specs.World.{world_of}
 use Rattle.record.specs.declared.Decoder.{Decoder}
 use Rattle.event.specs.Event.{told}
 use Rattle.write_event.proofs.ActedLaws.{keepalive_after}
-use Rattle.transaction.specs.Table.{pick}
 use Rattle.plan.specs.Ending.{slot_ended, ending_of}
 use Rattle.plan.specs.declared.Ending.{Ending}
 use Rattle.tally.specs.Tallies.{tally_keepalive, tally_event, add_counts, room_for}
@@ -21,9 +20,17 @@ use Rattle.call.specs.Share.{tied}
 use Rattle.events.specs.declared.decided.Decided.{Decided}
 use Rattle.events.specs.declared.sum.Sum.{Sum}
 
+-- n with the rows of t, where there is room
+abbrev pub sum_then : Counts → Tally → Sum
+sum_then n t = record { counts = add_counts n t; waiting = t.waiting }
+
+abbrev pub sum_by : Bool → Counts → Tally → Option Sum
+sum_by true n t = Some (sum_then n t)
+sum_by false n t = None
+
 -- with the rows of t behind the rows held, where n are numbered
-unfoldable pub sum_of : Counts → Counts → Tally → Counts → Sum
-sum_of held n t room = record { fits = room_for held n t room; counts = pick (room_for held n t room) (add_counts n t) n; waiting = t.waiting }
+unfoldable pub sum_of : Counts → Counts → Tally → Counts → Option Sum
+sum_of held n t room = sum_by (room_for held n t room) n t
 
 abbrev pub finished_decoder : Decoder → Sum → Written → Decoder
 finished_decoder d s h =

@@ -26,7 +26,8 @@ pub struct Decided {
     pub resets: bool,
     pub end: Ending,
     pub turn: Turn,
-    pub sum: Sum,
+    // None where there is no room.
+    pub sum: Option<Sum>,
 }
 
 // What suspends the current transaction drops the one that was suspended.
@@ -34,9 +35,8 @@ fn suspend(slot: Slot) -> Slot
     ensures { result ≡ suspend_at slot }
 {
     match slot {
-        Slot::Empty => Slot::Empty,
         Slot::Current => Slot::Suspended,
-        Slot::Suspended => Slot::Empty,
+        _ => Slot::Empty,
     }
 }
 
@@ -55,26 +55,14 @@ pub fn slot_after(resets: bool, slot: Slot) -> Slot
 pub fn starts_group(act: Act) -> bool
     ensures { result ≡ starts_group (act_of act) }
 {
-    match act {
-        Act::Nothing => false,
-        Act::Single => false,
-        Act::Group => true,
-        Act::Subgroup => false,
-        Act::Keepalive => true,
-    }
+    matches!(act, Act::Group | Act::Keepalive)
 }
 
 // Whether there is a keepalive group after the event.
 pub fn keepalive_after(act: Act, keepalive: bool) -> bool
     ensures { result ≡ keepalive_after (act_of act) keepalive }
 {
-    match act {
-        Act::Nothing => keepalive,
-        Act::Single => keepalive,
-        Act::Group => keepalive,
-        Act::Subgroup => keepalive,
-        Act::Keepalive => true,
-    }
+    matches!(act, Act::Keepalive) || keepalive
 }
 
 // An event of this kind; the logs hold the rows `held`.
@@ -92,14 +80,11 @@ pub fn decide(
     requires held_value { held ≡ held_of table.now d.counts }
     ensures { Decides d devices table.now kind room result }
 {
-    let n = d.counts;
-    let state = d.event;
     let resets = kind != LS_KEEPALIVE;
     let end = plan_ending(d, devices, table);
-    let turn = event_turn(state, kind);
-    let act = turn.act;
-    let active = count_active(table, n.endpoints);
-    let sum = sum_event(resets, d, held, end, act, active, room);
+    let turn = event_turn(d.event, kind);
+    let active = count_active(table, d.counts.endpoints);
+    let sum = sum_event(resets, d, held, end, turn.act, active, room);
     Decided {
         resets,
         end,

@@ -15,9 +15,8 @@ pub fn slot_ended(slot: Slot) -> Slot
     ensures { result ≡ slot_ended slot }
 {
     match slot {
-        Slot::Empty => Slot::Empty,
         Slot::Current => Slot::Empty,
-        Slot::Suspended => Slot::Suspended,
+        _ => slot,
     }
 }
 

@@ -13,7 +13,7 @@ ghost use Rattle.events.specs.Call.{EventCall, FinishCall};
 use crate::decided::{decide, keepalive_after, slot_after, starts_group};
 use crate::ending::{end_here, settle, slot_ended};
 use crate::sum::{Sum, sum_finish};
-use call::{known, last_stamp, room_of, stamp_of, tie, written_of};
+use call::{last_stamp, room_of, stamp_of, tie, written_of};
 use decide::plan_ending;
 use details::Device;
 use endpoints::Table;
@@ -42,20 +42,15 @@ pub struct Inner {
 fn finished_decoder(d: Decoder, sum: Sum, written: Written) -> Decoder
     ensures { result ≡ finished_decoder d sum written }
 {
-    let counts = sum.counts;
-    let slot = d.slot;
-    let event = d.event;
     Decoder {
-        counts,
-        slot: slot_ended(slot),
+        counts: sum.counts,
+        slot: slot_ended(d.slot),
         transaction: tie(d.transaction, written),
         last: written.last,
-        event,
-        keepalive: d.keepalive,
         waiting: sum.waiting,
         finished: true,
-        high: d.high,
         time: written.stamp.time,
+        ..d
     }
 }
 
@@ -95,23 +90,20 @@ pub fn finish_in(
         links.len(),
         requests.len(),
     );
-    known(table);
     let n = d.counts;
     let held = d.transaction;
-    let style = held.style;
     let rows = held_of(n, table);
     let e = plan_ending(d, devices, table);
-    let sum = sum_finish(d, rows, e, room);
-    if !sum.fits {
+    let Some(sum) = sum_finish(d, rows, e, room) else {
         return Inner {
             answer: NO_ROOM,
             decoder: d,
         };
-    }
+    };
     let written = end_here(
         e,
         held.id,
-        start_pid(style),
+        start_pid(held.style),
         written_of(last_stamp(d), rows, d, table),
         n.endpoints,
         table,
@@ -147,8 +139,8 @@ fn put_event(
 {
     let p = held.packets;
     let e = held.events;
-    rows::put2(packets, p * width::PACKET, start as u64, stamp.time);
-    rows::put2(events, e * width::EVENT, stamp.packet, code as u64);
+    rows::put(packets, p * width::PACKET, &[start as u64, stamp.time]);
+    rows::put(events, e * width::EVENT, &[stamp.packet, code as u64]);
     put_transaction(row, transactions, held.transactions, stamp);
 }
 
@@ -156,21 +148,16 @@ fn put_event(
 fn event_decoder(d: Decoder, resets: bool, turn: Turn, sum: Sum, written: Written) -> Decoder
     ensures { result ≡ event_decoder d resets (told turn) sum written }
 {
-    let counts = sum.counts;
-    let slot = d.slot;
-    let act = turn.act;
-    let next = turn.next;
     Decoder {
-        counts,
-        slot: slot_after(resets, slot),
+        counts: sum.counts,
+        slot: slot_after(resets, d.slot),
         transaction: tie(d.transaction, written),
         last: written.last,
-        event: next,
-        keepalive: keepalive_after(act, d.keepalive & !resets),
+        event: turn.next,
+        keepalive: keepalive_after(turn.act, d.keepalive & !resets),
         waiting: sum.waiting,
-        finished: d.finished,
-        high: d.high,
         time: written.stamp.time,
+        ..d
     }
 }
 
@@ -214,20 +201,17 @@ pub fn event_in(
         links.len(),
         requests.len(),
     );
-    known(table);
     let n = d.counts;
     let held = d.transaction;
-    let style = held.style;
     let stamp = stamp_of(n, time, NONE);
     let rows = held_of(n, table);
     let c = decide(d, devices, kind, table, rows, room);
-    let sum = c.sum;
-    if !sum.fits {
+    let Some(sum) = c.sum else {
         return Inner {
             answer: NO_ROOM,
             decoder: d,
         };
-    }
+    };
     let end = c.end;
     let turn = c.turn;
     let act = turn.act;
@@ -238,7 +222,7 @@ pub fn event_in(
         c.resets,
         end,
         held.id,
-        start_pid(style),
+        start_pid(held.style),
         written_of(stamp, rows, d, table),
         n.endpoints,
         table,

@@ -1,4 +1,4 @@
-// What a call comes to, reckoned before anything is written: whether its rows fit, and the counts after it.
+// What a call comes to, reckoned before anything is written: the counts after it, or none where its rows have no room.
 ghost use Rattle.std.specs.Prelude.{◌≡◌, ◌≤◌, ◌^◌};
 ghost use Rattle.tally.specs.Tally.{Within};
 ghost use Rattle.tally.specs.Tallies.{Countable, tally_ending};
@@ -11,39 +11,31 @@ use record::{Counts, Decoder};
 use tally::add::Tally;
 use tally::{add_counts, has_room_for, tally_ending, tally_keepalive, tally_reset};
 
+// After the call.
 #[derive(Clone, Copy)]
 pub struct Sum {
-    // Whether there is room; if not, the answer is 7.
-    pub fits: bool,
-    // After the call, where there is room.
     pub counts: Counts,
     pub waiting: usize,
 }
 
 // Of a call that adds these rows behind the rows held.
-fn sum_of(held: Counts, n: Counts, t: Tally, room: Counts) -> Sum
+fn sum_of(held: Counts, n: Counts, t: Tally, room: Counts) -> Option<Sum>
     requires countable { Countable held n }
     requires within { Within (2 ^ 40) t }
     ensures { result ≡ sum_of held n t room }
 {
-    let waiting = t.waiting;
     if has_room_for(held, n, t, room) {
-        Sum {
-            fits: true,
+        Some(Sum {
             counts: add_counts(n, t),
-            waiting,
-        }
+            waiting: t.waiting,
+        })
     } else {
-        Sum {
-            fits: false,
-            counts: n,
-            waiting,
-        }
+        None
     }
 }
 
 // Of finish.
-pub fn sum_finish(d: Decoder, held: Counts, e: Ending, room: Counts) -> Sum
+pub fn sum_finish(d: Decoder, held: Counts, e: Ending, room: Counts) -> Option<Sum>
     requires waiting_bound { d.waiting ≤ 128 }
     requires endpoints_bound { d.counts.endpoints ≤ 128 }
     requires countable { Countable held d.counts }
@@ -63,7 +55,7 @@ pub fn sum_event(
     act: Act,
     active: usize,
     room: Counts,
-) -> Sum
+) -> Option<Sum>
     requires waiting_bound { d.waiting ≤ 128 }
     requires endpoints_bound { d.counts.endpoints ≤ 128 }
     requires active_bound { active ≤ 128 }

@@ -6,6 +6,7 @@ use mathlib.Core.List.{List, [], ◌∷◌, ◌++◌, append_assoc, append-nil}
 use mathlib.Core.Path.{◌≡◌, refl, sym, ap, subst, ◌∙◌}
 use borrow.Author.Tests.{le-ltb}
 use lib.ListN.{length, length-append}
+use Rattle.std.specs.Prelude.{Result}
 use Rattle.transaction.specs.Table.{pick}
 use Rattle.pcap.specs.Pcap.{head_of, next_at, time_of}
 use Rattle.pcap.specs.File.{Item, head_bytes, item_bytes, body_of}
@@ -13,7 +14,8 @@ use Rattle.pcap.specs.Fits.{Fit, Fits}
 use Rattle.pcap.specs.Export.{written_format, item_at, items_of, file_bytes, late}
 use Rattle.pcap.proofs.ExportLaws.{source_within, fits_all}
 use Rattle.pcap.proofs.Written.{item-end, item-next, item-bytes, head-written}
-use Rattle.pcap.specs.declared.Head.{Head}
+use Rattle.pcap.specs.declared.Format.{Format}
+use Rattle.pcap.specs.declared.HeadError.{HeadError}
 use Rattle.pcap.specs.declared.Next.{Next}
 use Rattle.pcap.specs.declared.Next.TheVariants.{Packet, Cut, Fraction, End}
 use Rattle.rules.specs.Demand.{Call, packet}
@@ -117,7 +119,7 @@ module _ {js : List Row} {s : State} (q : Sequence js s) (ok : late (items_of (s
 
   -- its head is taken
   pub behind-head : (x x'' : Stand) (n e a p : ℕ) → ImportsFile (file_bytes (source_in s)) x n e a p x'' → Imports written_format (file_bytes (source_in s)) 24 x n e a p x''
-  behind-head x x'' n e a p i = subst (λ (z : Head). Opened (file_bytes (source_in s)) z x n e a p x'') (head-written false true (body_of written_format (items_of (source_in s)))) i
+  behind-head x x'' n e a p i = subst (λ (z : Result Format HeadError). Opened (file_bytes (source_in s)) z x n e a p x'') (head-written false true (body_of written_format (items_of (source_in s)))) i
 
   pub back : {js' : List Row} {s' : State} → Sequence js' s' → (s'' : State) (h h'' : List ℕ) (n e p : ℕ) → ImportsFile (file_bytes (source_in s)) (stand s' h) n e 0 p (stand s'' h'')
       → Returned s s' s'' n p

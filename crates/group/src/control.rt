@@ -111,15 +111,8 @@ fn stage_of(dir: u8, size: u8, last: u8, next: u8) -> Stage
 fn outcome(e: Endpoint) -> Effect
     ensures { result ≡ outcome_of e }
 {
-    let kind = request_type(e.setup);
-    let code = request(e.setup);
-    let at = address(e.setup);
-    if kind == 0 {
-        if code == SET_ADDRESS {
-            Effect::NewDevice(at)
-        } else {
-            Effect::Request(e.payload)
-        }
+    if request_type(e.setup) == 0 && request(e.setup) == SET_ADDRESS {
+        Effect::NewDevice(address(e.setup))
     } else {
         Effect::Request(e.payload)
     }
@@ -130,11 +123,8 @@ fn counted(effect: Effect) -> u64
     ensures { result ≡ counted_of effect }
 {
     match effect {
-        Effect::NoEffect => 0,
-        Effect::NewDevice(_) => 0,
-        Effect::Request(_) => 0,
-        Effect::PendingData(_) => 0,
         Effect::IndexData(len, _, _) => len,
+        _ => 0,
     }
 }
 
@@ -159,18 +149,15 @@ fn data_stage(e: Endpoint, s: Step) -> Grouped
 fn status_stage(e: Endpoint, s: Step) -> Grouped
     ensures { result ≡ status_stage e s }
 {
-    if s.success {
-        if s.complete {
-            let effect = outcome(e);
-            return Grouped {
-                status: GroupStatus::Done,
-                effect,
-                endpoint: e,
-            };
+    if s.success && s.complete {
+        Grouped {
+            status: GroupStatus::Done,
+            effect: outcome(e),
+            endpoint: e,
         }
-        return plain(GroupStatus::Retry, e);
+    } else {
+        plain(GroupStatus::Retry, e)
     }
-    plain(GroupStatus::Retry, e)
 }
 
 fn at_stage(found: Stage, e: Endpoint, s: Step) -> Grouped

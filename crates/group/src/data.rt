@@ -13,12 +13,11 @@ use usb::pid::{IN, OUT, PING, SOF};
 fn begin_status(closes: bool, success: bool) -> GroupStatus
     ensures { result ≡ begin_status closes success }
 {
-    if success {
-        if closes {
-            return GroupStatus::Single;
-        }
+    if success && closes {
+        GroupStatus::Single
+    } else {
+        GroupStatus::New
     }
-    GroupStatus::New
 }
 
 // A transaction like the one before: before says whether that one went well.
@@ -47,9 +46,7 @@ fn repeat_status(closes: bool, success: bool, before: bool) -> GroupStatus
 fn with_success(e: Endpoint, success: bool) -> Endpoint
     ensures { result ≡ with_success e success }
 {
-    let mut e = e;
-    e.success = success;
-    e
+    Endpoint { success, ..e }
 }
 
 // IN or OUT with no group active.
@@ -59,12 +56,10 @@ fn begin_group(e: Endpoint, s: Step) -> Grouped
     let effect = effect_of(s, true);
     let ends = closes(s);
     if s.complete {
-        let status = begin_status(ends, s.success);
-        let endpoint = with_success(e, s.success);
         Grouped {
-            status,
+            status: begin_status(ends, s.success),
             effect,
-            endpoint,
+            endpoint: with_success(e, s.success),
         }
     } else {
         Grouped {
@@ -82,12 +77,10 @@ fn repeat_group(e: Endpoint, s: Step) -> Grouped
     let effect = effect_of(s, s.complete);
     let ends = closes(s);
     if s.complete {
-        let status = repeat_status(ends, s.success, e.success);
-        let endpoint = with_success(e, s.success);
         Grouped {
-            status,
+            status: repeat_status(ends, s.success, e.success),
             effect,
-            endpoint,
+            endpoint: with_success(e, s.success),
         }
     } else {
         Grouped {

@@ -53,19 +53,13 @@ pub struct Grouped {
 fn group_at(active: bool, e: Endpoint, t: Transaction, s: Step) -> Grouped
     ensures { result ≡ group_at active e t s }
 {
-    let kind = s.kind;
-    let next = s.next;
-    if kind == CONTROL {
-        if next == SETUP {
-            return control::setup_group(e, t, s);
-        }
-        if active {
-            if e.done {
-                return control::control_group(e, s);
-            }
-        }
+    if s.kind == CONTROL && s.next == SETUP {
+        control::setup_group(e, t, s)
+    } else if s.kind == CONTROL && active && e.done {
+        control::control_group(e, s)
+    } else {
+        data::other_group(active, e, s)
     }
-    data::other_group(active, e, s)
 }
 
 // The status of the group that a transaction t on the endpoint e ends in, its effect, and the endpoint after it.
@@ -79,8 +73,7 @@ pub fn group_status(
     ensures { result ≡ group_status e t detail success complete }
 {
     let s = step::step_of(e, t, detail, success, complete);
-    let phase = e.phase;
-    let active = step::is_active(phase);
+    let active = step::is_active(e.phase);
     let taken = step::take_pending(e);
     group_at(active, taken, t, s)
 }

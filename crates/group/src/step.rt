@@ -40,22 +40,15 @@ pub struct Step {
 pub fn is_active(phase: Phase) -> bool
     ensures { result ≡ is_active phase }
 {
-    match phase {
-        Phase::None => false,
-        Phase::Early => false,
-        Phase::Active => true,
-        Phase::Ended => false,
-    }
+    matches!(phase, Phase::Active)
 }
 
 fn split_sc(style: Style) -> u8
     ensures { result ≡ split_sc style }
 {
     match style {
-        Style::Nothing => 2,
-        Style::Simple(_) => 2,
-        Style::Split(sc, _) => sc,
-        Style::Token(sc, _, _) => sc,
+        Style::Nothing | Style::Simple(_) => 2,
+        Style::Split(sc, _) | Style::Token(sc, _, _) => sc,
     }
 }
 
@@ -91,25 +84,18 @@ fn payload_of(e: Endpoint, t: Transaction) -> Payload
 fn is_short(known: bool, len: u64, max: u16) -> bool
     ensures { result ≡ is_short known len max }
 {
-    if known {
-        if max == 0 { false } else { len < max as u64 }
-    } else {
-        false
-    }
+    known && max != 0 && len < max as u64
 }
 
 pub fn step_of(e: Endpoint, t: Transaction, detail: Detail, success: bool, complete: bool) -> Step
     ensures { result ≡ step_of e t detail success complete }
 {
-    let style = t.style;
-    let next = start_pid(style);
-    let sc = split_sc(style);
     let p = payload_of(e, t);
     let short = is_short(p.known, p.len, detail.max);
     Step {
         kind: detail.kind,
-        sc,
-        next,
+        sc: split_sc(t.style),
+        next: start_pid(t.style),
         known: p.known,
         len: p.len,
         waited: p.waited,
@@ -124,27 +110,24 @@ pub fn step_of(e: Endpoint, t: Transaction, detail: Detail, success: bool, compl
 pub fn take_pending(e: Endpoint) -> Endpoint
     ensures { result ≡ taken e }
 {
-    let mut e = e;
-    e.pending = false;
-    e
+    Endpoint {
+        pending: false,
+        ..e
+    }
 }
 
 // A short packet closes a group, but on an isochronous endpoint.
 pub fn closes(s: Step) -> bool
     ensures { result ≡ closes_of s }
 {
-    if s.short {
-        s.kind != ISOCHRONOUS
-    } else {
-        false
-    }
+    s.short && s.kind != ISOCHRONOUS
 }
 
 // A start-split OUT's payload waits for the complete split.
 fn payload_waits(s: Step) -> bool
     ensures { result ≡ waits_of s }
 {
-    if s.sc == START { s.next == OUT } else { false }
+    s.sc == START && s.next == OUT
 }
 
 // What a payload comes to: it waits or, where it counts, it is counted.

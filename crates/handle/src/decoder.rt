@@ -7,7 +7,6 @@ ghost use Rattle.handle.specs.Place as place;
 
 use crate::variant::{event_of, event_word, slot_of, slot_word, style_of, style_words};
 use crate::{Record, place};
-use endpoints::entry::flag_word;
 use record::{Counts, Decoder};
 use transaction::Transaction;
 
@@ -33,14 +32,13 @@ fn load_counts(words: &Record) -> Counts
 fn load_transaction(words: &Record) -> Transaction
     ensures { result ≡ transaction_of (word_in words.now) }
 {
-    let style = style_of(
-        words[place::STYLE],
-        (words[place::SC] % 256) as u8,
-        (words[place::SPLITKIND] % 256) as u8,
-        (words[place::PID] % 256) as u8,
-    );
     Transaction {
-        style,
+        style: style_of(
+            words[place::STYLE],
+            (words[place::SC] % 256) as u8,
+            (words[place::SPLITKIND] % 256) as u8,
+            (words[place::PID] % 256) as u8,
+        ),
         last: (words[place::LASTPID] % 256) as u8,
         id: words[place::ID],
         endpoint: words[place::ENDPOINT] as usize,
@@ -57,18 +55,14 @@ fn load_transaction(words: &Record) -> Transaction
 pub fn load_decoder(words: &Record) -> Decoder
     ensures { result ≡ decoder_in words.now }
 {
-    let counts = load_counts(words);
-    let transaction = load_transaction(words);
-    let slot = slot_of(words[place::SLOT]);
-    let event = event_of(words[place::EVENT]);
     Decoder {
-        counts,
-        transaction,
+        counts: load_counts(words),
+        transaction: load_transaction(words),
         last: words[place::LASTITEM] as usize,
         waiting: words[place::WAITING] as usize,
         time: words[place::TIME],
-        slot,
-        event,
+        slot: slot_of(words[place::SLOT]),
+        event: event_of(words[place::EVENT]),
         keepalive: words[place::KEEPALIVE] != 0,
         finished: words[place::FINISHED] != 0,
         high: words[place::HIGH] != 0,
@@ -96,8 +90,7 @@ fn store_transaction(words: &mut Record, t: Transaction)
     ensures words_after { words.new ≡ sets words.old place.style (transaction_words t) }
     ensures transaction_fits { TransactionFits t }
 {
-    let style = t.style;
-    let numbers = style_words(style);
+    let numbers = style_words(t.style);
     words[place::STYLE] = numbers.style;
     words[place::SC] = numbers.sc as u64;
     words[place::SPLITKIND] = numbers.kind as u64;
@@ -106,9 +99,9 @@ fn store_transaction(words: &mut Record, t: Transaction)
     words[place::ID] = t.id;
     words[place::ENDPOINT] = t.endpoint as u64;
     words[place::KIND] = t.kind as u64;
-    words[place::LINKED] = flag_word(t.linked);
-    words[place::READY] = flag_word(t.ready);
-    words[place::FILLED] = flag_word(t.filled);
+    words[place::LINKED] = u64::from(t.linked);
+    words[place::READY] = u64::from(t.ready);
+    words[place::FILLED] = u64::from(t.filled);
     words[place::LINK] = t.link;
     words[place::SETUP] = t.setup;
     words[place::PAYLOAD] = t.payload;
@@ -117,16 +110,14 @@ fn store_transaction(words: &mut Record, t: Transaction)
 fn store_rest(words: &mut Record, d: Decoder)
     ensures { words.new ≡ sets words.old place.lastitem (rest_words d) }
 {
-    let slot = d.slot;
-    let event = d.event;
     words[place::LASTITEM] = d.last as u64;
     words[place::WAITING] = d.waiting as u64;
     words[place::TIME] = d.time;
-    words[place::SLOT] = slot_word(slot);
-    words[place::EVENT] = event_word(event);
-    words[place::KEEPALIVE] = flag_word(d.keepalive);
-    words[place::FINISHED] = flag_word(d.finished);
-    words[place::HIGH] = flag_word(d.high);
+    words[place::SLOT] = slot_word(d.slot);
+    words[place::EVENT] = event_word(d.event);
+    words[place::KEEPALIVE] = u64::from(d.keepalive);
+    words[place::FINISHED] = u64::from(d.finished);
+    words[place::HIGH] = u64::from(d.high);
 }
 
 pub fn store_decoder(words: &mut Record, d: Decoder)

@@ -7,7 +7,6 @@ ghost use Rattle.handle.specs.Size as size;
 
 use crate::{Record, place};
 use details::{Detail, Device, fresh_device};
-use endpoints::entry::flag_word;
 
 fn detail_of(word: u64) -> Detail
     ensures { result ≡ detail_of word }
@@ -23,7 +22,7 @@ fn detail_word(detail: Detail) -> u64
     ensures value { result ≡ detail_word detail }
     ensures detail_fits { DetailFits detail }
 {
-    detail.kind as u64 + 256 * flag_word(detail.given) + 65536 * detail.max as u64
+    detail.kind as u64 + 256 * u64::from(detail.given) + 65536 * detail.max as u64
 }
 
 // The details of the 32 words from `at` on.
@@ -31,12 +30,9 @@ fn load_details(words: &Record, at: usize) -> [Detail; 32]
     requires { at + 32 ≤ size.words }
     ensures { result ≡ from (λ k. detail_of (word_in words.now k)) at 32 }
 {
-    let none = detail_of(0);
-    let mut details = [none; 32];
-    let mut i: usize = 0;
-    while i < 32 {
+    let mut details = [detail_of(0); 32];
+    for i in 0..32 {
         details[i] = detail_of(words[at + i]);
-        i += 1;
     }
     details
 }
@@ -46,24 +42,20 @@ fn load_device(words: &Record, i: usize) -> Device
     ensures { result ≡ device_at words.now i }
 {
     let at = place::ROWS + i * place::WIDTH;
-    let details = load_details(words, at + place::DETAILS);
     Device {
         address: (words[at + place::ADDRESS] % 256) as u8,
         chosen: (words[at + place::CHOSEN] % 65536) as u16,
         kept: (words[at + place::KEPT] % 65536) as u16,
-        details,
+        details: load_details(words, at + place::DETAILS),
     }
 }
 
 pub fn load_devices(words: &Record) -> [Device; 64]
     ensures { result ≡ devices_in words.now }
 {
-    let none = fresh_device(0);
-    let mut devices = [none; 64];
-    let mut i: usize = 0;
-    while i < 64 {
+    let mut devices = [fresh_device(0); 64];
+    for i in 0..64 {
         devices[i] = load_device(words, i);
-        i += 1;
     }
     devices
 }
@@ -73,11 +65,8 @@ fn store_details(words: &mut Record, at: usize, details: [Detail; 32])
     ensures words_after { words.new ≡ sets words.old at (map detail_word details) }
     ensures details_fit { DetailsFit details }
 {
-    let mut i: usize = 0;
-    while i < 32 {
-        let detail = details[i];
-        words[at + i] = detail_word(detail);
-        i += 1;
+    for i in 0..32 {
+        words[at + i] = detail_word(details[i]);
     }
 }
 
@@ -87,11 +76,10 @@ fn store_device(words: &mut Record, i: usize, device: Device)
     ensures device_fits { DeviceFits device }
 {
     let at = place::ROWS + i * place::WIDTH;
-    let details = device.details;
     words[at + place::ADDRESS] = device.address as u64;
     words[at + place::CHOSEN] = device.chosen as u64;
     words[at + place::KEPT] = device.kept as u64;
-    store_details(words, at + place::DETAILS, details);
+    store_details(words, at + place::DETAILS, device.details);
 }
 
 pub fn store_devices(words: &mut Record, devices: [Device; 64])
@@ -99,10 +87,7 @@ pub fn store_devices(words: &mut Record, devices: [Device; 64])
     ensures devices_len { length devices ≡ 64 }
     ensures devices_fit { DevicesFit devices }
 {
-    let mut i: usize = 0;
-    while i < 64 {
-        let device = devices[i];
-        store_device(words, i, device);
-        i += 1;
+    for i in 0..64 {
+        store_device(words, i, devices[i]);
     }
 }

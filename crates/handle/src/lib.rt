@@ -6,8 +6,7 @@ mod device;
 pub mod place;
 mod variant;
 
-ghost use Rattle.std.specs.Prelude.{◌≡◌, length};
-ghost use Rattle.handle.specs.Size as size;
+ghost use Rattle.std.specs.Prelude.{◌≡◌};
 ghost use Rattle.handle.specs.Words.{decoder_in, devices_in, stored};
 
 use details::Device;
@@ -32,22 +31,12 @@ pub fn load_record(words: &Record) -> Loaded
     Loaded { decoder, devices }
 }
 
-fn lent(_words: &[u64]) {}
-
-// A lent record has all its words: a proof learns it where the array is lent on as a slice (so endpoints, entry).
-fn sized(words: &Record)
-    ensures { length words.now ≡ size.words }
-{
-    lent(words);
-}
-
 // The words then stand for what was stored; those that belong to no field are as they were.
 pub fn store_record(words: &mut Record, d: Decoder, devices: [Device; 64])
     ensures words_after { words.new ≡ stored words.old d devices }
     ensures words_after_2 { decoder_in words.new ≡ d }
     ensures words_after_3 { devices_in words.new ≡ devices }
 {
-    sized(words);
     decoder::store_decoder(words, d);
     device::store_devices(words, devices);
 }

@@ -14,6 +14,14 @@ pub struct Numbers {
     pub pid: u8,
 }
 
+// Those of no style.
+const NONE: Numbers = Numbers {
+    style: 0,
+    sc: 0,
+    kind: 0,
+    pid: 0,
+};
+
 const SIMPLE: u64 = 1;
 
 const SPLIT: u64 = 2;
@@ -35,23 +43,17 @@ pub fn style_words(style: Style) -> Numbers
     ensures { result ≡ style_words style }
 {
     match style {
-        Style::Nothing => Numbers {
-            style: 0,
-            sc: 0,
-            kind: 0,
-            pid: 0,
-        },
+        Style::Nothing => NONE,
         Style::Simple(pid) => Numbers {
             style: SIMPLE,
-            sc: 0,
-            kind: 0,
             pid,
+            ..NONE
         },
         Style::Split(sc, kind) => Numbers {
             style: SPLIT,
             sc,
             kind,
-            pid: 0,
+            ..NONE
         },
         Style::Token(sc, kind, pid) => Numbers {
             style: TOKEN,
@@ -79,11 +81,7 @@ pub fn slot_of(word: u64) -> Slot
 pub fn slot_word(slot: Slot) -> u64
     ensures { result ≡ slot_word slot }
 {
-    match slot {
-        Slot::Empty => 0,
-        Slot::Current => CURRENT,
-        Slot::Suspended => SUSPENDED,
-    }
+    slot as u64
 }
 
 const LS_KEEPALIVE_GROUP: u64 = 1;
@@ -118,14 +116,5 @@ pub fn event_of(word: u64) -> EventState
 pub fn event_word(event: EventState) -> u64
     ensures { result ≡ event_word event }
 {
-    match event {
-        EventState::Idle => 0,
-        EventState::LsKeepaliveGroup => LS_KEEPALIVE_GROUP,
-        EventState::AwaitDeviceChirp => AWAIT_DEVICE_CHIRP,
-        EventState::PartialDeviceChirp => PARTIAL_DEVICE_CHIRP,
-        EventState::ValidDeviceChirp => VALID_DEVICE_CHIRP,
-        EventState::AwaitHostChirp => AWAIT_HOST_CHIRP,
-        EventState::PartialHostChirp => PARTIAL_HOST_CHIRP,
-        EventState::ValidHostChirp => VALID_HOST_CHIRP,
-    }
+    event as u64
 }

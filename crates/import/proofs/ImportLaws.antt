@@ -1,17 +1,15 @@
 -- Laws (proved): what the contract of an import rules out: any two outcomes coincide, a refused record changes nothing, and a file is read from a place on as what lies there.
-use Rattle.std.specs.Prelude.{ℕ, suc, ◌+◌, Bool, true, false, List, ◌≡◌, refl, eqb}
+use Rattle.std.specs.Prelude.{ℕ, suc, ◌+◌, true, false, List, ◌≡◌, refl, eqb}
 use Rattle.std.proofs.Common.{true≢false, sym, ap, subst, ◌∙◌}
 use Rattle.rows.specs.One.{one}
-use Rattle.pcap.specs.Pcap.{head_of, next_at}
+use Rattle.pcap.specs.Pcap.{next_at}
 use Rattle.pcap.specs.declared.Format.{Format}
-use Rattle.pcap.specs.declared.Head.{Head}
-use Rattle.pcap.specs.declared.Head.TheVariants.{Fine, Mark, Link}
 use Rattle.pcap.specs.declared.Next.{Next}
 use Rattle.pcap.specs.declared.Next.TheVariants.{Packet, Cut, Fraction, End}
 use Rattle.call.specs.Outcome.{accepts}
 use Rattle.packet.proofs.CallLaws.{packet_unique, packet-kept}
 use Rattle.step.specs.Block.{Stand, stand}
-use Rattle.import.specs.Import.{Gives, behind, Imports, Unread, Opened, ImportsFile}
+use Rattle.import.specs.Import.{Gives, behind, Imports}
 use Rattle.import.specs.Import.Imports.{done, stops, goes}
 
 -- ---- one outcome

@@ -7,13 +7,13 @@ use mathlib.Core.Path.{◌≡◌, refl, sym, ap, subst, ◌∙◌}
 use lib.Dec.{eqb}
 use lib.ListN.{length, take, drop}
 use lib.Seq.{slice, take-nil, drop-nil}
+use Rattle.std.specs.Prelude.{Result, Err, IfErr}
 use Rattle.rows.specs.One.{one}
 use Rattle.details.specs.declared.Device.{Device}
 use Rattle.record.specs.declared.Decoder.{Decoder}
 use Rattle.pcap.specs.Pcap.{head_of, next_at, answer_of}
 use Rattle.pcap.specs.declared.Format.{Format}
-use Rattle.pcap.specs.declared.Head.{Head}
-use Rattle.pcap.specs.declared.Head.TheVariants.{Fine, Mark, Link}
+use Rattle.pcap.specs.declared.HeadError.{HeadError}
 use Rattle.pcap.specs.declared.Next.{Next}
 use Rattle.pcap.specs.declared.Next.TheVariants.{Packet, Cut, Fraction, End}
 use Rattle.trace.specs.declared.clock.Clock.{Clock}
@@ -23,12 +23,11 @@ use Rattle.call.proofs.StateLaws.{SameSizes}
 use Rattle.call.specs.declared.Called.{Called}
 use Rattle.packet.specs.Call.{PacketCall}
 use Rattle.step.specs.Block.{Stand, stand}
-use Rattle.stream.specs.Led.{Fits, ran_by, Calls, Led, Runs}
+use Rattle.stream.specs.Led.{Fits, ran_by, Led, Runs}
 use Rattle.stream.specs.Led.Led.{none, more}
 use Rattle.stream.specs.Piece.{piece_of, Timed}
 use Rattle.stream.specs.Rounds.{none_yet, gone_on, halted, with_step, with_round}
 use Rattle.stream.specs.declared.Run.{Run}
-use Rattle.stream.specs.declared.part.Part.{Part}
 use Rattle.stream.specs.declared.part.Reader.TheVariants.{Pcap}
 use Rattle.stream.specs.declared.piece.Piece.{Piece}
 use Rattle.stream.proofs.Pieces.{timed_inside}
@@ -49,16 +48,15 @@ part_slice (suc from) (suc to) [] = ap (take (suc to - suc from)) (drop-nil (suc
 part_slice (suc from) (suc to) (x ∷ l) = let e : suc to - suc from ≡ to - from = omega arith in ap (λ (n : ℕ). take n (drop from l)) e ∙ part_slice from to l
 
 -- no packet: the end, or a record that is refused
-none_by : (f : Format) (t : List ℕ) (at : ℕ) (s : Stand) (n : Next) → next_at f t at ≡ n → (piece_of f n).taken ≡ false → Imports f t at s 0 0 (piece_of f n).answer at s
-none_by f t at s (Packet seconds fraction start end) e h = absurd (true≢false h)
-none_by f t at s Cut e h = stops (subst (λ (m : Next). Gives f t m s (answer_of Cut) s) (sym e) (refl, refl)) refl
-none_by f t at s Fraction e h = stops (subst (λ (m : Next). Gives f t m s (answer_of Fraction) s) (sym e) (refl, refl)) refl
-none_by f t at s End e h = done e
+none_by : (f : Format) (t : List ℕ) (at : ℕ) (s : Stand) (n : Next) → next_at f t at ≡ n → IfErr (piece_of f n) (λ a. Imports f t at s 0 0 a at s)
+none_by f t at s (Packet seconds fraction start end) e = tt
+none_by f t at s Cut e = stops (subst (λ (m : Next). Gives f t m s (answer_of Cut) s) (sym e) (refl, refl)) refl
+none_by f t at s Fraction e = stops (subst (λ (m : Next). Gives f t m s (answer_of Fraction) s) (sym e) (refl, refl)) refl
+none_by f t at s End e = done e
 
 -- as the code tells it
-none_is : (f : Format) (t : List ℕ) (at : ℕ) (s : Stand) {n : Next} {p : Piece} → n ≡ next_at f t at → p ≡ piece_of f n → p.taken ≡ false → Imports f t at s 0 0 p.answer at s
-none_is f t at s {n} {p} k e z =
-    subst (λ (x : Piece). Imports f t at s 0 0 x.answer at s) (sym e) (none_by f t at s n (sym k) (sym (ap (λ (x : Piece). x.taken) e) ∙ z))
+none_is : (f : Format) (t : List ℕ) (at : ℕ) (s : Stand) {n : Next} {a : ℕ} → n ≡ next_at f t at → Err a ≡ piece_of f n → Imports f t at s 0 0 a at s
+none_is f t at s {n} k e = subst (λ (r : Result Piece ℕ). IfErr r (λ a. Imports f t at s 0 0 a at s)) (sym e) (none_by f t at s n (sym k))
 
 -- a packet, called
 module _ {f : Format} {t : List ℕ} {at time start end a : ℕ} {s s' : Stand} (k : Timed f t at time start end)
@@ -124,12 +122,12 @@ module _ {f : Format} {t : List ℕ} {at : ℕ} {c : Clock} {s : Stand} {r : Run
       }
 
   -- no packet stands behind them
-  pub round-ends : {n : Next} {q : Piece} {u : Run} → n ≡ next_at f t r.place → q ≡ piece_of f n → q.taken ≡ false → u ≡ stopped_at r q.answer → Rounds f t at s u table l h
-  round-ends k e z w =
+  pub round-ends : {n : Next} {a : ℕ} {u : Run} → n ≡ next_at f t r.place → Err a ≡ piece_of f n → u ≡ stopped_at r a → Rounds f t at s u table l h
+  round-ends k e w =
       subst (λ (u : Run). Rounds f t at s u table l h) (sym w)
       (record {
         leads = λ g. absurd (false≢true g);
-        over = λ g. leads-over (led_leads p.led) (none_is f t r.place (ran_by r table l h) k e z);
+        over = λ g. leads-over (led_leads p.led) (none_is f t r.place (ran_by r table l h) k e);
         counted = p.counted;
         further = λ g. absurd (false≢true g);
       })
@@ -209,12 +207,12 @@ module _ {f : Format} {b : Bool} {t : List ℕ} {at : ℕ} {s : Stand} {r : Run}
 -- ---- a whole file
 
 -- by what was found at its head
-pub opened_by : (t : List ℕ) (s : Stand) {h : Head} (m : Head) → h ≡ head_of t → h ≡ m → (n k a p : ℕ) (s' : Stand) → Opened t m s n k a p s' → ImportsFile t s n k a p s'
-opened_by t s m e q n k a p s' x = subst (λ (z : Head). Opened t z s n k a p s') (sym q ∙ e) x
+pub opened_by : (t : List ℕ) (s : Stand) {h : Result Format HeadError} (m : Result Format HeadError) → h ≡ head_of t → h ≡ m → (n k a p : ℕ) (s' : Stand) → Opened t m s n k a p s' → ImportsFile t s n k a p s'
+opened_by t s m e q n k a p s' x = subst (λ (z : Result Format HeadError). Opened t z s n k a p s') (sym q ∙ e) x
 
 -- a head that is refused
-pub unread_by : (m : Head) (d : Decoder) (v : List Device) (table : List ℕ) (l : Logs) (g : List ℕ) {h : Head} {r : Imported} → h ≡ m → r ≡ unread h d v
+pub unread_by : (m : Result Format HeadError) (d : Decoder) (v : List Device) (table : List ℕ) (l : Logs) (g : List ℕ) {h : Result Format HeadError} {r : Imported} → h ≡ m → r ≡ unread h d v
     → Unread m (stand (state d v table l) g) r.taken r.eights r.answer r.place (stand (state r.decoder r.devices table l) g)
 unread_by m d v table l g q w =
-    subst (λ (r : Imported). Unread m (stand (state d v table l) g) r.taken r.eights r.answer r.place (stand (state r.decoder r.devices table l) g)) (sym (w ∙ ap (λ (z : Head). unread z d v) q))
+    subst (λ (r : Imported). Unread m (stand (state d v table l) g) r.taken r.eights r.answer r.place (stand (state r.decoder r.devices table l) g)) (sym (w ∙ ap (λ (z : Result Format HeadError). unread z d v) q))
     (record { taken = refl; eights = refl; answer = refl; place = refl; left = refl })

@@ -1,5 +1,5 @@
 -- Laws (proved): a file that is lent in pieces: what stands before a cut stands in the whole, and what follows is read from its place on as if a file began there.
-use Rattle.std.specs.Prelude.{ℕ, suc, ◌+◌, ◌-◌, ◌*◌, ◌^◌, ◌≤◌, ◌<◌, Bool, true, false, cond, ◌&&◌, ◌≡◌, ltb, take, drop}
+use Rattle.std.specs.Prelude.{ℕ, ◌+◌, ◌*◌, ◌^◌, ◌≤◌, Bool, true, false, cond, ◌&&◌, ◌≡◌, ltb, take, drop}
 use native.Mathlib.Omega.{arith}
 use Rattle.std.proofs.Common.{true≢false, sym, subst, ◌∙◌, le-leb, lt-ltb, le-ltb, leb-true, leb-false, ltb-true, ltb-false, length-append, length-drop, take-append-drop, length-take-le}
 use mathlib.Core.List.{List, ◌++◌}
@@ -9,9 +9,8 @@ use Rattle.std.proofs.Math.Dec.{eqb, leb}
 use Rattle.std.proofs.Math.ListN.{length}
 use Rattle.std.proofs.Math.Seq.{slice, drop-append-add, take-append-add}
 use Rattle.std.proofs.lemmas.List.{drop-append-le, take-append-le}
-use Rattle.rows.specs.One.{one}
 use Rattle.pcap.specs.Numbers.{number, number_at}
-use Rattle.pcap.specs.Pcap.{captured, original, complete, below, judged, body_at, next_at}
+use Rattle.pcap.specs.Pcap.{captured, complete, below, judged, body_at, next_at}
 use Rattle.pcap.proofs.PcapLaws.{Grown, grown}
 use Rattle.pcap.specs.declared.Format.{Format}
 use Rattle.pcap.specs.declared.Next.{Next}

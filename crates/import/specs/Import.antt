@@ -1,12 +1,11 @@
 -- To be believed: the packets of a pcap file as packet calls (02, 4): what the file's records give one by one. Words in quotation marks are those of 02, 4.
 -- Hold it to: 02, "Import and export of pcap": "Packets become packet calls in file order up to the first answer other than 0 or 8; what was written stays", 14 to 17
-use Rattle.std.specs.Prelude.{ℕ, suc, ◌+◌, true, false, List, ◌≡◌, eqb}
+use Rattle.std.specs.Prelude.{ℕ, suc, ◌+◌, Result, Ok, Err, true, false, List, ◌≡◌, eqb}
 use Rattle.std.proofs.Math.Seq.{slice}
 use Rattle.rows.specs.One.{one}
 use Rattle.pcap.specs.Pcap.{head_of, head_answer, head_place, next_at, answer_of, time_of}
 use Rattle.pcap.specs.declared.Format.{Format}
-use Rattle.pcap.specs.declared.Head.{Head}
-use Rattle.pcap.specs.declared.Head.TheVariants.{Fine, Mark, Link}
+use Rattle.pcap.specs.declared.HeadError.{HeadError}
 use Rattle.pcap.specs.declared.Next.{Next}
 use Rattle.pcap.specs.declared.Next.TheVariants.{Packet, Cut, Fraction, End}
 use Rattle.call.specs.Outcome.{accepts}
@@ -45,7 +44,7 @@ pub data Imports (f : Format) (t : List ℕ) : (at : ℕ) → Stand → (n e a p
 -- ---- a whole file
 
 -- a head that is refused, 14 or 15: nothing is called
-pub record Unread (h : Head) (s : Stand) (n e a p : ℕ) (s' : Stand) : Type 0 where
+pub record Unread (h : Result Format HeadError) (s : Stand) (n e a p : ℕ) (s' : Stand) : Type 0 where
   pub taken : n ≡ 0
   pub eights : e ≡ 0
   pub answer : a ≡ head_answer h
@@ -53,10 +52,9 @@ pub record Unread (h : Head) (s : Stand) (n e a p : ℕ) (s' : Stand) : Type 0 w
   pub left : s' ≡ s
 
 -- by what the head says
-abbrev pub Opened : List ℕ → Head → Stand → (n e a p : ℕ) → Stand → Type 0
-Opened t (Fine f) s n e a p s' = Imports f t (head_place (Fine f)) s n e a p s'
-Opened t Mark s n e a p s' = Unread Mark s n e a p s'
-Opened t Link s n e a p s' = Unread Link s n e a p s'
+abbrev pub Opened : List ℕ → Result Format HeadError → Stand → (n e a p : ℕ) → Stand → Type 0
+Opened t (Ok f) s n e a p s' = Imports f t (head_place (Ok f)) s n e a p s'
+Opened t (Err error) s n e a p s' = Unread (Err error) s n e a p s'
 
 abbrev pub ImportsFile : List ℕ → Stand → (n e a p : ℕ) → Stand → Type 0
 ImportsFile t s n e a p s' = Opened t (head_of t) s n e a p s'

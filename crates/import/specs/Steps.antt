@@ -1,10 +1,10 @@
 -- Inner (cited by private contracts alone): records of a file that lead from one state to another, and what the rounds of an import come to.
-use Rattle.std.specs.Prelude.{ℕ, ◌+◌, ◌≤◌, ◌<◌, Bool, true, false, List, ◌≡◌, length}
+use Rattle.std.specs.Prelude.{ℕ, ◌+◌, Result, ◌≤◌, ◌<◌, Bool, true, false, List, ◌≡◌, length}
 use Rattle.details.specs.declared.Device.{Device}
 use Rattle.record.specs.declared.Decoder.{Decoder}
 use Rattle.pcap.specs.Pcap.{head_answer, head_place}
 use Rattle.pcap.specs.declared.Format.{Format}
-use Rattle.pcap.specs.declared.Head.{Head}
+use Rattle.pcap.specs.declared.HeadError.{HeadError}
 use Rattle.call.specs.State.{Logs}
 use Rattle.call.specs.declared.Called.{Called}
 use Rattle.step.specs.Block.{Stand}
@@ -46,5 +46,5 @@ pub record Rounds (f : Format) (t : List ℕ) (at : ℕ) (s : Stand) (r : Run) (
 
 -- ---- a head that is refused
 
-abbrev pub unread : Head → Decoder → List Device → Imported
+abbrev pub unread : Result Format HeadError → Decoder → List Device → Imported
 unread h d v = record { answer = head_answer h; taken = 0; eights = 0; place = head_place h; decoder = d; devices = v }

@@ -3,7 +3,7 @@
 
 mod round;
 
-ghost use Rattle.std.specs.Prelude.{◌≡◌};
+ghost use Rattle.std.specs.Prelude.{◌≡◌, Err};
 ghost use Rattle.call.specs.State.{state, logs};
 ghost use Rattle.step.specs.Block.{stand};
 ghost use Rattle.import.specs.Import.{Imports, ImportsFile};
@@ -13,7 +13,7 @@ use crate::round::{imported_of, round};
 use call::room_of;
 use details::Device;
 use endpoints::Table;
-use pcap::{Format, Head, check_head, head_answer, head_place};
+use pcap::{Format, HeadError, check_head, head_answer, head_place};
 use record::Decoder;
 use shelving::Shelf;
 use sound::is_sound;
@@ -104,14 +104,14 @@ pub fn import_from(
 }
 
 // A head that is refused.
-fn unread_head(h: Head, d: Decoder, devices: [Device; 64]) -> Imported
-    ensures { result ≡ unread h d devices }
+fn unread_head(error: HeadError, d: Decoder, devices: [Device; 64]) -> Imported
+    ensures { result ≡ unread (Err error) d devices }
 {
     Imported {
-        answer: head_answer(h),
+        answer: head_answer(Err(error)),
         taken: 0,
         eights: 0,
-        place: head_place(h),
+        place: head_place(Err(error)),
         decoder: d,
         devices,
     }
@@ -139,9 +139,8 @@ pub fn import(
 ) -> Imported
     ensures { ImportsFile file.now (stand (state d devices table.old (logs bytes.old device_rows.old endpoint_rows.old packets.old events.now transactions.old groups.old statebytes.old states.old items.old links.old requests.old)) shelf.old) result.taken result.eights result.answer result.place (stand (state result.decoder result.devices table.new (logs bytes.new device_rows.new endpoint_rows.new packets.new events.now transactions.new groups.new statebytes.new states.new items.new links.new requests.new)) shelf.new) }
 {
-    let head = check_head(file);
-    match head {
-        Head::Fine(f) => import_from(
+    match check_head(file) {
+        Ok(f) => import_from(
             f,
             d,
             devices,
@@ -162,7 +161,6 @@ pub fn import(
             requests,
             shelf,
         ),
-        Head::Mark => unread_head(head, d, devices),
-        Head::Link => unread_head(head, d, devices),
+        Err(error) => unread_head(error, d, devices),
     }
 }

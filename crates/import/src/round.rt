@@ -110,10 +110,10 @@ pub fn round(
     if !p.going {
         return p;
     }
-    let part = piece_of(f, next_record(file, p.place, f));
-    if !part.taken {
-        return stopped_at(p, part.answer);
-    }
+    let part = match piece_of(f, next_record(file, p.place, f)) {
+        Ok(part) => part,
+        Err(answer) => return stopped_at(p, answer),
+    };
     let kept = p.devices;
     let begin = part.start;
     let end = part.end;

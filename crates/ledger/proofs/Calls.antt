@@ -10,8 +10,8 @@ use lib.ListN.{length}
 use Rattle.usb.specs.Fields.{token_of, setup_data_of}
 use Rattle.usb.specs.Packet.{checked_of, reason_of}
 use Rattle.usb.specs.Pid.{DATA0, DATA1, DATA2, MDATA, SPLIT, MALFORMED}
-use Rattle.usb.specs.declared.Checked.{Checked}
-use Rattle.usb.specs.declared.Checked.TheVariants.{Valid, Malformed}
+use Rattle.std.specs.Prelude.{Result, Ok, Err}
+use Rattle.usb.specs.declared.reason.Reason.{Reason}
 use Rattle.transaction.specs.Payload.{takes_setup, yields, with_setup, with_payload, extract_payload}
 use Rattle.transaction.proofs.HighLaws.{yields-any}
 use Rattle.transaction.specs.Simple.{start_status}
@@ -26,8 +26,7 @@ use Rattle.transaction.specs.declared.Transaction.{Transaction}
 use Rattle.transaction.proofs.Laws.{extract-keeps}
 use Rattle.details.specs.Kind.{Unknown}
 use Rattle.group.specs.declared.Effect.{Effect}
-use Rattle.details.specs.declared.Found.{Found}
-use Rattle.details.specs.declared.Found.TheVariants.{At, Nothing}
+use Rattle.std.specs.Prelude.{Option, Some, None}
 use Rattle.rules.specs.Rows.{Row, EventRow}
 use Rattle.rules.specs.World.{World, event_ep, push, stamped, with_shelf, with_slot, with_transaction, with_event_state, with_keepalive, with_context, more_transactions, more_groups, with_id, new_transaction, last_stamped}
 use Rattle.rules.specs.Endpoints.{device_for, address_for, add_endpoint_on, found, packet_endpoint_at, packet_endpoint, number_at, endpoint_of, set_detail_on}
@@ -121,16 +120,16 @@ module _ (js : List Row) (pid : ℕ) (p : List ℕ) where
   appended-seen w = token-seen w.transaction.style w
 
 -- the endpoint that packet_endpoint finds or adds is there
-added-count : (g : Found) (d a : ℕ) (w : World) → (add_endpoint_on g d a w).count ≡ suc w.count
-added-count (At i) d a w = refl
-added-count Nothing d a w = refl
+added-count : (g : Option ℕ) (d a : ℕ) (w : World) → (add_endpoint_on g d a w).count ≡ suc w.count
+added-count (Some i) d a w = refl
+added-count None d a w = refl
 
 there : (pid : ℕ) (p : List ℕ) (w : World) → Stands w → endpoint_of pid p w < (packet_endpoint pid p w).count
 there pid p w s = by (found pid p w) (found-spot pid p w s.0 s.1)
   where
-    by : (g : Found) → Spot g w.count → number_at g w < (packet_endpoint_at g pid p w).count
-    by (At i) h = h.0
-    by Nothing h = omega (arith, added-count (device_for (token_of p).address w) (token_of p).address (address_for pid (token_of p).number) w)
+    by : (g : Option ℕ) → Spot g w.count → number_at g w < (packet_endpoint_at g pid p w).count
+    by (Some i) h = h.0
+    by None h = omega (arith, added-count (device_for (token_of p).address w) (token_of p).address (address_for pid (token_of p).number) w)
 
 inside : (s : Slot) {x count : ℕ} → x < count → InsideAt s x count
 inside Empty h = tt
@@ -246,9 +245,9 @@ data-pid high t p = by (checked_of p)
     none true = refl
     none false = refl
 
-    by : (c : Checked) → data_in high c ≡ yields high (judged_of high t c (length p)).pid
-    by (Valid pid) = refl
-    by (Malformed reason) = none high
+    by : (c : Result ℕ Reason) → data_in high c ≡ yields high (judged_of high t c (length p)).pid
+    by (Ok pid) = refl
+    by (Err reason) = none high
 
 either-pid : (pid : ℕ) → (DATA0 or DATA1 or DATA2 or only MDATA) pid ≡ true → start_status pid ≡ Invalid
 either-pid pid = by (eqb pid DATA0) (eqb pid DATA1) (eqb pid DATA2) (eqb pid MDATA) refl refl refl refl
@@ -264,9 +263,9 @@ stray : (high : Bool) (t : Transaction) (p : List ℕ) → is_data high p ≡ tr
 unfolding transaction_status
 stray high t p = by (checked_of p)
   where
-    by : (c : Checked) → data_in high c ≡ true → (judged_of high (state_at Empty t) c (length p)).status ≡ Invalid
-    by (Valid pid) h = either-pid pid (yields-any high pid h)
-    by (Malformed reason) h = refl
+    by : (c : Result ℕ Reason) → data_in high c ≡ true → (judged_of high (state_at Empty t) c (length p)).status ≡ Invalid
+    by (Ok pid) h = either-pid pid (yields-any high pid h)
+    by (Err reason) h = refl
 
 -- ---- a suspended transaction is resumed
 
@@ -405,9 +404,9 @@ module _ (js : List Row) (w : World) (l : Ledger) (a : Account (view js w) l) wh
 
 -- ---- every call
 
-detail-seen : (js : List Row) (g : Found) (number direction kind max : ℕ) (w : World) → view js (set_detail_on g number direction kind max w) ≡ view js w
-detail-seen js (At d) number direction kind max w = refl
-detail-seen js Nothing number direction kind max w = refl
+detail-seen : (js : List Row) (g : Option ℕ) (number direction kind max : ℕ) (w : World) → view js (set_detail_on g number direction kind max w) ≡ view js w
+detail-seen js (Some d) number direction kind max w = refl
+detail-seen js None number direction kind max w = refl
 
 pub call_account : (high : Bool) (k : Call) (js : List Row) (w : World) (l : Ledger) → Stands w → Inside w → Account (view js w) l → Account (view js (call high k w)) (turns high k w l)
 unfolding handle_detail finish

@@ -8,8 +8,7 @@ use borrow.Author.Tests.{eqb-true, eqb-false, ltb-true, ltb-false}
 use lib.Dec.{eqb, ltb}
 use Rattle.transaction.specs.Payload.{start_pid}
 use Rattle.transaction.specs.Table.{pick}
-use Rattle.details.specs.declared.Found.{Found}
-use Rattle.details.specs.declared.Found.TheVariants.{At, Nothing}
+use Rattle.std.specs.Prelude.{Option, Some, None as Absent}
 use Rattle.endpoints.specs.Table.{with_phase, new_endpoint}
 use Rattle.endpoints.specs.declared.Endpoint.{Endpoint}
 use Rattle.endpoints.specs.declared.Phase.{Phase}
@@ -123,13 +122,13 @@ module _ (js : List Row) where
   endpoint-seen : (d a : ℕ) → Kept (push_endpoint d a)
   endpoint-seen d a w = λ i. record { held = (seen w).held; entry = λ e. extended w.endpoints w.count d a e i; rows = (seen w).rows }
 
-  added-seen : (g : Found) (d a : ℕ) → Kept (add_endpoint_on g d a)
-  added-seen (At i) d a w = endpoint-seen i a w
-  added-seen Nothing d a w = endpoint-seen w.device_count a (add_device d w)
+  added-seen : (g : Option ℕ) (d a : ℕ) → Kept (add_endpoint_on g d a)
+  added-seen (Some i) d a w = endpoint-seen i a w
+  added-seen Absent d a w = endpoint-seen w.device_count a (add_device d w)
 
-  placed-seen : (g : Found) (pid : ℕ) (p : List ℕ) → Kept (packet_endpoint_at g pid p)
-  placed-seen (At i) pid p w = refl
-  placed-seen Nothing pid p w = added-seen (device_for _ w) _ _ w
+  placed-seen : (g : Option ℕ) (pid : ℕ) (p : List ℕ) → Kept (packet_endpoint_at g pid p)
+  placed-seen (Some i) pid p w = refl
+  placed-seen Absent pid p w = added-seen (device_for _ w) _ _ w
 
   pub place-seen : (pid : ℕ) (p : List ℕ) → Kept (packet_endpoint pid p)
   place-seen pid p w = placed-seen (found pid p w) pid p w

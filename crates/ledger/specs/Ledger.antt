@@ -1,10 +1,9 @@
 -- To be believed: the ledger: what became of the payload of every data packet, told from the packets and the rules of 01, and not by subtraction. It has a line for each, and a call
 -- adds the line of its own packet and says anew what became of those before it. Words in quotation marks are those of 02, 8, where nothing else is named.
 -- Hold it to: 02, 8; 01, answer 8, "Rules of a transaction", "Rules of a group" (payloads), event kinds; extract_payload, transaction_end and group_status of decoder.rs
-use Rattle.std.specs.Prelude.{Bool, true, false, List, [], ◌∷◌, ◌++◌, ℕ, ◌+◌, ◌-◌, eqb, length}
+use Rattle.std.specs.Prelude.{Bool, true, false, List, [], ◌∷◌, ◌++◌, ℕ, ◌+◌, ◌-◌, eqb, length, Result, Ok, Err}
 use Rattle.usb.specs.Packet.{reason_of, checked_of}
-use Rattle.usb.specs.declared.Checked.{Checked}
-use Rattle.usb.specs.declared.Checked.TheVariants.{Valid, Malformed}
+use Rattle.usb.specs.declared.reason.Reason.{Reason}
 use Rattle.transaction.specs.Table.{pick}
 use Rattle.transaction.specs.Payload.{yields}
 use Rattle.transaction.specs.Status.{transaction_status}
@@ -87,9 +86,9 @@ running before [] = []
 running before (n ∷ ns) = before ∷ running (before + n) ns
 
 -- "valid DATA0 and DATA1 packets"; "In the mode of 6) the packets are those that yield payloads there": valid DATA2 and MDATA packets besides
-abbrev pub data_in : Bool → Checked → Bool
-data_in high (Valid pid) = yields high pid
-data_in high (Malformed reason) = false
+abbrev pub data_in : Bool → Result ℕ Reason → Bool
+data_in high (Ok pid) = yields high pid
+data_in high (Err reason) = false
 
 abbrev pub is_data : Bool → List ℕ → Bool
 is_data high p = data_in high (checked_of p)

@@ -12,7 +12,7 @@ use record::Counts;
 use rows::width;
 
 // The rows whose line is made of their own words; a state row's is made of state bytes.
-#[derive(Clone, Copy)]
+#[derive(Clone, Copy, PartialEq, Eq)]
 pub enum Kind {
     Device,
     Endpoint,
@@ -81,10 +81,8 @@ fn lines(out: &mut [u8], at: usize, kind: Kind, n: usize, log: &[u64]) -> usize
     ensures { Appended out.old at (lines_of kind n log.now) out.new result }
 {
     let mut next = at;
-    let mut i: usize = 0;
-    while i < n {
+    for i in 0..n {
         next = row_at(out, next, kind, i, n, log);
-        i += 1;
     }
     next
 }

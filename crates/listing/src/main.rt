@@ -2,7 +2,7 @@
 // Started with `--high` it decodes in the mode for high-bandwidth isochronous data (02, change request 6).
 #![tactic(auto)]
 
-ghost use Rattle.std.specs.Prelude.{◌≤◌, [], length};
+ghost use Rattle.std.specs.Prelude.{◌≤◌, [], length, IfOk};
 ghost use Rattle.text.specs.Append.{Room, Appended};
 ghost use Rattle.call.specs.State.{logs};
 ghost use Rattle.listing.specs.Prints.{no_rows, shown, Printed, text_room};
@@ -108,13 +108,11 @@ fn show(
         requests,
         shelf,
     );
-    let d = r.decoder;
-    let n = d.counts;
     report(
         r.answer,
         r.place,
         count_details(trace),
-        n,
+        r.decoder.counts,
         device_rows,
         endpoint_rows,
         packets,
@@ -173,28 +171,19 @@ fn print(high: bool, trace: &[u8], out: &mut [u8]) -> usize
     )
 }
 
-// What was read: how many bytes, and whether the input came to its end, or filled the buffer, before a read failed.
-#[derive(Clone, Copy)]
-struct Input {
-    len: usize,
-    whole: bool,
-}
-
-// Reads standard input into buf. Read::read_exact does not tell an end from a failure.
-fn read_input(from: &mut impl Read, buf: &mut [u8]) -> Input
-    ensures { result.len ≤ length buf.new }
+// Reads standard input into buf, up to its end or as far as buf goes; gives how many bytes. Read::read_exact does not tell an end from a failure.
+fn read_input(from: &mut impl Read, buf: &mut [u8]) -> io::Result<usize>
+    ensures { IfOk result (λ len. len ≤ length buf.new) }
 {
     let mut len: usize = 0;
     while len < buf.len() {
-        let Ok(n) = from.read(&mut buf[len..]) else {
-            return Input { len, whole: false };
-        };
+        let n = from.read(&mut buf[len..])?;
         if n == 0 {
-            return Input { len, whole: true };
+            break;
         }
         len += n;
     }
-    Input { len, whole: true }
+    Ok(len)
 }
 
 // What failed, said on standard error: the program's exit status does not say it (docs/DECISIONS.md, 73).
@@ -205,10 +194,7 @@ fn fail(rt: &impl Eprint, line: &str) {
 // Whether the program was started with an argument of this number.
 fn has_arg(rt: &impl Env, i: usize) -> bool {
     let mut start = [0u8; 6];
-    match rt.arg(i, &mut start) {
-        Err(FillError::NotPresent) => false,
-        _ => true,
-    }
+    !matches!(rt.arg(i, &mut start), Err(FillError::NotPresent))
 }
 
 // Whether `--high` is the one argument that the program was started with. A longer one does not fit.
@@ -228,13 +214,12 @@ fn main(rt: HostRuntime) {
     }
     // One byte more tells that the trace is too long.
     let mut input = [0u8; INPUT + 1];
-    let read = read_input(&mut rt.stdin(), &mut input);
-    if !read.whole {
+    let Ok(len) = read_input(&mut rt.stdin(), &mut input) else {
         fail(&rt, "listing: standard input could not be read");
         return;
-    }
+    };
     let mut out = [0u8; TEXT];
-    let end = print(high, &input[..read.len], &mut out);
+    let end = print(high, &input[..len], &mut out);
     if io::writer(&rt).write_all(&out[..end]).is_err() {
         fail(&rt, "listing: standard output could not be written");
     }

@@ -10,8 +10,7 @@ use Rattle.endpoints.specs.Table.{with_state}
 use Rattle.endpoints.specs.declared.Endpoint.{Endpoint}
 use Rattle.endpoints.specs.declared.Phase.{Phase}
 use Rattle.endpoints.specs.declared.Phase.TheVariants.{None, Early, Active, Ended}
-use Rattle.details.specs.declared.Found.{Found}
-use Rattle.details.specs.declared.Found.TheVariants.{At, Nothing}
+use Rattle.std.specs.Prelude.{Option, Some, None as Absent}
 use Rattle.rules.specs.Rows.{Row, log, PacketRow, EventRow, TransactionRow, naming, GroupRow, grouping, StateRow, StateBytes, T, G, Over}
 use Rattle.rules.specs.World.{World, event_ep, last_group, push, stamped, with_shelf, with_keepalive, last_stamped}
 use Rattle.rules.specs.Endpoints.{device_for, set_detail_on}
@@ -106,9 +105,9 @@ module _ (k : ℕ) (one : eqb 1 k ≡ false) (two : eqb 2 k ≡ false) (five : e
       by true q = ap logged (dropped-is high p time w q)
       by false q = ap logged (packet-is high p time w q) ∙ played-log k one two five six seven eight nine ten eleven (plan_of high p w) p time (kept high (plan_of high p w) p w)
 
-  detail-log : (g : Found) (number direction kind max : ℕ) (w : World) → logged (set_detail_on g number direction kind max w) ≡ logged w
-  detail-log (At d) number direction kind max w = refl
-  detail-log Nothing number direction kind max w = refl
+  detail-log : (g : Option ℕ) (number direction kind max : ℕ) (w : World) → logged (set_detail_on g number direction kind max w) ≡ logged w
+  detail-log (Some d) number direction kind max w = refl
+  detail-log Absent number direction kind max w = refl
 
 -- a call's packet row, where n bytes stood before it
 abbrev pub row_by : Call → ℕ → List ℕ

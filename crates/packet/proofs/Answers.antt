@@ -2,18 +2,17 @@
 use mathlib.Core.Path.{◌≡◌, refl, sym, ap, subst, ◌∙◌}
 use mathlib.Core.Bool.{Bool, true, false, not, cond, false≢true}
 use mathlib.Core.List.{List, [], ◌∷◌, append-nil}
-use Prim.Native.Nat.{ℕ, zero, suc, ◌+◌, ◌*◌, ◌/◌, ◌^◌, ◌<◌, ◌≤◌}
+use Prim.Native.Nat.{ℕ, ◌+◌, ◌*◌, ◌/◌, ◌<◌, ◌≤◌}
 use native.Mathlib.Omega.{arith}
-use borrow.Author.Tests.{le-ltb, eqb-true, eqb-false}
-use lib.Dec.{eqb, ltb}
-use lib.ListN.{length, get_or, set}
+use Rattle.std.specs.Prelude.{Result, Ok, Err}
+use borrow.Author.Tests.{le-ltb}
+use lib.ListN.{length, get_or}
 use lib.Seq.{sets}
 use Rattle.usb.specs.Packet.{reason_of}
 use Rattle.rows.specs.Widths.{packet_width}
 use Rattle.rows.proofs.WidthsLaws.{each-log}
 use Rattle.transaction.specs.Payload.{start_pid}
-use Rattle.details.specs.Search.{blank}
-use Rattle.endpoints.specs.Table.{word_at, entry_at}
+use Rattle.endpoints.specs.Table.{entry_at}
 use Rattle.endpoints.specs.Word as word
 use Rattle.details.specs.declared.Device.{Device}
 use Rattle.rules.specs.Rows.{log}
@@ -26,7 +25,7 @@ use Rattle.tally.specs.Tally.{Adds}
 use Rattle.tally.specs.declared.add.Tally.{Tally}
 use Rattle.tally.proofs.Added.{adds_none}
 use Rattle.tally.proofs.Steps.{packet-adds}
-use Rattle.record.specs.Answers.{Tests, first_of, packet_tests}
+use Rattle.record.specs.Answers.{first_of, packet_tests}
 use Rattle.record.proofs.FormedLaws.{WellFormed}
 use Rattle.record.specs.declared.Counts.{Counts}
 use Rattle.record.specs.declared.Decoder.{Decoder}
@@ -35,7 +34,7 @@ use Rattle.plan.specs.declared.Plan.{Plan}
 use Rattle.plan.proofs.Packet.{plan-shelf, packet-laden, dropped-is, plan-reason}
 use Rattle.plan.specs.Packet.{with_packet}
 use Rattle.plan.specs.Words.{plan_words}
-use Rattle.call.specs.Outcome.{Answers, Left, DevicesOf, TableOf, counts_after, decoder_of, is_ill, is_full, is_over, accepts, world_at}
+use Rattle.call.specs.Outcome.{Answers, Left, counts_after, decoder_of, is_ill, is_full, is_over, accepts, world_at}
 use Rattle.call.proofs.OutcomeLaws.{sound, refused, accepted}
 use Rattle.call.proofs.StateLaws.{word_each}
 use Rattle.call.specs.State.{Logs, State, logs, state, held_at, room_by, room_of}
@@ -51,15 +50,18 @@ use Rattle.tally.proofs.Totals.{totalled-over}
 use Rattle.write_packet.specs.Asked.{PlanAsks}
 use Rattle.write_packet.specs.Desk.{Desk, desk, performed}
 use Rattle.write_packet.specs.declared.Hand.{Hand}
-use Rattle.packet.specs.After.{sum_by, sum_of, sum_plan, sum_dropped, tally_of, tally_dropped, hand_of, dropped_decoder, decoder_by, keeping, change_by, is_change, changed, shelved, requested, Placed}
+use Rattle.packet.specs.After.{refusal, answer_in, sum_by, sum_of, sum_plan, sum_dropped, tally_of, tally_dropped, hand_of, dropped_decoder, decoder_by, keeping, change_by, is_change, changed, shelved, requested, Placed}
 use Rattle.packet.specs.After as after
 use Rattle.packet.specs.Call.{tests_of, PacketCall, after as after_call}
-use Rattle.packet.specs.Dropped.{fits_dropped, Drops}
+use Rattle.packet.specs.Dropped as dropping
+use Rattle.packet.specs.Dropped.{answer_of, left_of, is_room, Drops}
 use Rattle.packet.specs.declared.change.Change.{Change}
 use Rattle.packet.specs.declared.inner.Inner.{Inner}
+use Rattle.packet.specs.declared.sum.Refusal.{Refusal}
+use Rattle.packet.specs.declared.sum.Refusal.TheVariants.{NoRoom, Total}
 use Rattle.packet.specs.declared.sum.Sum.{Sum}
 use Rattle.packet.proofs.Changes.{changed-none, shelved-none, requested-none}
-use Rattle.packet.proofs.Left.{Begins, entry_desk, same, bytes_fit, packets_fit, in_words, asks, change-placed, shelf-left, left-state, left}
+use Rattle.packet.proofs.Left.{Begins, entry_desk, same, bytes_fit, packets_fit, in_words, asks, change-placed, shelf-left, sum_is, left-state, left}
 
 -- ---- the answer, once the first tests are passed
 
@@ -111,24 +113,24 @@ module _ (packet : List ℕ) (time : ℕ) (s : State) (shelf : List ℕ) (h : Pa
   over-is = ap is_over (packet-laden s.decoder.high packet time (with_shelf shelf (world_at s)) live) ∙ packet-over-is s.decoder.high packet time (laden packet s shelf).shelf s (room_of s.logs) (well packet time s shelf h) (totalled s (laden packet s shelf).shelf known)
 
   -- the sum's answer is the call's
-  sum-answer : (sum_plan s.decoder (held_at s) p (length packet) (room_of s.logs)).answer ≡ first_of (tests_of packet time s shelf)
+  sum-answer : answer_in (sum_plan s.decoder (held_at s) p (length packet) (room_of s.logs)) ≡ first_of (tests_of packet time s shelf)
   unfolding sum_plan
   sum-answer = by (room_for (held_at s) s.decoder.counts (tally_of s.decoder p (length packet)) (room_of s.logs)) (plan_passes p) full_is over-is ∙ sym (answer-is packet time s shelf h)
     where
-      by : (a o : Bool) {full over : Bool} → full ≡ not a → over ≡ o → (sum_by a o s.decoder (tally_of s.decoder p (length packet))).answer ≡ cond full 7 (cond over 9 (cond (is_dropped s.decoder.slot s.decoder.transaction) 8 0))
+      by : (a o : Bool) {full over : Bool} → full ≡ not a → over ≡ o → answer_in (sum_by a o s.decoder (tally_of s.decoder p (length packet))) ≡ cond full 7 (cond over 9 (cond (is_dropped s.decoder.slot s.decoder.transaction) 8 0))
       by true true e f = rw (e, f)
       by true false e f = rw (e, f, live)
       by false o e f = rw e
 
   -- a refused call leaves all as it was
-  pub refused-call : (a : ℕ) → a ≡ (sum_plan s.decoder (held_at s) p (length packet) (room_of s.logs)).answer → accepts a ≡ false → PacketCall packet time s shelf a s shelf
+  pub refused-call : (a : ℕ) → a ≡ answer_in (sum_plan s.decoder (held_at s) p (length packet) (room_of s.logs)) → accepts a ≡ false → PacketCall packet time s shelf a s shelf
   refused-call a e r = record { answers = refused a (e ∙ sum-answer) r; shelf = ap (λ (c : Bool). cond c (after_call packet time s shelf).shelf shelf) (sym r) }
 
   pub accepted-call : (b : Begins packet s) (k : Desk) (e : k ≡ performed p (entry_desk time (reason_of packet) s)) (y z : List ℕ) (f : y ≡ sets s.logs.bytes (held_at s).bytes packet) (g : z ≡ sets s.logs.packets ((held_at s).packets * packet_width) (s.decoder.counts.bytes ∷ time ∷ []))
       → PacketCall packet time s shelf 0 (left-state packet time s shelf b k e y z f g) (shelved (change_by s.decoder.high p s.decoder.counts.devices (held_at s).requests) packet shelf s.devices)
   accepted-call b k e y z f g =
       record {
-        answers = accepted 0 (sym (ap (λ (q : Plan). (sum_plan s.decoder (held_at s) q (length packet) (room_of s.logs)).answer) (same packet time s shelf b) ∙ b.sum) ∙ sum-answer) refl (left packet time s shelf b k e y z f g);
+        answers = accepted 0 (sym (ap (λ (q : Plan). answer_in (sum_plan s.decoder (held_at s) q (length packet) (room_of s.logs))) (same packet time s shelf b) ∙ b.sum) ∙ sum-answer) refl (left packet time s shelf b k e y z f g);
         shelf = shelf-left packet time s shelf b;
       }
 
@@ -147,6 +149,16 @@ pub unchanged : (packet : List ℕ) (time : ℕ) (s : State) (shelf : List ℕ) 
 unchanged packet time s shelf x t l c h r =
     with_parts packet time s shelf (changed-none c packet shelf s.devices h) (requested-none c packet shelf s.devices h s.logs.requests) (shelved-none c packet shelf s.devices h) r
 
+-- a refusal is no answer of a packet that is accepted
+not-accepted : (r : Refusal) → accepts (refusal r) ≡ false
+not-accepted NoRoom = refl
+not-accepted Total = refl
+
+-- what an accepted sum is
+abbrev sum_or : Sum → Result Sum Refusal → Sum
+sum_or s (Ok z) = z
+sum_or s (Err r) = s
+
 -- ---- the same, of what the code has: each part with its equation
 
 pub none-placed : {c : Change} (packet requests : List ℕ) → c ≡ keeping → Placed c packet requests
@@ -157,7 +169,7 @@ abbrev pub desk_by : Hand → State → Desk
 desk_by h s =
     desk h s.table s.logs.devices s.logs.endpoints s.logs.transactions s.logs.groups s.logs.statebytes s.logs.states s.logs.items s.logs.links
 
-pub record Decided (packet : List ℕ) (s : State) (p : Plan) (h n : Counts) (z : Sum) : Type 0 where
+pub record Decided (packet : List ℕ) (s : State) (p : Plan) (h n : Counts) (z : Result Sum Refusal) : Type 0 where
   pub passes : Passes packet s
   pub known : Known s.table
   pub live : is_dropped s.decoder.slot s.decoder.transaction ≡ false
@@ -177,34 +189,25 @@ unfolding sum_plan
 sum-words true d held p len room = λ i. sum_of (passes-words p i) d held (tally-words p len d.counts.endpoints d.waiting i) room
 sum-words false d held p len room = refl
 
-module _ (packet : List ℕ) (time : ℕ) (s : State) {plan : Plan} {rows room : Counts} {sum : Sum} (q : Decided packet s plan rows room sum) where
+module _ (packet : List ℕ) (time : ℕ) (s : State) {plan : Plan} {rows room : Counts} {sum : Result Sum Refusal} (q : Decided packet s plan rows room sum) where
   sum_at : sum ≡ sum_plan s.decoder (held_at s) (plan_of s.decoder.high packet (world_at s)) (length packet) (room_of s.logs)
   sum_at = q.sum ∙ ((λ i. sum_plan s.decoder (q.rows i) (q.plan i) (length packet) (q.room i)) ∙ sum-words q.words s.decoder (held_at s) (plan_of s.decoder.high packet (world_at s)) (length packet) (room_of s.logs))
-
-  -- an answer that is not 0 is 7 or 9
-  not-accepted : (sum.answer ≡ 0 → ⊥) → accepts sum.answer ≡ false
-  unfolding sum_plan
-  not-accepted ne = ap (λ (z : Sum). accepts z.answer) sum_at ∙ by (room_for (held_at s) s.decoder.counts (tally_of s.decoder (plan_of s.decoder.high packet (world_at s)) (length packet)) (room_of s.logs)) (plan_passes _) (λ e. ne (ap (λ (z : Sum). z.answer) sum_at ∙ e))
-    where
-      by : (a o : Bool) → ((sum_by a o s.decoder (tally_of s.decoder (plan_of s.decoder.high packet (world_at s)) (length packet))).answer ≡ 0 → ⊥) → accepts (sum_by a o s.decoder (tally_of s.decoder (plan_of s.decoder.high packet (world_at s)) (length packet))).answer ≡ false
-      by true true h = refl
-      by true false h = absurd (h refl)
-      by false o h = refl
 
   -- the plan does not go by the shelf
   sum-laden : (shelf : List ℕ) → sum ≡ sum_plan s.decoder (held_at s) (plan_of s.decoder.high packet (laden packet s shelf)) (length packet) (room_of s.logs)
   sum-laden shelf = sum_at ∙ ap (λ (x : Plan). sum_plan s.decoder (held_at s) x (length packet) (room_of s.logs)) (sym (plan-shelf s.decoder.high packet (laden packet s shelf).shelf (world_at s)))
 
-  pub refused_by : (sum.answer ≡ 0 → ⊥) → {c : Change} → c ≡ keeping → (shelf : List ℕ)
-      → PacketCall packet time s shelf sum.answer (state s.decoder (changed c packet shelf s.devices) s.table (with_requests (requested c packet shelf s.devices s.logs.requests) s.logs)) (shelved c packet shelf s.devices)
-  refused_by ne {c} e shelf =
-      unchanged packet time s shelf s.decoder s.table s.logs c (ap is_change e)
-      (refused-call packet time s shelf q.passes q.known q.live sum.answer (ap (λ (z : Sum). z.answer) (sum-laden shelf)) (not-accepted ne))
+  pub refused_by : {r : Refusal} → sum ≡ Err r → {c : Change} → c ≡ keeping → {x : Inner} → x ≡ dropping.refused r s.decoder c → (shelf : List ℕ)
+      → PacketCall packet time s shelf x.answer (state x.decoder (changed x.change packet shelf s.devices) s.table (with_requests (requested x.change packet shelf s.devices s.logs.requests) s.logs)) (shelved x.change packet shelf s.devices)
+  refused_by {r} bad {c} e f shelf =
+      subst (λ (y : Inner). PacketCall packet time s shelf y.answer (state y.decoder (changed y.change packet shelf s.devices) s.table (with_requests (requested y.change packet shelf s.devices s.logs.requests) s.logs)) (shelved y.change packet shelf s.devices)) (sym f)
+      (unchanged packet time s shelf s.decoder s.table s.logs c (ap is_change e)
+      (refused-call packet time s shelf q.passes q.known q.live (refusal r) (ap answer_in (sym bad ∙ sum-laden shelf)) (not-accepted r)))
 
-  module _ (ok : sum.answer ≡ 0) where
+  module _ {z : Sum} (ok : sum ≡ Ok z) where
     begins : Begins packet s
     begins =
-        record { ill = q.passes.ill; live = q.live; known = q.known; many = q.many; token = q.token; first = q.first; sum = sym (ap (λ (z : Sum). z.answer) sum_at) ∙ ok }
+        record { ill = q.passes.ill; live = q.live; known = q.known; many = q.many; token = q.token; first = q.first; sum = ap answer_in (sym sum_at ∙ ok) }
 
     -- there is room, so the plan's numbers are words
     plan-is : (shelf : List ℕ) → plan ≡ plan_of s.decoder.high packet (laden packet s shelf)
@@ -237,19 +240,22 @@ module _ (packet : List ℕ) (time : ℕ) (s : State) {plan : Plan} {rows room :
     pub placed_by : {c : Change} → c ≡ change_by s.decoder.high plan s.decoder.counts.devices rows.requests → Placed c packet s.logs.requests
     placed_by e = subst (λ (c : Change). Placed c packet s.logs.requests) (sym (change-is [] e)) (change-placed packet time s [] begins)
 
-    pub accepted-by : {h : Hand} {k : Desk} {x : Decoder} {c : Change} {y z : List ℕ} → h ≡ hand_of time plan.reason s.decoder rows s.table → k ≡ performed plan (desk_by h s)
-        → y ≡ sets s.logs.bytes rows.bytes packet → z ≡ sets s.logs.packets (rows.packets * packet_width) (s.decoder.counts.bytes ∷ time ∷ [])
-        → x ≡ decoder_by s.decoder plan sum k.hand → c ≡ change_by s.decoder.high plan s.decoder.counts.devices rows.requests → (shelf : List ℕ)
-        → PacketCall packet time s shelf 0 (state x (changed c packet shelf s.devices) k.table (logs y k.devices k.endpoints z s.logs.events k.transactions k.groups k.statebytes k.states k.items k.links (requested c packet shelf s.devices s.logs.requests))) (shelved c packet shelf s.devices)
-    accepted-by {h} {k} {x} {c} {y} {z} e1 e2 f g e3 e4 shelf =
+    sum-is : (shelf : List ℕ) → z ≡ after.accepted s.decoder (tally_of s.decoder (plan_of s.decoder.high packet (laden packet s shelf)) (length packet))
+    sum-is shelf = ap (sum_or z) (sym ok ∙ (sum-laden shelf ∙ sum_is packet time s shelf begins))
+
+    pub accepted-by : {h : Hand} {k : Desk} {x : Decoder} {c : Change} {y m : List ℕ} → h ≡ hand_of time plan.reason s.decoder rows s.table → k ≡ performed plan (desk_by h s)
+        → y ≡ sets s.logs.bytes rows.bytes packet → m ≡ sets s.logs.packets (rows.packets * packet_width) (s.decoder.counts.bytes ∷ time ∷ [])
+        → x ≡ decoder_by s.decoder plan z k.hand → c ≡ change_by s.decoder.high plan s.decoder.counts.devices rows.requests → (shelf : List ℕ)
+        → PacketCall packet time s shelf 0 (state x (changed c packet shelf s.devices) k.table (logs y k.devices k.endpoints m s.logs.events k.transactions k.groups k.statebytes k.states k.items k.links (requested c packet shelf s.devices s.logs.requests))) (shelved c packet shelf s.devices)
+    accepted-by {h} {k} {x} {c} {y} {m} e1 e2 f g e3 e4 shelf =
         let p = plan_of s.decoder.high packet (laden packet s shelf) in
         let k1 : k ≡ performed p (entry_desk time (reason_of packet) s) = e2 ∙ λ i. performed (plan-is shelf i) (desk_by ((e1 ∙ λ j. hand_of time (reason-is j) s.decoder (q.rows j) s.table) i) s) in
-        let y1 = f ∙ ap (λ (m : Counts). sets s.logs.bytes m.bytes packet) q.rows in
-        let z1 = g ∙ ap (λ (m : Counts). sets s.logs.packets (m.packets * packet_width) (s.decoder.counts.bytes ∷ time ∷ [])) q.rows in
-        let x1 : x ≡ decoder_by s.decoder p (sum_plan s.decoder (held_at s) p (length packet) (room_of s.logs)) k.hand = e3 ∙ λ i. decoder_by s.decoder (plan-is shelf i) (sum-laden shelf i) k.hand in
-        subst (λ (a : Decoder). PacketCall packet time s shelf 0 (state a (changed c packet shelf s.devices) k.table (logs y k.devices k.endpoints z s.logs.events k.transactions k.groups k.statebytes k.states k.items k.links (requested c packet shelf s.devices s.logs.requests))) (shelved c packet shelf s.devices)) (sym x1)
-        (subst (λ (a : Change). PacketCall packet time s shelf 0 (state (decoder_by s.decoder p (sum_plan s.decoder (held_at s) p (length packet) (room_of s.logs)) k.hand) (changed a packet shelf s.devices) k.table (logs y k.devices k.endpoints z s.logs.events k.transactions k.groups k.statebytes k.states k.items k.links (requested a packet shelf s.devices s.logs.requests))) (shelved a packet shelf s.devices)) (sym (change-is shelf e4))
-        (accepted-call packet time s shelf q.passes q.known q.live begins k k1 y z y1 z1))
+        let y1 = f ∙ ap (λ (a : Counts). sets s.logs.bytes a.bytes packet) q.rows in
+        let z1 = g ∙ ap (λ (a : Counts). sets s.logs.packets (a.packets * packet_width) (s.decoder.counts.bytes ∷ time ∷ [])) q.rows in
+        let x1 : x ≡ decoder_by s.decoder p (after.accepted s.decoder (tally_of s.decoder p (length packet))) k.hand = e3 ∙ λ i. decoder_by s.decoder (plan-is shelf i) (sum-is shelf i) k.hand in
+        subst (λ (a : Decoder). PacketCall packet time s shelf 0 (state a (changed c packet shelf s.devices) k.table (logs y k.devices k.endpoints m s.logs.events k.transactions k.groups k.statebytes k.states k.items k.links (requested c packet shelf s.devices s.logs.requests))) (shelved c packet shelf s.devices)) (sym x1)
+        (subst (λ (a : Change). PacketCall packet time s shelf 0 (state (decoder_by s.decoder p (after.accepted s.decoder (tally_of s.decoder p (length packet))) k.hand) (changed a packet shelf s.devices) k.table (logs y k.devices k.endpoints m s.logs.events k.transactions k.groups k.statebytes k.states k.items k.links (requested a packet shelf s.devices s.logs.requests))) (shelved a packet shelf s.devices)) (sym (change-is shelf e4))
+        (accepted-call packet time s shelf q.passes q.known q.live begins k k1 y m y1 z1))
 
 -- ---- a packet that drops the suspended transaction
 
@@ -303,9 +309,9 @@ module _ (packet : List ℕ) (time : ℕ) (s : State) (shelf : List ℕ) (h : Pa
             refl refl g refl refl refl refl refl refl refl refl;
       }
 
-  sum_is : (b : Bool) → room_for (held_at s) d.counts t (room_of s.logs) ≡ b → sum_dropped d (held_at s) (length packet) (room_of s.logs) ≡ sum_by b false d t
+  dropped_sum : (b : Bool) → room_for (held_at s) d.counts t (room_of s.logs) ≡ b → sum_dropped d (held_at s) (length packet) (room_of s.logs) ≡ sum_by b false d t
   unfolding sum_dropped
-  sum_is b e = ap (λ (c : Bool). sum_by c false d t) e
+  dropped_sum b e = ap (λ (c : Bool). sum_by c false d t) e
 
   -- the state with these three parts changed
   abbrev state_by : Decoder → List ℕ → List ℕ → State
@@ -317,11 +323,11 @@ module _ (packet : List ℕ) (time : ℕ) (s : State) (shelf : List ℕ) (h : Pa
     where
       by : (b : Bool) → room_for (held_at s) d.counts t (room_of s.logs) ≡ b → PacketCall packet time s shelf r.answer (state_by r.decoder y z) shelf
       by true e =
-          let q1 = sum_is true e in
-          let a : r.answer ≡ 8 = q.answer ∙ ap (λ (z : Sum). cond (eqb z.answer 0) 8 z.answer) q1 in
-          let c : r.decoder ≡ dropped_decoder d time (after.accepted d t) = q.decoder ∙ ap (λ (z : Sum). cond (eqb z.answer 0) (dropped_decoder d time z) d) q1 in
-          let u = q.bytes ∙ ap (λ (z : Sum). cond (eqb z.answer 0) (sets s.logs.bytes (held_at s).bytes packet) s.logs.bytes) q1 in
-          let v = q.packets ∙ ap (λ (z : Sum). cond (eqb z.answer 0) (sets s.logs.packets ((held_at s).packets * packet_width) (d.counts.bytes ∷ time ∷ [])) s.logs.packets) q1 in
+          let q1 = dropped_sum true e in
+          let a : r.answer ≡ 8 = q.answer ∙ ap answer_of q1 in
+          let c : r.decoder ≡ dropped_decoder d time (after.accepted d t) = q.decoder ∙ ap (left_of d time) q1 in
+          let u = q.bytes ∙ ap (λ (z : Result Sum Refusal). cond (is_room z) (sets s.logs.bytes (held_at s).bytes packet) s.logs.bytes) q1 in
+          let v = q.packets ∙ ap (λ (z : Result Sum Refusal). cond (is_room z) (sets s.logs.packets ((held_at s).packets * packet_width) (d.counts.bytes ∷ time ∷ [])) s.logs.packets) q1 in
           record {
             answers =
                 accepted r.answer (a ∙ sym (sum-by true e)) (ap accepts a)
@@ -330,11 +336,11 @@ module _ (packet : List ℕ) (time : ℕ) (s : State) (shelf : List ℕ) (h : Pa
             shelf = sym (ap (λ (n : ℕ). cond (accepts n) (after_call packet time s shelf).shelf shelf) a ∙ ap (λ (x : World). x.shelf) world_is);
           }
       by false e =
-          let q1 = sum_is false e in
-          let a : r.answer ≡ 7 = q.answer ∙ ap (λ (z : Sum). cond (eqb z.answer 0) 8 z.answer) q1 in
-          let c : r.decoder ≡ d = q.decoder ∙ ap (λ (z : Sum). cond (eqb z.answer 0) (dropped_decoder d time z) d) q1 in
-          let u = q.bytes ∙ ap (λ (z : Sum). cond (eqb z.answer 0) (sets s.logs.bytes (held_at s).bytes packet) s.logs.bytes) q1 in
-          let v = q.packets ∙ ap (λ (z : Sum). cond (eqb z.answer 0) (sets s.logs.packets ((held_at s).packets * packet_width) (d.counts.bytes ∷ time ∷ [])) s.logs.packets) q1 in
+          let q1 = dropped_sum false e in
+          let a : r.answer ≡ 7 = q.answer ∙ ap answer_of q1 in
+          let c : r.decoder ≡ d = q.decoder ∙ ap (left_of d time) q1 in
+          let u = q.bytes ∙ ap (λ (z : Result Sum Refusal). cond (is_room z) (sets s.logs.bytes (held_at s).bytes packet) s.logs.bytes) q1 in
+          let v = q.packets ∙ ap (λ (z : Result Sum Refusal). cond (is_room z) (sets s.logs.packets ((held_at s).packets * packet_width) (d.counts.bytes ∷ time ∷ [])) s.logs.packets) q1 in
           record {
             answers = subst (λ (x : State). Answers (tests_of packet time s shelf) (after_call packet time s shelf) d.finished s r.answer x) (λ i. state_by (sym c i) (sym u i) (sym v i)) (refused r.answer (a ∙ sym (sum-by false e)) (ap accepts a));
             shelf = sym (ap (λ (n : ℕ). cond (accepts n) (after_call packet time s shelf).shelf shelf) a);

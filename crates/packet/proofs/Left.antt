@@ -1,35 +1,32 @@
 -- A packet that is not dropped: what it asks before it writes, and that it leaves what the rules leave.
 use mathlib.Core.Path.{◌≡◌, refl, sym, ap, subst, ◌∙◌}
-use mathlib.Core.Bool.{Bool, true, false, ◌&&◌, ◌||◌, not, cond, false≢true, true≢false}
+use mathlib.Core.Bool.{Bool, true, false, ◌&&◌, false≢true}
 use mathlib.Core.List.{List, [], ◌∷◌, append-nil}
-use Prim.Native.Nat.{ℕ, ◌+◌, ◌*◌, ◌^◌, ◌<◌, ◌≤◌}
+use Prim.Native.Nat.{ℕ, ◌+◌, ◌*◌, ◌<◌, ◌≤◌}
 use native.Mathlib.Omega.{arith}
-use lib.Dec.{eqb, ltb}
-use lib.ListN.{length, get_or, set, length-set}
-use lib.Seq.{sets, get_or-set_other}
+use Rattle.std.specs.Prelude.{Ok}
+use lib.ListN.{length, get_or}
+use lib.Seq.{sets}
 use Rattle.rules.specs.declared.Stamp.{Stamp}
 use Rattle.usb.specs.Packet.{reason_of}
 use Rattle.rows.specs.Widths.{event_width, packet_width, request_width}
 use Rattle.rows.proofs.WidthsLaws.{each-log}
 use Rattle.rows.specs.One.{one}
-use Rattle.transaction.specs.Payload.{start_pid, extract_payload}
+use Rattle.transaction.specs.Payload.{start_pid}
 use Rattle.transaction.specs.Status.{transaction_status}
 use Rattle.transaction.specs.Table.{pick}
 use Rattle.usb.specs.Fields.{setup_data_of}
 use Rattle.transaction.specs.declared.Transaction.{Transaction}
 use Rattle.transaction.proofs.Laws.{extract-keeps}
-use Rattle.details.specs.Search.{blank}
-use Rattle.endpoints.specs.Table.{word_at, entry_at}
-use Rattle.endpoints.proofs.TableLaws.{Fits, fits-entry}
+use Rattle.endpoints.proofs.TableLaws.{fits-entry}
 use Rattle.details.specs.declared.Device.{Device}
-use Rattle.endpoints.specs.declared.Endpoint.{Endpoint}
-use Rattle.rules.specs.Rows.{Row, Asked, asking, request_words, log}
-use Rattle.rules.specs.World.{World, with_shelf, stamped, ◌▷◌, with_id, with_link, waiting_of}
+use Rattle.rules.specs.Rows.{Asked, asking, request_words, log}
+use Rattle.rules.specs.World.{World, with_shelf, stamped, with_id, waiting_of}
 use Rattle.rules.specs.Transactions.{is_dropped, state_at, shelf_with}
 use Rattle.rules.specs.Decoder.{handle_raw_packet}
 use Rattle.rules.specs.declared.Slot.{Slot}
 use Rattle.rules.specs.declared.Slot.TheVariants.{Empty, Current, Suspended}
-use Rattle.tally.specs.Tally.{words_in, in_log, words_for, Adds}
+use Rattle.tally.specs.Tally.{in_log, words_for, Adds}
 use Rattle.tally.specs.declared.add.Tally.{Tally}
 use Rattle.update.specs.Update.{when, decide_resume}
 use Rattle.record.proofs.FormedLaws.{WellFormed}
@@ -44,12 +41,12 @@ use Rattle.plan.specs.Step.{opened, begun}
 use Rattle.plan.specs.Sound.{world1, world2, PlanFits}
 use Rattle.plan.specs.declared.Plan.{Plan}
 use Rattle.plan.proofs.Packet.{plan-shelf, packet-laden}
-use Rattle.plan.proofs.Played.{played-log, played-event, played-keepalive, played-slot, tied_to, Tied, played-tied}
+use Rattle.plan.proofs.Played.{played-log, played-event, played-keepalive, played-slot, tied_to, played-tied}
 use Rattle.plan.specs.Devices.{changes, adds_device, length_of, row_asked}
 use Rattle.plan.proofs.Devices.{device_begun, asked_close, played-devices, played-device-count, plan-behind}
 use Rattle.plan.proofs.Requests.{played-requests}
 use Rattle.descriptors.specs.Complete.{note_by, shelf_by}
-use Rattle.shelving.specs.Shelve.{is_asked, reading_of, asked_with, laid_shelf, LongIf, RoomIf, shelf_after, note_after, row_after as rowShelved, request_after, Shelves}
+use Rattle.shelving.specs.Shelve.{is_asked, reading_of, asked_with, laid_shelf, RoomIf, shelf_after, note_after, row_after as rowShelved, request_after, Shelves}
 use Rattle.shelving.specs.declared.Shelved.{Shelved}
 use Rattle.shelving.proofs.Rules.{row_of, shelf-is, row_is, request-is}
 use Rattle.plan.proofs.Sound.{Sane, fits-packet, played-count, words-packet}
@@ -57,7 +54,7 @@ use Rattle.plan.specs.Words.{plan_words}
 use Rattle.call.specs.Outcome.{counts_after, decoder_of, DevicesOf, TableOf, Appends, Left, is_ill, world_at}
 use Rattle.call.proofs.OutcomeLaws.{sound}
 use Rattle.call.proofs.StateLaws.{word_each}
-use Rattle.call.specs.State.{Logs, State, logs, state, room_by, room_of, held_at}
+use Rattle.call.specs.State.{State, logs, state, room_by, room_of, held_at}
 use Rattle.call.specs.Share.{Known, tied}
 use Rattle.tally.specs.Passes.{plan_passes}
 use Rattle.tally.specs.Tallies.{tally_plan, add_counts, room_for}
@@ -66,13 +63,12 @@ use Rattle.tally.proofs.Counted.{adds-shelf, played-adds}
 use Rattle.tally.proofs.Counts.{counts-after, world_has}
 use Rattle.tally.proofs.Formed.{three, old_stands, waiting-is}
 use Rattle.tally.proofs.Planned.{plan_suits}
-use Rattle.write.proofs.Holds.{Space, Worded}
-use Rattle.write_packet.specs.Asked.{RoomAll, PlanAsks}
+use Rattle.write.proofs.Holds.{Worded}
+use Rattle.write_packet.specs.Asked.{PlanAsks}
 use Rattle.write_packet.specs.Desk.{Desk, desk, performed}
 use Rattle.write_packet.proofs.Held.{HoldsAll, Matches, SpaceAll, Brought}
 use Rattle.write_packet.proofs.PlanLaws.{all_start, room-all, played-holds, ready}
-use Rattle.write_packet.specs.declared.Hand.{Hand}
-use Rattle.packet.specs.After.{sum_by, sum_of, sum_plan, tally_of, accepted, hand_of, decoder_by, change_by, own_row, changed, shelved, requested, Placed}
+use Rattle.packet.specs.After.{answer_in, sum_by, sum_of, sum_plan, tally_of, accepted, hand_of, decoder_by, change_by, own_row, changed, shelved, requested, Placed}
 use Rattle.packet.specs.declared.change.Change.{Change}
 use Rattle.packet.specs.declared.sum.Sum.{Sum}
 use Rattle.packet.proofs.Changes.{changed-length, changed_beyond, put_at, begun-told, change-told, change_in}
@@ -92,14 +88,14 @@ pub record Begins (packet : List ℕ) (s : State) : Type 0 where
   pub many : length s.devices ≡ 64
   pub token : start_pid s.decoder.transaction.style < 256
   pub first : get_or packet 0 0 < 256
-  pub sum : (sum_plan s.decoder (held_at s) (plan_of s.decoder.high packet (world_at s)) (length packet) (room_of s.logs)).answer ≡ 0
+  pub sum : answer_in (sum_plan s.decoder (held_at s) (plan_of s.decoder.high packet (world_at s)) (length packet) (room_of s.logs)) ≡ 0
 
 -- a sum with the answer 0: there is room, and no total passes
-sum_room : (over : Bool) (d : Decoder) (held : Counts) (t : Tally) (room : Counts) → (sum_of over d held t room).answer ≡ 0
-    → (room_for held d.counts t room ≡ true) × ((over ≡ false) × (sum_of over d held t room ≡ accepted d t))
+sum_room : (over : Bool) (d : Decoder) (held : Counts) (t : Tally) (room : Counts) → answer_in (sum_of over d held t room) ≡ 0
+    → (room_for held d.counts t room ≡ true) × ((over ≡ false) × (sum_of over d held t room ≡ Ok (accepted d t)))
 sum_room over d held t room h = by (room_for held d.counts t room) over h
   where
-    by : (b o : Bool) → (sum_by b o d t).answer ≡ 0 → (b ≡ true) × ((o ≡ false) × (sum_by b o d t ≡ accepted d t))
+    by : (b o : Bool) → answer_in (sum_by b o d t) ≡ 0 → (b ≡ true) × ((o ≡ false) × (sum_by b o d t ≡ Ok (accepted d t)))
     by true true h = absurd (omega arith)
     by true false h = (refl, (refl, refl))
     by false o h = absurd (omega arith)
@@ -155,9 +151,9 @@ module _ (packet : List ℕ) (time : ℕ) (s : State) (h : List ℕ) (b : Begins
 
   -- ---- room
 
-  summed : (room_for n d.counts t room ≡ true) × ((plan_passes p ≡ false) × (sum_of (plan_passes p) d n t room ≡ accepted d t))
+  summed : (room_for n d.counts t room ≡ true) × ((plan_passes p ≡ false) × (sum_of (plan_passes p) d n t room ≡ Ok (accepted d t)))
   unfolding sum_plan
-  summed = sum_room (plan_passes p) d n t room (ap (λ (q : Plan). (sum_plan d n q (length packet) room).answer) same ∙ b.sum)
+  summed = sum_room (plan_passes p) d n t room (ap (λ (q : Plan). answer_in (sum_plan d n q (length packet) room)) same ∙ b.sum)
 
   fitted : (fitting (add_counts n t) room ≡ true) × (numbered (add_counts d.counts t) ≡ true)
   fitted = both (fitting (add_counts n t) room) (numbered (add_counts d.counts t)) summed.0
@@ -299,9 +295,9 @@ module _ (packet : List ℕ) (time : ℕ) (s : State) (h : List ℕ) (b : Begins
   -- ---- what it leaves
 
   abbrev sum : Sum
-  sum = sum_plan d n p (length packet) room
+  sum = accepted d t
 
-  sum_is : sum ≡ accepted d t
+  pub sum_is : sum_plan d n p (length packet) room ≡ Ok sum
   unfolding sum_plan
   sum_is = summed.1.1
 
@@ -318,8 +314,8 @@ module _ (packet : List ℕ) (time : ℕ) (s : State) (h : List ℕ) (b : Begins
     decoder-is : decoder_by d p sum k.hand ≡ decoder_of d d.finished after
     unfolding decoder_of
     decoder-is =
-        let n : sum.counts ≡ counts_after d.counts after = ap (λ (z : Sum). z.counts) sum_is ∙ sym (counts-after (world_has d s.devices s.table) (adds-shelf l adds)) in
-        let m : sum.waiting ≡ waiting_of after = ap (λ (z : Sum). z.waiting) sum_is ∙ sym adds.waiting in
+        let n : sum.counts ≡ counts_after d.counts after = sym (counts-after (world_has d s.devices s.table) (adds-shelf l adds)) in
+        let m : sum.waiting ≡ waiting_of after = sym adds.waiting in
         let g = played-slot p packet time w in
         let v = played-event p packet time w in
         let a = played-keepalive p packet time w in

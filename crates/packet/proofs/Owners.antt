@@ -12,8 +12,8 @@ use Rattle.usb.specs.Packet.{checked_of, format_of, data_format}
 use Rattle.usb.proofs.Laws.{data-length}
 use Rattle.usb.specs.Pid.{DATA0, DATA1, DATA2, MDATA, SPLIT, MALFORMED}
 use Rattle.usb.specs.Fields.{token_of, setup_data_of}
-use Rattle.usb.specs.declared.Checked.{Checked}
-use Rattle.usb.specs.declared.Checked.TheVariants.{Valid, Malformed}
+use Rattle.std.specs.Prelude.{Result, Ok, Err}
+use Rattle.usb.specs.declared.reason.Reason.{Reason}
 use Rattle.transaction.specs.Payload.{start_pid, yields, extract_payload}
 use Rattle.transaction.proofs.HighLaws.{yields-any}
 use Rattle.transaction.specs.Status.{judged, judged_of, status_of, transaction_status}
@@ -26,8 +26,7 @@ use Rattle.transaction.specs.declared.Style.TheVariants.{Nothing, Simple, Split,
 use Rattle.transaction.specs.declared.Transaction.{Transaction}
 use Rattle.details.specs.Kind.{Unknown}
 use Rattle.details.specs.declared.Detail.{Detail}
-use Rattle.details.specs.declared.Found.{Found}
-use Rattle.details.specs.declared.Found.TheVariants.{At, Nothing as Missing}
+use Rattle.std.specs.Prelude.{Option, Some, None}
 use Rattle.endpoints.specs.declared.Endpoint.{Endpoint}
 use Rattle.group.proofs.Laws.{group-keeps}
 use Rattle.rules.specs.World.{World, invalid_ep}
@@ -77,9 +76,9 @@ module _ (w : World) (three : 3 ≤ w.count) (owned : (i : ℕ) → i < w.count 
   abbrev Owned : Middle → Type 0
   Owned m = m.entry.device < w.device_count + one m.begin.device
 
-  new_owned : (f : Found) (owner address : ℕ) → Within w.device_count f → OwnedAt (new_on f owner address w)
-  new_owned (At d) owner address h = omega (arith, h)
-  new_owned Missing owner address h = omega arith
+  new_owned : (f : Option ℕ) (owner address : ℕ) → Within w.device_count f → OwnedAt (new_on f owner address w)
+  new_owned (Some d) owner address h = omega (arith, h)
+  new_owned None owner address h = omega arith
 
   module _ (x0 : ℕ) (there : x0 < w.count) (e0 : Endpoint) (own : e0.device < w.device_count) where
     standing_owned : (i : ℕ) → i < w.count → OwnedAt (standing x0 e0 i w)
@@ -93,9 +92,9 @@ module _ (w : World) (three : 3 ≤ w.count) (owned : (i : ℕ) → i < w.count 
     unfolding place_of
     place_owned pid packet = by (found pid packet w) (found_within pid packet w three)
       where
-        by : (f : Found) → Within w.count f → OwnedAt (place_at f x0 e0 pid packet w)
-        by (At i) h = standing_owned i h
-        by Missing h = new_owned (device_for (token_of packet).address w) (token_of packet).address (address_for pid (token_of packet).number) (device_within (token_of packet).address w)
+        by : (f : Option ℕ) → Within w.count f → OwnedAt (place_at f x0 e0 pid packet w)
+        by (Some i) h = standing_owned i h
+        by None h = new_owned (device_for (token_of packet).address w) (token_of packet).address (address_for pid (token_of packet).number) (device_within (token_of packet).address w)
 
     invalid_owned : OwnedAt (standing x0 e0 invalid_ep w)
     invalid_owned = standing_owned invalid_ep (omega (arith, three))
@@ -234,9 +233,9 @@ module _ (high : Bool) (packet : List ℕ) (w : World) (x0 : ℕ) (e : Endpoint)
   unfolding transaction_status plan_by
   by-long u h = by (checked_of packet) refl h
     where
-      by : (c : Checked) → checked_of packet ≡ c → keeps high (plan_by high (judged_of high u c (length packet)) x0 e t packet w) ≡ true → 3 ≤ length packet
-      by (Malformed reason) q h = absurd (rowed _ _ (starting-row Invalid x0 _ MALFORMED packet _ w) h)
-      by (Valid pid) q h = (data-length packet pid q (kept_data pid (status_of high u.style u pid (length packet)) h)).0
+      by : (c : Result ℕ Reason) → checked_of packet ≡ c → keeps high (plan_by high (judged_of high u c (length packet)) x0 e t packet w) ≡ true → 3 ≤ length packet
+      by (Err reason) q h = absurd (rowed _ _ (starting-row Invalid x0 _ MALFORMED packet _ w) h)
+      by (Ok pid) q h = (data-length packet pid q (kept_data pid (status_of high u.style u pid (length packet)) h)).0
 
 -- a payload that is laid by is that of a data packet
 pub plan-long : (high : Bool) (packet : List ℕ) (w : World) → keeps high (plan_of high packet w) ≡ true → 3 ≤ length packet

@@ -20,8 +20,7 @@ use Rattle.transaction.specs.declared.Transaction.{Transaction}
 use Rattle.details.specs.Details.{details_of}
 use Rattle.details.specs.Kind.{Unknown}
 use Rattle.endpoints.specs.declared.Endpoint.{Endpoint}
-use Rattle.details.specs.declared.Found.{Found}
-use Rattle.details.specs.declared.Found.TheVariants.{At, Nothing as Missing}
+use Rattle.std.specs.Prelude.{Option, Some, None}
 use Rattle.rules.specs.World.{World, invalid_ep}
 use Rattle.rules.specs.Endpoints.{device_for, address_for, found}
 use Rattle.rules.specs.Transactions.{state_at}
@@ -37,17 +36,17 @@ module _ (w : World) (three : 3 ≤ w.count) (owned : (i : ℕ) → i < w.count 
   abbrev Old : Place → Type 0
   Old p = p.device ≡ false → p.place < w.device_count
 
-  new-old : (f : Found) (owner address : ℕ) → Within w.device_count f → Old (new_on f owner address w)
-  new-old (At d) owner address h q = h
-  new-old Missing owner address h q = absurd (true≢false q)
+  new-old : (f : Option ℕ) (owner address : ℕ) → Within w.device_count f → Old (new_on f owner address w)
+  new-old (Some d) owner address h q = h
+  new-old None owner address h q = absurd (true≢false q)
 
   place-old : (x0 : ℕ) (e0 : Endpoint) (pid : ℕ) (packet : List ℕ) → Old (place_of x0 e0 pid packet w)
   unfolding place_of
   place-old x0 e0 pid packet = by (found pid packet w) (found_within pid packet w three)
     where
-      by : (f : Found) → Within w.count f → Old (place_at f x0 e0 pid packet w)
-      by (At i) h q = owned i h
-      by Missing h q =
+      by : (f : Option ℕ) → Within w.count f → Old (place_at f x0 e0 pid packet w)
+      by (Some i) h q = owned i h
+      by None h q =
           new-old (device_for (token_of packet).address w) (token_of packet).address (address_for pid (token_of packet).number)
           (device_within (token_of packet).address w) q
 

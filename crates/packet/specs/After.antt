@@ -1,18 +1,16 @@
 -- Inner (cited by private contracts alone): what a packet leaves, as the code puts it together: the sum, the record, and the change of the devices, the shelf and
 -- the log of requests.
 -- proofs/Left.antt and proofs/Answers.antt tie it to the rules.
-use Rattle.std.specs.Prelude.{ℕ, ◌+◌, ◌<◌, Bool, true, false, ◌&&◌, ◌||◌, not, List, [], ◌≡◌, get_or, set}
-use Rattle.std.proofs.lemmas.List.Edits.{sets}
+use Rattle.std.specs.Prelude.{ℕ, ◌+◌, ◌<◌, Bool, true, false, ◌&&◌, ◌||◌, List, get_or, set, Result, Ok, Err}
 use Rattle.rows.specs.One.{one}
 use Rattle.transaction.specs.Table.{pick}
-use Rattle.details.specs.Details.{with_type, fresh}
+use Rattle.details.specs.Details.{fresh}
 use Rattle.details.specs.Search.{blank}
 use Rattle.details.specs.declared.Device.{Device}
 use Rattle.rules.specs.declared.EventState.TheVariants.{Idle}
 use Rattle.rules.specs.declared.Slot.TheVariants.{Empty}
 use Rattle.rules.specs.World.{◌▷◌, stamp}
 use Rattle.tally.specs.Tally.{none, add_packet}
-use Rattle.update.specs.Update.{when}
 use Rattle.tally.specs.declared.add.Tally.{Tally}
 use Rattle.record.specs.declared.Counts.{Counts}
 use Rattle.record.specs.declared.Decoder.{Decoder}
@@ -22,26 +20,34 @@ use Rattle.tally.specs.Passes.{plan_passes}
 use Rattle.plan.specs.Devices.{changes, row_then, adds_device, address_of}
 use Rattle.plan.specs.declared.Plan.{Plan}
 use Rattle.shelving.specs.Shelve.{reading_of, resting, LongIf, RoomIf, shelf_after, note_after, row_after, request_after}
-use Rattle.shelving.specs.declared.Reading.{Reading}
 use Rattle.call.specs.Share.{written_of, tied}
 use Rattle.packet.specs.declared.change.Change.{Change}
+use Rattle.packet.specs.declared.sum.Refusal.{Refusal}
+use Rattle.packet.specs.declared.sum.Refusal.TheVariants.{NoRoom, Total}
 use Rattle.packet.specs.declared.sum.Sum.{Sum}
 
 -- ---- the sum
 
-abbrev pub refusal : Decoder → ℕ → Sum
-refusal d a = record { answer = a; counts = d.counts; waiting = d.waiting }
+-- the numbers of 01's table
+abbrev pub refusal : Refusal → ℕ
+refusal NoRoom = 7
+refusal Total = 9
+
+-- the answer, 0 where it is accepted
+abbrev pub answer_in : Result Sum Refusal → ℕ
+answer_in (Ok s) = 0
+answer_in (Err r) = refusal r
 
 abbrev pub accepted : Decoder → Tally → Sum
-accepted d t = record { answer = 0; counts = add_counts d.counts t; waiting = t.waiting }
+accepted d t = record { counts = add_counts d.counts t; waiting = t.waiting }
 
 -- by whether there is room, and whether a byte total passes 2^64 - 1
-abbrev pub sum_by : Bool → Bool → Decoder → Tally → Sum
-sum_by true false d t = accepted d t
-sum_by true true d t = refusal d 9
-sum_by false over d t = refusal d 7
+abbrev pub sum_by : Bool → Bool → Decoder → Tally → Result Sum Refusal
+sum_by true false d t = Ok (accepted d t)
+sum_by true true d t = Err Total
+sum_by false over d t = Err NoRoom
 
-abbrev pub sum_of : Bool → Decoder → Counts → Tally → Counts → Sum
+abbrev pub sum_of : Bool → Decoder → Counts → Tally → Counts → Result Sum Refusal
 sum_of over d held t room = sum_by (room_for held d.counts t room) over d t
 
 -- a packet of so many bytes that drops the suspended transaction; any other
@@ -51,13 +57,13 @@ tally_of_dropped waiting len = none waiting ▷ add_packet len
 abbrev pub tally_dropped : Decoder → ℕ → Tally
 tally_dropped d len = tally_of_dropped d.waiting len
 
-unfoldable pub sum_dropped : Decoder → Counts → ℕ → Counts → Sum
+unfoldable pub sum_dropped : Decoder → Counts → ℕ → Counts → Result Sum Refusal
 sum_dropped d held len room = sum_of false d held (tally_dropped d len) room
 
 abbrev pub tally_of : Decoder → Plan → ℕ → Tally
 tally_of d p len = tally_plan p len d.counts.endpoints d.waiting
 
-unfoldable pub sum_plan : Decoder → Counts → Plan → ℕ → Counts → Sum
+unfoldable pub sum_plan : Decoder → Counts → Plan → ℕ → Counts → Result Sum Refusal
 sum_plan d held p len room = sum_of (plan_passes p) d held (tally_of d p len) room
 
 -- ---- the record

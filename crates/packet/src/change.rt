@@ -6,10 +6,9 @@ ghost use Rattle.plan.specs.Devices.{adds_device, address_of};
 ghost use Rattle.packet.specs.After.{keeping, change_by, row_by, added_by, is_change, Placed, changed, shelved, requested};
 
 use details::{Device, fresh_device, set_endpoint_type};
-use endpoints::entry::flag_word;
 use group::Effect;
 use plan::Plan;
-use shelving::{Reading, Shelf, no_reading, put_request, reading_of, shelve, sized};
+use shelving::{Reading, Shelf, no_reading, put_request, reading_of, shelve};
 
 // First row `place`, then what is read, then row `at`; where neither row changes, both are 0.
 #[derive(Clone, Copy)]
@@ -52,24 +51,15 @@ pub fn no_change() -> Change
 pub fn adds_device(effect: Effect) -> bool
     ensures { result ≡ adds_device effect }
 {
-    match effect {
-        Effect::NoEffect => false,
-        Effect::NewDevice(_) => true,
-        Effect::Request(_) => false,
-        Effect::PendingData(_) => false,
-        Effect::IndexData(_, _, _) => false,
-    }
+    matches!(effect, Effect::NewDevice(_))
 }
 
 fn address_of(effect: Effect) -> u8
     ensures { result ≡ address_of effect }
 {
     match effect {
-        Effect::NoEffect => 0,
         Effect::NewDevice(address) => address,
-        Effect::Request(_) => 0,
-        Effect::PendingData(_) => 0,
-        Effect::IndexData(_, _, _) => 0,
+        _ => 0,
     }
 }
 
@@ -79,10 +69,8 @@ pub fn change_of(high: bool, plan: Plan, n: usize, row: usize) -> Change
     ensures { result ≡ change_by high plan n row }
 {
     let begin = plan.begin;
-    let close = plan.close;
-    let effect = close.effect;
-    let adds = plan.closes & adds_device(effect);
-    let behind = n + flag_word(begin.device) as usize;
+    let adds = plan.closes & adds_device(plan.close.effect);
+    let behind = n + usize::from(begin.device);
     Change {
         device: begin.device,
         types: begin.types,
@@ -92,7 +80,7 @@ pub fn change_of(high: bool, plan: Plan, n: usize, row: usize) -> Change
         kind: begin.kind,
         adds,
         at: row_if(adds, behind),
-        address: address_of(effect),
+        address: address_of(plan.close.effect),
         reading: reading_of(high, plan),
         row,
     }
@@ -154,18 +142,10 @@ pub fn make_change(
 {
     let mut devices = devices;
     let t = c.reading;
-    let place = c.place;
-    let owner = t.place;
-    let at = c.at;
-    sized(shelf);
-    let row = devices[place];
-    devices[place] = row_by(c, row);
-    let row = devices[owner];
-    let s = shelve(shelf, t, row, packet);
-    let kept = s.row;
-    devices[owner] = kept;
+    devices[c.place] = row_by(c, devices[c.place]);
+    let s = shelve(shelf, t, devices[t.place], packet);
+    devices[t.place] = s.row;
     put_request(requests, c.row, t, s.note);
-    let row = devices[at];
-    devices[at] = added_by(c, row);
+    devices[c.at] = added_by(c, devices[c.at]);
     devices
 }

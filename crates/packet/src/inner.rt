@@ -7,12 +7,12 @@ ghost use Rattle.call.specs.State.{state, logs};
 ghost use Rattle.packet.specs.Call.{PacketCall};
 ghost use Rattle.tally.specs.Tallies.{Countable};
 ghost use Rattle.packet.specs.After.{hand_of, dropped_decoder, decoder_by, changed, shelved, requested, Placed};
-ghost use Rattle.packet.specs.Dropped.{Drops};
+ghost use Rattle.packet.specs.Dropped.{Drops, refused};
 ghost use Rattle.packet.specs.Lent.{SomeLent, ForLent};
 
 use crate::change::{Change, change_of, no_change};
-use crate::sum::{Sum, sum_dropped, sum_plan};
-use call::{bytes_known, known, room_of, stamp_of, tie, written_of};
+use crate::sum::{Refusal, Sum, sum_dropped, sum_plan};
+use call::{room_of, stamp_of, tie, written_of};
 use decide::near::Near;
 use decide::plan_near;
 use endpoints::Table;
@@ -37,11 +37,7 @@ pub struct Inner {
 fn is_dropped(slot: Slot, t: Transaction) -> bool
     ensures { result ≡ is_dropped slot t }
 {
-    match slot {
-        Slot::Empty => false,
-        Slot::Current => false,
-        Slot::Suspended => t.endpoint == 0,
-    }
+    matches!(slot, Slot::Suspended) && t.endpoint == 0
 }
 
 // Where the call begins to write, behind the rows held, and what it brings.
@@ -60,19 +56,13 @@ pub fn hand_of(d: Decoder, held: Counts, time: u64, reason: u8, table: &Table) -
 fn dropped_decoder(d: Decoder, time: u64, sum: Sum) -> Decoder
     ensures { result ≡ dropped_decoder d time sum }
 {
-    let counts = sum.counts;
-    let transaction = d.transaction;
     Decoder {
-        counts,
+        counts: sum.counts,
         slot: Slot::Empty,
-        transaction,
-        last: d.last,
         event: EventState::Idle,
-        keepalive: d.keepalive,
         waiting: sum.waiting,
-        finished: d.finished,
-        high: d.high,
         time,
+        ..d
     }
 }
 
@@ -80,22 +70,16 @@ fn dropped_decoder(d: Decoder, time: u64, sum: Sum) -> Decoder
 fn decoder_by(d: Decoder, plan: Plan, sum: Sum, h: Hand) -> Decoder
     ensures { result ≡ decoder_by d plan sum h }
 {
-    let begin = plan.begin;
-    let slot = plan.slot;
-    let counts = sum.counts;
     let written = h.written;
-    let transaction = tie(begin.transaction, written);
     Decoder {
-        counts,
-        slot,
-        transaction,
+        counts: sum.counts,
+        slot: plan.slot,
+        transaction: tie(plan.begin.transaction, written),
         last: written.last,
         event: EventState::Idle,
-        keepalive: d.keepalive,
         waiting: sum.waiting,
-        finished: d.finished,
-        high: d.high,
         time: written.stamp.time,
+        ..d
     }
 }
 
@@ -115,8 +99,19 @@ pub fn put_packet(
 {
     let b = held.bytes;
     let p = held.packets;
-    rows::put_bytes(bytes, b, packet);
-    rows::put2(packets, p * width::PACKET, start as u64, time);
+    rows::put(bytes, b, packet);
+    rows::put(packets, p * width::PACKET, &[start as u64, time]);
+}
+
+// A packet that is refused leaves all as it was.
+fn refused(refusal: Refusal, d: Decoder, none: Change) -> Inner
+    ensures { result ≡ refused refusal d none }
+{
+    Inner {
+        answer: refusal as u8,
+        decoder: d,
+        change: none,
+    }
 }
 
 // The packet drops the suspended transaction: its own rows are all that is written.
@@ -137,16 +132,11 @@ fn drop_packet(
     requires packet_width_in_bounds { room.packets * packet_width ≤ length packets.old }
     ensures { Drops d held none packet.now time room bytes.old packets.old result bytes.new packets.new }
 {
-    let sum = sum_dropped(d, held, packet.len(), room);
-    if sum.answer != 0 {
-        return Inner {
-            answer: sum.answer,
-            decoder: d,
-            change: none,
-        };
-    }
-    let n = d.counts;
-    put_packet(n.bytes, held, packet, time, bytes, packets);
+    let sum = match sum_dropped(d, held, packet.len(), room) {
+        Ok(sum) => sum,
+        Err(refusal) => return refused(refusal, d, none),
+    };
+    put_packet(d.counts.bytes, held, packet, time, bytes, packets);
     Inner {
         answer: 8,
         decoder: dropped_decoder(d, time, sum),
@@ -196,27 +186,18 @@ pub fn packet_in(
         requests.len(),
     );
     let n = d.counts;
-    let slot = d.slot;
-    let held = d.transaction;
-    // What the proof learns here: the table's words are words, the packet's bytes bytes, and so is the old transaction's token.
-    known(table);
-    bytes_known(packet);
-    let style = held.style;
-    let _token = start_pid(style);
+    // What the proof learns here: the old transaction's token is a byte.
+    let _token = start_pid(d.transaction.style);
     let none = no_change();
     let rows = held_of(n, table);
-    if is_dropped(slot, held) {
+    if is_dropped(d.slot, d.transaction) {
         return drop_packet(d, rows, none, packet, time, room, bytes, packets);
     }
     let plan = plan_near(d, near, table, packet);
-    let sum = sum_plan(d, rows, plan, packet.len(), room);
-    if sum.answer != 0 {
-        return Inner {
-            answer: sum.answer,
-            decoder: d,
-            change: none,
-        };
-    }
+    let sum = match sum_plan(d, rows, plan, packet.len(), room) {
+        Ok(sum) => sum,
+        Err(refusal) => return refused(refusal, d, none),
+    };
     let change = change_of(d.high, plan, n.devices, rows.requests);
     put_packet(n.bytes, rows, packet, time, bytes, packets);
     let hand = perform(

@@ -1,24 +1,22 @@
 -- Laws (proved): as many calls with room as there are rows come to the end; and calls to the end of each kind are the whole listing. They rest on
 -- specs/PartsLaws, whose statements wrong programs change, and stand here so that such an edit can be read.
-use Prim.Native.Nat.{ℕ, zero, suc, ◌+◌, ◌*◌, ◌-◌, ◌<◌, ◌≤◌}
+use Prim.Native.Nat.{ℕ, suc, ◌+◌, ◌*◌, ◌≤◌}
 use native.Mathlib.Omega.{arith}
-use Rattle.std.proofs.Common.{le-div_iff_mul-le, sym, ap, ◌∙◌}
-use Rattle.std.specs.Prelude.{Bool, cond, ◌≡◌, leb, ltb}
+use Rattle.std.specs.Prelude.{Bool, ◌≡◌, ltb}
 use Rattle.std.proofs.Math.Bool.{true, false}
 use Rattle.std.proofs.Math.Path.{refl}
-use mathlib.Core.List.{List, [], ◌∷◌, ◌++◌, append_assoc}
-use borrow.Author.Tests.{le-leb, lt-leb, leb-true, ltb-true, ltb-false}
-use Rattle.std.proofs.Math.ListN.{length, length-append}
+use mathlib.Core.List.{List, [], ◌∷◌, ◌++◌}
+use borrow.Author.Tests.{ltb-true, ltb-false}
+use Rattle.std.proofs.Math.ListN.{length}
 use Rattle.rows.proofs.WidthsLaws.{log-number}
 use Rattle.text.specs.Words.{title}
 use Rattle.text.specs.Lines.{longest}
 use Rattle.record.specs.declared.Counts.{Counts}
 use Rattle.call.specs.State.{Logs, log_at, count_at}
-use Rattle.lines.specs.Listing.{width_of, each, lines_of, state_lines, listing, Counted}
+use Rattle.lines.specs.Listing.{width_of, lines_of, state_lines, listing, Counted}
 use Rattle.lines.specs.declared.Kind.{Kind}
 use Rattle.lines.specs.declared.Kind.TheVariants.{Device, Endpoint, Packet, Event, Transaction, Group, Item, Link, Request}
-use Rattle.parts.specs.Parts.{fitting, next_of, row_line, rows_of, state_row, state_rows, state_end, named_of}
-use Rattle.parts.specs.declared.Named.TheVariants.{Of}
+use Rattle.parts.specs.Parts.{next_of, state_rows}
 use Rattle.parts.specs.Calls.{stop_of, bytes_of, Roomy, one, number_of, Ended, bytes_by, states_line, in_parts}
 use Rattle.parts.specs.PartsLaws.{goes_on, next_le, lines_are, states_are}
 

@@ -27,7 +27,7 @@ pub data Roomy : List ℕ → Type 0 where
 
 -- ---- all rows that are counted, with buffers of the lengths `rooms k` for log k
 
--- the log's number (parts, namedOf)
+-- the log's number (parts, named_of)
 abbrev pub number_of : Kind → ℕ
 number_of Device = 1
 number_of Endpoint = 2

@@ -2,14 +2,12 @@
 -- those of lines/specs/Listing.antt.
 -- Assumes nothing.
 -- Hold it to: ours: the listing in parts, for a program whose buffer does not hold all of it
-use Rattle.std.specs.Prelude.{ℕ, zero, suc, ◌+◌, ◌-◌, ◌/◌, min, cond, ◌≡◌, List, eqb, leb, length}
+use Rattle.std.specs.Prelude.{ℕ, zero, suc, ◌+◌, ◌-◌, ◌/◌, min, cond, ◌≡◌, List, Option, Some, None, eqb, leb, length}
 use Rattle.std.proofs.lemmas.List.Edits.{sets}
 use Rattle.text.specs.Lines.{state_line, longest}
 use Rattle.lines.specs.Listing.{width_of, line_of, each, row, state_bytes}
 use Rattle.lines.specs.declared.Kind.{Kind}
 use Rattle.lines.specs.declared.Kind.TheVariants.{Device, Endpoint, Packet, Event, Transaction, Group, Item, Link, Request}
-use Rattle.parts.specs.declared.Named.{Named}
-use Rattle.parts.specs.declared.Named.TheVariants.{Of, Nothing}
 
 -- how many of `count` rows from row i on: one more as long as `longest` bytes are left
 unfoldable pub fitting : (ℕ → List ℕ) → ℕ → ℕ → ℕ → ℕ
@@ -50,14 +48,14 @@ state_end m statebytes = min m (length statebytes)
 
 -- ---- a kind by its log's number; 0, 7 and 8 are packet bytes, state bytes and states
 
-abbrev pub named_of : ℕ → Named
+abbrev pub named_of : ℕ → Option Kind
 named_of k =
-    cond (eqb k 1) (Of Device)
-    (cond (eqb k 2) (Of Endpoint)
-    (cond (eqb k 3) (Of Packet)
-    (cond (eqb k 4) (Of Event)
-    (cond (eqb k 5) (Of Transaction)
-    (cond (eqb k 6) (Of Group)
-    (cond (eqb k 9) (Of Item)
-    (cond (eqb k 10) (Of Link)
-    (cond (eqb k 11) (Of Request) Nothing))))))))
+    cond (eqb k 1) (Some Device)
+    (cond (eqb k 2) (Some Endpoint)
+    (cond (eqb k 3) (Some Packet)
+    (cond (eqb k 4) (Some Event)
+    (cond (eqb k 5) (Some Transaction)
+    (cond (eqb k 6) (Some Group)
+    (cond (eqb k 9) (Some Item)
+    (cond (eqb k 10) (Some Link)
+    (cond (eqb k 11) (Some Request) None))))))))

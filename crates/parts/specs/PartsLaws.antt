@@ -3,23 +3,18 @@
 use Prim.Native.Nat.{ℕ, zero, suc, ◌+◌, ◌*◌, ◌-◌, ◌<◌, ◌≤◌}
 use native.Mathlib.Omega.{arith}
 use Rattle.std.proofs.Common.{le-div_iff_mul-le, sym, ap, ◌∙◌}
-use Rattle.std.specs.Prelude.{Bool, cond, ◌≡◌, leb, ltb}
+use Rattle.std.specs.Prelude.{Bool, cond, ◌≡◌, Some, leb}
 use Rattle.std.proofs.Math.Bool.{true, false}
 use Rattle.std.proofs.Math.Path.{refl}
 use mathlib.Core.List.{List, [], ◌∷◌, ◌++◌, append_assoc}
-use borrow.Author.Tests.{le-leb, lt-leb, leb-true, ltb-true, ltb-false}
+use borrow.Author.Tests.{le-leb, lt-leb, leb-true}
 use Rattle.std.proofs.Math.ListN.{length, length-append}
-use Rattle.rows.proofs.WidthsLaws.{log-number}
-use Rattle.text.specs.Words.{title}
 use Rattle.text.specs.Lines.{longest}
-use Rattle.record.specs.declared.Counts.{Counts}
-use Rattle.call.specs.State.{Logs, log_at, count_at}
-use Rattle.lines.specs.Listing.{width_of, each, lines_of, state_lines, listing, Counted}
+use Rattle.lines.specs.Listing.{width_of, each, lines_of, state_lines}
 use Rattle.lines.specs.declared.Kind.{Kind}
 use Rattle.lines.specs.declared.Kind.TheVariants.{Device, Endpoint, Packet, Event, Transaction, Group, Item, Link, Request}
 use Rattle.parts.specs.Parts.{fitting, next_of, row_line, rows_of, state_row, state_rows, state_end, named_of}
-use Rattle.parts.specs.declared.Named.TheVariants.{Of}
-use Rattle.parts.specs.Calls.{stop_of, bytes_of, Roomy, one, number_of, Ended, bytes_by, states_line, in_parts}
+use Rattle.parts.specs.Calls.{stop_of, bytes_of, number_of}
 
 -- ---- one part
 
@@ -137,7 +132,7 @@ pub states_are :
 states_are n states m statebytes h g rooms e = states_by n states m statebytes (state_rows n states) (state_end m statebytes) (omega arith) (omega arith) rooms e
 
 -- a kind goes by its log's number
-pub named-kind : (kind : Kind) → named_of (number_of kind) ≡ Of kind
+pub named-kind : (kind : Kind) → named_of (number_of kind) ≡ Some kind
 named-kind Device = refl
 named-kind Endpoint = refl
 named-kind Packet = refl

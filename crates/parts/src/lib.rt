@@ -18,13 +18,6 @@ pub struct Part {
     pub len: usize,
 }
 
-// The kind of a log's number: packet bytes have no lines, and states have their own function.
-#[derive(Clone, Copy)]
-pub enum Named {
-    Of(Kind),
-    Nothing,
-}
-
 // Which rows a log has: those whose line is made of their own words, or states.
 #[derive(Clone, Copy)]
 enum Lent {
@@ -32,21 +25,21 @@ enum Lent {
     States,
 }
 
-// The kind of log number k.
-pub fn kind_of(k: u8) -> Named
+// The kind of log number k: packet bytes have no lines, and states have their own function.
+pub fn kind_of(k: u8) -> Option<Kind>
     ensures { result ≡ named_of k }
 {
     match k {
-        1 => Named::Of(Kind::Device),
-        2 => Named::Of(Kind::Endpoint),
-        3 => Named::Of(Kind::Packet),
-        4 => Named::Of(Kind::Event),
-        5 => Named::Of(Kind::Transaction),
-        6 => Named::Of(Kind::Group),
-        9 => Named::Of(Kind::Item),
-        10 => Named::Of(Kind::Link),
-        11 => Named::Of(Kind::Request),
-        _ => Named::Nothing,
+        1 => Some(Kind::Device),
+        2 => Some(Kind::Endpoint),
+        3 => Some(Kind::Packet),
+        4 => Some(Kind::Event),
+        5 => Some(Kind::Transaction),
+        6 => Some(Kind::Group),
+        9 => Some(Kind::Item),
+        10 => Some(Kind::Link),
+        11 => Some(Kind::Request),
+        _ => None,
     }
 }
 
@@ -87,10 +80,8 @@ fn lines_of(
 {
     let mut next = from;
     let mut len: usize = 0;
-    while next < n {
-        if out.len() - len < LONGEST {
-            return Part { next, len };
-        }
+    // Stays: a `for` would need a second return, where the buffer is full, and the row for a caller that begins behind the last.
+    while next < n && LONGEST <= out.len() - len {
         len = line_at(out, len, lent, next, n, log, m, statebytes);
         next += 1;
     }
@@ -101,7 +92,7 @@ fn lines_of(
 pub fn lines_from(kind: Kind, from: usize, n: usize, log: &[u64], out: &mut [u8]) -> Part
     ensures { Told (row_line kind log.now) (rows_of kind n log.now) from out.old out.new result.next result.len }
 {
-    let rows = state::smaller(n, log.len() / lines::width_of(kind));
+    let rows = n.min(log.len() / lines::width_of(kind));
     lines_of(Lent::Words(kind), from, rows, log, 0, b"", out)
 }
 
@@ -116,7 +107,7 @@ pub fn state_lines_from(
 ) -> Part
     ensures { Told (state_row (state_rows n states.now) states.now (state_end m statebytes.now) statebytes.now) (state_rows n states.now) from out.old out.new result.next result.len }
 {
-    let rows = state::smaller(n, states.len());
-    let end = state::smaller(m, statebytes.len());
+    let rows = n.min(states.len());
+    let end = m.min(statebytes.len());
     lines_of(Lent::States, from, rows, states, end, statebytes, out)
 }

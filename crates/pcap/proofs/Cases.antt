@@ -1,36 +1,37 @@
 -- The cases of a head and of a record, over the numbers that the code read.
 -- Assumes nothing.
-use Rattle.std.proofs.Common.{◌≡◌, ℕ, ◌+◌, ◌*◌, ◌^◌, ◌<◌, ◌≤◌, Bool, true, false, List, length, sym, ◌∙◌, le-ltb, eq-eqb, ne_eqb, le-leb}
+use Rattle.std.proofs.Common.{◌≡◌, ℕ, ◌+◌, ◌*◌, ◌^◌, ◌<◌, ◌≤◌, Bool, true, false, List, length, ap, le-ltb, eq-eqb, ne_eqb, le-leb}
 use borrow.Author.Tests.{lt-leb}
+use Rattle.std.specs.Prelude.{Some, None, Result, Ok, Err}
 use Rattle.pcap.specs.Numbers.{number_at}
-use Rattle.pcap.specs.Pcap.{unit_of, linked, marked, head_of, captured, original, body_at}
+use Rattle.pcap.specs.Pcap.{unit_of, linked, by_unit, marked, head_of, captured, original, body_at}
 use Rattle.pcap.specs.declared.Format.{Format}
-use Rattle.pcap.specs.declared.Head.{Head}
-use Rattle.pcap.specs.declared.Head.TheVariants.{Fine, Mark, Link}
+use Rattle.pcap.specs.declared.HeadError.{HeadError}
+use Rattle.pcap.specs.declared.HeadError.TheVariants.{Mark, Link}
 use Rattle.pcap.specs.declared.Next.TheVariants.{Cut, Fraction}
 
 module _ (t : List ℕ) where
-  pub short : length t < 24 → Mark ≡ head_of t
+  pub short : length t < 24 → Err Mark ≡ head_of t
   unfolding head_of
   short h = rw (lt-leb _ _ h)
 
-  pub long : 24 ≤ length t → marked false t (marked true t Mark) ≡ head_of t
+  pub long : 24 ≤ length t → marked false t (marked true t (Err Mark)) ≡ head_of t
   unfolding head_of
   long h = rw (le-leb _ _ h)
 
-  module _ (big : Bool) (other : Head) (unit : ℕ) (e : unit ≡ unit_of (number_at big 0 t)) where
-    pub here : (unit ≡ 0 → ⊥) → linked t (record { big = big; unit = unit }) ≡ marked big t other
-    here n = let q : unit_of (number_at big 0 t) ≡ unit = sym e in rw (q, ne_eqb _ _ n)
+  module _ (big : Bool) (other : Result Format HeadError) where
+    pub here : {unit : ℕ} → Some unit ≡ unit_of (number_at big 0 t) → linked t (record { big = big; unit = unit }) ≡ marked big t other
+    here e = ap (by_unit big t other) e
 
-    pub elsewhere : unit ≡ 0 → other ≡ marked big t other
-    elsewhere z = let q : unit_of (number_at big 0 t) ≡ 0 = sym e ∙ z in rw q
+    pub elsewhere : None ≡ unit_of (number_at big 0 t) → other ≡ marked big t other
+    elsewhere e = ap (by_unit big t other) e
 
 -- n is the link type that the code read
 module _ (t : List ℕ) (f : Format) (n : ℕ) (e : n ≡ number_at f.big 20 t) where
-  pub usb-packets : n ≡ 288 → Fine f ≡ linked t f
+  pub usb-packets : n ≡ 288 → Ok f ≡ linked t f
   usb-packets h = rw (← e, eq-eqb _ _ h)
 
-  pub other-packets : (n ≡ 288 → ⊥) → Link ≡ linked t f
+  pub other-packets : (n ≡ 288 → ⊥) → Err Link ≡ linked t f
   other-packets h = rw (← e, ne_eqb _ _ h)
 
 -- n and m are the captured and the original length that the code read

@@ -1,7 +1,7 @@
 -- Laws (proved): of what an export gives and leaves: for callers.
 -- Assumes nothing.
-use Rattle.std.specs.Prelude.{◌≡◌, ℕ, zero, suc, ◌+◌, ◌-◌, ◌*◌, ◌/◌, ◌%◌, ◌^◌, ◌<◌, ◌≤◌, min, Bool, true, false, cond, ◌||◌, List, [], ◌∷◌, ◌++◌, length, take, drop, ◌≢◌, nat_lt, slice_index}
-use Rattle.std.proofs.Common.{arith, sym, ◌∙◌, ltb-true, ltb-false, lt-ltb, le-ltb, length-take, length-drop, length-append}
+use Rattle.std.specs.Prelude.{◌≡◌, ℕ, zero, suc, ◌+◌, ◌*◌, ◌/◌, ◌^◌, ◌<◌, ◌≤◌, Bool, true, false, cond, ◌||◌, List, ◌++◌, length, take, drop, ◌≢◌, nat_lt, slice_index}
+use Rattle.std.proofs.Common.{arith, sym, ◌∙◌, ltb-true, ltb-false, lt-ltb, le-ltb, length-take}
 use Rattle.std.proofs.Math.Path.{refl, ap}
 use Rattle.std.proofs.lemmas.List.Edits.{sets, sets-eq}
 use Rattle.std.proofs.Math.Seq.{take-append_seam}
@@ -12,7 +12,7 @@ use Rattle.reading.proofs.PacketsLaws.{stops, packet_size}
 use Rattle.pcap.specs.Pcap.{time_of}
 use Rattle.pcap.specs.File.{Item}
 use Rattle.pcap.specs.Fits.{Fit, Fits}
-use Rattle.pcap.specs.Reading.{Read, read_file}
+use Rattle.pcap.specs.Reading.{read_file}
 use Rattle.pcap.proofs.Written.{file-written}
 use Rattle.pcap.specs.Export.{Source, written_format, item_at, item_of, event_at, kept, items_from, items_of, late, lent, counted, source_of, taken_from, size_of, refusal, accepted, file_bytes, judged, Exports}
 use Rattle.pcap.specs.Inner.{extent_of, Within}

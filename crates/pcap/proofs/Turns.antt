@@ -1,13 +1,14 @@
 -- One turn of a loop over packet rows: what is left is the next row's record, or none, and what is left then.
 -- Assumes nothing.
-use Rattle.std.proofs.Common.{◌≡◌, ℕ, zero, suc, ◌+◌, ◌-◌, ◌*◌, ◌/◌, ◌<◌, ◌≤◌, Bool, true, false, ◌||◌, ltb, List, [], ◌∷◌, ◌++◌, length, get_or, take, drop, sym, refl, ap, ◌∙◌, subst, true≢false, append_assoc, append-nil, arith, length-append}
+use Rattle.std.proofs.Common.{◌≡◌, ℕ, suc, ◌+◌, ◌-◌, ◌*◌, ◌/◌, ◌<◌, ◌≤◌, Bool, true, false, ◌||◌, ltb, List, [], ◌∷◌, ◌++◌, length, get_or, take, drop, sym, refl, ap, ◌∙◌, subst, true≢false, append_assoc, append-nil, arith, length-append}
+use Rattle.std.specs.Int.{from_bool}
 use mathlib.Core.Bool.{false≢true}
 use Rattle.rows.specs.One.{one}
 use Rattle.rows.specs.Widths.{packet_width}
 use Rattle.reading.specs.Packets.{start_of, packet_bytes}
 use Rattle.reading.specs.Size.{size_at}
 use Rattle.text.specs.Append.{Appended}
-use Rattle.pcap.specs.File.{Item, item_bytes, body_of, head_bytes, file_of}
+use Rattle.pcap.specs.File.{Item, item_bytes, body_of}
 use Rattle.pcap.specs.Fits.{Fit, Fits}
 use Rattle.pcap.specs.Export.{Source, written_format, item_of, event_at, kept, items_from, taken_from, items_of, late, file_bytes}
 use Rattle.pcap.specs.Inner.{seen, Small, survey_of}
@@ -29,6 +30,8 @@ fits-rest f [] ys h = h
 fits-rest f (x ∷ xs) ys h = fits-rest f xs ys h.1
 
 -- ---- a row's own record
+
+-- a flag as a number, as the library has it
 
 -- the bytes as the code has them
 pub bytes_are : (k n : ℕ) (rows bytes : List ℕ) {start size : ℕ} → start ≡ start_of k n rows (length bytes) → size ≡ size_at k n rows (length bytes)
@@ -103,28 +106,9 @@ pub record Owed (l : Source) (k : ℕ) (s : Survey) : Type 0 where
   pub packets-is : s.packets + length (items_from l (l.rows - k) k s.events) ≡ length (items_of l)
   pub events-is : taken_from l (l.rows - k) k s.events ≡ taken_from l l.rows 0 0
 
-abbrev pub nothing : Survey
-nothing = record { late = false; length = 24; packets = 0; events = 0 }
-
-pub owed_start : (l : Source) → Owed l 0 nothing
-owed_start l =
-    let e : l.rows - 0 ≡ l.rows = omega arith in
-    record {
-      late_is = ap (λ (m : ℕ). late (items_from l m 0 0)) e;
-      length-is = ap (λ (m : ℕ). 24 + length (body_of written_format (items_from l m 0 0))) e ∙ omega (arith, length-append (head_bytes written_format) (body_of written_format (items_of l)));
-      packets-is = ap (λ (m : ℕ). 0 + length (items_from l m 0 0)) e ∙ omega arith;
-      events-is = ap (λ (m : ℕ). taken_from l m 0 0) e;
-    }
-
-pub small-start : Small 0 nothing
-small-start = record { length_small = omega arith; packets_small = omega arith; events_small = omega arith }
-
 pub small-step : (k : ℕ) (s : Survey) (b : Bool) (time size : ℕ) → Small k s → size ≤ 1073741824 → Small (k + 1) (seen b time size s)
 small-step k s true time size a h = record { length_small = omega arith; packets_small = omega arith; events_small = omega arith }
 small-step k s false time size a h = record { length_small = omega arith; packets_small = omega arith; events_small = omega arith }
-
-pub small-more : (k m : ℕ) (s : Survey) → k ≤ m → Small k s → Small m s
-small-more k m s h a = record { length_small = omega arith; packets_small = omega arith; events_small = omega arith }
 
 or_assoc : (a b c : Bool) → a || (b || c) ≡ (a || b) || c
 or_assoc true b c = refl

@@ -1,6 +1,6 @@
 -- Laws (proved): what is written is read, in all four formats: for callers.
 -- Assumes nothing.
-use Rattle.std.specs.Prelude.{◌≡◌, ℕ, zero, suc, ◌+◌, ◌^◌, ◌<◌, ◌≤◌, Bool, true, false, List, [], ◌∷◌, ◌++◌, length, drop, refl}
+use Rattle.std.specs.Prelude.{◌≡◌, ℕ, zero, suc, ◌+◌, ◌^◌, ◌<◌, ◌≤◌, Bool, true, false, Ok, List, [], ◌∷◌, ◌++◌, length, drop, refl}
 use Rattle.std.proofs.Common.{arith, sym, ap, ◌∙◌, append_assoc, le-leb, lt-ltb, le-ltb, length-append, take_at}
 use Rattle.std.proofs.Math.Seq.{slice, drop-append-add}
 use Rattle.pcap.specs.Numbers.{number, number_at}
@@ -10,7 +10,6 @@ use Rattle.pcap.specs.Fits.{Fit, Fits}
 use Rattle.pcap.specs.Reading.{Read, onward, read_from, read_of, opened, read_file, records_of}
 use Rattle.pcap.proofs.PcapLaws.{packet_of}
 use Rattle.pcap.specs.declared.Format.{Format}
-use Rattle.pcap.specs.declared.Head.TheVariants.{Fine}
 use Rattle.pcap.specs.declared.Next.TheVariants.{Packet}
 
 -- a number that is written is read
@@ -138,7 +137,7 @@ pub read-written : (f : Format) (rs : List Item) → Fits f rs → records_of f 
 read-written f rs fits = ap (λ (x : Read). x.items) (read_whole f rs fits)
 
 -- a head that is written gives its format, whatever follows
-pub head-written : (big nano : Bool) (body : List ℕ) → head_of (head_bytes (format big nano) ++ body) ≡ Fine (format big nano)
+pub head-written : (big nano : Bool) (body : List ℕ) → head_of (head_bytes (format big nano) ++ body) ≡ Ok (format big nano)
 unfolding head_of number_at
 head-written true true body = rw (le-leb 24 (length (head_bytes (format true true) ++ body)) (omega arith))
 head-written true false body = rw (le-leb 24 (length (head_bytes (format true false) ++ body)) (omega arith))

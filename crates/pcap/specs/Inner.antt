@@ -1,6 +1,6 @@
 -- Inner (cited by private contracts alone): the export's steps: what the inner functions ask, and what is counted before anything is written.
 -- Assumes nothing.
-use Rattle.std.specs.Prelude.{ℕ, ◌+◌, ◌-◌, ◌*◌, ◌/◌, ◌<◌, ◌≤◌, Bool, false, cond, ◌||◌, List, [], length, nat_lt, slice_index}
+use Rattle.std.specs.Prelude.{ℕ, ◌+◌, ◌*◌, ◌/◌, ◌≤◌, Bool, cond, ◌||◌, List, length, nat_lt, slice_index}
 use Rattle.rows.specs.Widths.{packet_width, event_width}
 use Rattle.reading.specs.Packets.{packet_bytes}
 use Rattle.pcap.specs.File.{Item, item_bytes}

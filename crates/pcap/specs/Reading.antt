@@ -1,12 +1,12 @@
 -- Laws (proved): what is read from a whole file: what the laws of Written speak of.
 -- Assumes nothing.
-use Rattle.std.specs.Prelude.{ℕ, zero, suc, List, [], ◌∷◌, length}
+use Rattle.std.specs.Prelude.{ℕ, zero, suc, Result, Ok, Err, List, [], ◌∷◌, length}
 use Rattle.std.proofs.Math.Seq.{slice}
 use Rattle.pcap.specs.Pcap.{head_of, head_answer, head_place, next_at, answer_of}
 use Rattle.pcap.specs.File.{Item}
 use Rattle.pcap.specs.declared.Format.{Format}
-use Rattle.pcap.specs.declared.Head.{Head}
-use Rattle.pcap.specs.declared.Head.TheVariants.{Fine, Mark, Link}
+use Rattle.pcap.specs.declared.HeadError.{HeadError}
+use Rattle.pcap.specs.declared.HeadError.TheVariants.{Mark, Link}
 use Rattle.pcap.specs.declared.Next.{Next}
 use Rattle.pcap.specs.declared.Next.TheVariants.{Packet, Cut, Fraction, End}
 
@@ -43,10 +43,10 @@ abbrev pub records_of : Format → List ℕ → List Item
 records_of f t = (read_of f t).items
 
 -- a file of unknown format: by its head
-abbrev pub opened : List ℕ → Head → Read
-opened t (Fine f) = read_of f t
-opened t Mark = stop (head_answer Mark) (head_place Mark)
-opened t Link = stop (head_answer Link) (head_place Link)
+abbrev pub opened : List ℕ → Result Format HeadError → Read
+opened t (Ok f) = read_of f t
+opened t (Err Mark) = stop (head_answer (Err Mark)) (head_place (Err Mark))
+opened t (Err Link) = stop (head_answer (Err Link)) (head_place (Err Link))
 
 abbrev pub read_file : List ℕ → Read
 read_file t = opened t (head_of t)

@@ -5,8 +5,7 @@
 mod logs;
 mod write;
 
-ghost use Rattle.std.specs.Prelude.{◌≡◌, ◌+◌, ◌*◌, ◌%◌, ◌^◌, ◌<◌, ◌≤◌, [], ◌∷◌, length};
-ghost use Rattle.usb.specs.Bits.{number};
+ghost use Rattle.std.specs.Prelude.{◌≡◌, ◌+◌, ◌*◌, ◌%◌, ◌^◌, ◌<◌, ◌≤◌, length};
 ghost use Rattle.pcap.specs.Numbers.{number_at};
 ghost use Rattle.pcap.specs.Pcap.{unit_of, linked, head_of, head_answer, head_place, body_at, next_at, answer_of, time_of};
 ghost use Rattle.pcap.specs.Export.{source_of, size_of, Exports, refusal, lent};
@@ -19,10 +18,9 @@ pub struct Format {
     pub unit: u32,
 }
 
-// What the head says: the format, or which part of it is wrong or missing.
-#[derive(Clone, Copy)]
-pub enum Head {
-    Fine(Format),
+// Which part of the head is wrong or missing.
+#[derive(Clone, Copy, PartialEq, Eq)]
+pub enum HeadError {
     Mark,
     Link,
 }
@@ -42,6 +40,7 @@ pub enum Next {
 }
 
 // What an export gives: the answer, the file's length, the packets in it and the events that it left behind; refused, nothing but the answer.
+// Stays: a number for the answer, as the C entries give it on; `refusal` says what stands beside it.
 #[derive(Clone, Copy)]
 pub struct Exported {
     pub answer: u8,
@@ -88,93 +87,75 @@ const USB: u32 = 288;
 // In nanoseconds.
 const SECOND: u64 = 1000000000;
 
-// Four bytes as one number, the first lowest.
-fn joined(a: u8, b: u8, c: u8, d: u8) -> u32
-    ensures { result ≡ number (a ∷ b ∷ c ∷ d ∷ []) }
-{
-    a as u32 + b as u32 * 256 + c as u32 * 65536 + d as u32 * 16777216
-}
-
 // The number at a place of the file.
 fn number_at(file: &[u8], at: usize, big: bool) -> u32
     requires { at + 4 ≤ length file.now }
     ensures { result ≡ number_at big at file.now }
 {
+    let bytes = [file[at], file[at + 1], file[at + 2], file[at + 3]];
     if big {
-        return joined(file[at + 3], file[at + 2], file[at + 1], file[at]);
+        u32::from_be_bytes(bytes)
+    } else {
+        u32::from_le_bytes(bytes)
     }
-    joined(file[at], file[at + 1], file[at + 2], file[at + 3])
 }
 
-// The nanoseconds in one unit of a fraction, by the mark; 0 for what is no mark.
-fn unit_of(mark: u32) -> u32
+// The nanoseconds in one unit of a fraction, by the mark; none for what is no mark.
+fn unit_of(mark: u32) -> Option<u32>
     ensures { result ≡ unit_of mark }
 {
     match mark {
-        MICRO => 1000,
-        NANO => 1,
-        _ => 0,
+        MICRO => Some(1000),
+        NANO => Some(1),
+        _ => None,
     }
 }
 
 // A head whose mark was found: its link type.
-fn link(file: &[u8], f: Format) -> Head
+fn link(file: &[u8], f: Format) -> Result<Format, HeadError>
     requires { 24 ≤ length file.now }
     ensures { result ≡ linked file.now f }
 {
-    let big = f.big;
-    if number_at(file, 20, big) == USB {
-        return Head::Fine(f);
+    if number_at(file, 20, f.big) == USB {
+        Ok(f)
+    } else {
+        Err(HeadError::Link)
     }
-    Head::Link
 }
 
-pub fn check_head(file: &[u8]) -> Head
+pub fn check_head(file: &[u8]) -> Result<Format, HeadError>
     ensures { result ≡ head_of file.now }
 {
     if file.len() < HEAD {
-        return Head::Mark;
+        return Err(HeadError::Mark);
     }
-    let little = unit_of(number_at(file, 0, false));
-    if little != 0 {
-        return link(
-            file,
-            Format {
-                big: false,
-                unit: little,
-            },
-        );
+    if let Some(unit) = unit_of(number_at(file, 0, false)) {
+        return link(file, Format { big: false, unit });
     }
-    let big = unit_of(number_at(file, 0, true));
-    if big != 0 {
-        return link(
-            file,
-            Format {
-                big: true,
-                unit: big,
-            },
-        );
+    if let Some(unit) = unit_of(number_at(file, 0, true)) {
+        return link(file, Format { big: true, unit });
     }
-    Head::Mark
+    Err(HeadError::Mark)
 }
 
-pub fn head_answer(h: Head) -> u8
+pub fn head_answer(h: Result<Format, HeadError>) -> u8
     ensures { result ≡ head_answer h }
 {
     match h {
-        Head::Fine(_) => 0,
-        Head::Mark => 14,
-        Head::Link => 15,
+        Ok(_) => 0,
+        Err(HeadError::Mark) => 14,
+        Err(HeadError::Link) => 15,
     }
 }
 
-pub fn head_place(h: Head) -> usize
+// The first record's place, or that of what is wrong.
+pub fn head_place(h: Result<Format, HeadError>) -> usize
     ensures { result ≡ head_place h }
 {
     match h {
-        Head::Fine(_) => HEAD,
-        Head::Mark => 0,
-        Head::Link => 20,
+        Ok(_) => HEAD,
+        Err(HeadError::Mark) => 0,
+        Err(HeadError::Link) => 20,
     }
 }
 
@@ -187,8 +168,7 @@ fn body_at(file: &[u8], at: usize, f: Format) -> Next
     if left < RECORD {
         return Next::Cut;
     }
-    let big = f.big;
-    let unit = f.unit;
+    let Format { big, unit } = f;
     let start = at + RECORD;
     let captured = number_at(file, at + 8, big);
     let count = captured as usize;
@@ -229,13 +209,7 @@ pub fn answer(n: Next) -> u8
     match n {
         Next::Cut => 16,
         Next::Fraction => 17,
-        Next::Packet {
-            seconds: _,
-            fraction: _,
-            start: _,
-            end: _,
-        } => 0,
-        Next::End => 0,
+        Next::Packet { .. } | Next::End => 0,
     }
 }
 
@@ -243,10 +217,9 @@ pub fn answer(n: Next) -> u8
 pub fn time(f: Format, seconds: u32, fraction: u32) -> u64
     ensures { result ≡ time_of f seconds fraction % 2 ^ 64 }
 {
-    let unit = f.unit;
     let whole = seconds as u64 * SECOND;
-    let part = fraction as u64 * unit as u64;
-    std::num::wrapping_add_u64(whole, part)
+    let part = fraction as u64 * f.unit as u64;
+    whole.wrapping_add(part)
 }
 
 fn refuse(answer: u8) -> Exported
@@ -277,8 +250,7 @@ fn size_rows(bytes: &[u8], n: usize, packets: &[u64], marks: usize, events: &[u6
     ensures { result ≡ size_of (lent bytes.now n packets.now marks events.now) }
 {
     let s = logs::survey_rows(bytes, n, packets, marks, events);
-    let late = s.late;
-    if late {
+    if s.late {
         return refuse(LATE);
     }
     accept(s)
@@ -296,8 +268,7 @@ pub fn export_size(
     ensures { result ≡ size_of (source_of m bytes.now n packets.now e events.now) }
 {
     let x = logs::extent_of(m, bytes.len(), n, packets.len(), e, events.len());
-    let end = x.bytes;
-    size_rows(&bytes[..end], x.rows, packets, x.marks, events)
+    size_rows(&bytes[..x.bytes], x.rows, packets, x.marks, events)
 }
 
 // By counts that the logs have. Nothing is written before it is known that all of it fits.
@@ -313,12 +284,10 @@ fn export_rows(
     ensures { Exports (lent bytes.now n packets.now marks events.now) out.old out.new result }
 {
     let s = logs::survey_rows(bytes, n, packets, marks, events);
-    let late = s.late;
-    if late {
+    if s.late {
         return refuse(LATE);
     }
-    let length = s.length;
-    if out.len() < length {
+    if out.len() < s.length {
         return refuse(FULL);
     }
     let next = write::write_head(out, 0);
@@ -339,6 +308,5 @@ pub fn export(
     ensures { Exports (source_of m bytes.now n packets.now e events.now) out.old out.new result }
 {
     let x = logs::extent_of(m, bytes.len(), n, packets.len(), e, events.len());
-    let end = x.bytes;
-    export_rows(&bytes[..end], x.rows, packets, x.marks, events, out)
+    export_rows(&bytes[..x.bytes], x.rows, packets, x.marks, events, out)
 }

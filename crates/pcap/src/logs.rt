@@ -1,5 +1,5 @@
 // The lent logs: where a packet row has its bytes, which rows are events', and what all of them come to as a file, found before anything is written.
-ghost use Rattle.std.specs.Prelude.{◌≡◌, ◌*◌, ◌<◌, ◌≤◌, min, length};
+ghost use Rattle.std.specs.Prelude.{◌≡◌, ◌*◌, ◌<◌, ◌≤◌, length};
 ghost use Rattle.reading.specs.Packets.{start_of};
 ghost use Rattle.reading.specs.Size.{size_at};
 ghost use Rattle.pcap.specs.Export.{counted, lent, is_event};
@@ -16,17 +16,11 @@ const ROWS: usize = 16777216;
 // The last second that fits 32 bits.
 const LAST: u64 = 4294967295;
 
-fn smaller(a: usize, b: usize) -> usize
-    ensures { result ≡ min a b }
-{
-    if a < b { a } else { b }
-}
-
 // How many there are to go by: of n, at most `most` and at most as many as are there.
 fn count_of(most: usize, n: usize, there: usize) -> usize
     ensures { result ≡ counted most n there }
 {
-    smaller(smaller(n, most), there)
+    n.min(most).min(there)
 }
 
 // How much there is to go by, of logs with these many bytes and words.
@@ -46,9 +40,10 @@ pub fn start_of(packets: &[u64], n: usize, end: usize, k: usize) -> usize
     ensures { result ≡ start_of k n packets.now end }
 {
     if k < n {
-        return smaller(packets[k * width::PACKET] as usize, end);
+        (packets[k * width::PACKET] as usize).min(end)
+    } else {
+        end
     }
-    end
 }
 
 // How many bytes it has: up to the start of the next row, none where that stands before it.
@@ -59,10 +54,7 @@ pub fn size_of(packets: &[u64], n: usize, end: usize, k: usize) -> usize
 {
     let start = start_of(packets, n, end, k);
     let next = start_of(packets, n, end, k + 1);
-    if next < start {
-        return 0;
-    }
-    next - start
+    next.saturating_sub(start)
 }
 
 // Whether packet row k is that of event row t, the next of `marks` event rows.
@@ -70,10 +62,7 @@ pub fn is_event(events: &[u64], marks: usize, t: usize, k: usize) -> bool
     requires { marks * 2 ≤ length events.now }
     ensures { result ≡ is_event marks events.now t k }
 {
-    if t < marks {
-        return events[t * width::EVENT] == k as u64;
-    }
-    false
+    t < marks && events[t * width::EVENT] == k as u64
 }
 
 // A row more.
@@ -84,17 +73,15 @@ fn add_row(s: Survey, event: bool, time: u64, size: usize) -> Survey
 {
     if event {
         return Survey {
-            late: s.late,
-            length: s.length,
-            packets: s.packets,
             events: s.events + 1,
+            ..s
         };
     }
     Survey {
-        late: s.late | (LAST < time / SECOND),
+        late: s.late || LAST < time / SECOND,
         length: s.length + (RECORD + size),
         packets: s.packets + 1,
-        events: s.events,
+        ..s
     }
 }
 
@@ -110,13 +97,10 @@ pub fn survey_rows(bytes: &[u8], n: usize, packets: &[u64], marks: usize, events
         packets: 0,
         events: 0,
     };
-    let mut k: usize = 0;
-    while k < n {
-        let taken = s.events;
-        let event = is_event(events, marks, taken, k);
+    for k in 0..n {
+        let event = is_event(events, marks, s.events, k);
         let size = size_of(packets, n, end, k);
         s = add_row(s, event, packets[k * width::PACKET + 1], size);
-        k += 1;
     }
     s
 }

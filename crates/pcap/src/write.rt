@@ -1,6 +1,5 @@
 // A file's bytes appended to a lent buffer from a place on; each function gives the next place.
 ghost use Rattle.std.specs.Prelude.{◌≡◌, ◌+◌, ◌*◌, ◌/◌, ◌^◌, ◌<◌, ◌≤◌, false, length};
-ghost use Rattle.rows.specs.One.{one};
 ghost use Rattle.text.specs.Append.{Room, Appended};
 ghost use Rattle.pcap.specs.File.{four, head_bytes, heading, body_of};
 ghost use Rattle.pcap.specs.Fits.{Fits};
@@ -17,30 +16,22 @@ pub fn write_head(out: &mut [u8], at: usize) -> usize
 {
     let head =
         b"\x4D\x3C\xB2\xA1\x02\x00\x04\x00\x00\x00\x00\x00\x00\x00\x00\x00\x00\x10\x00\x00\x20\x01\x00\x00";
-    rows::put_bytes(out, at, head);
+    rows::put(out, at, head);
     at + HEAD
 }
 
 // A number as four bytes, the lowest first.
-fn write_four(out: &mut [u8], at: usize, n: u64) -> usize
-    requires n_bound { n < 2 ^ 32 }
-    requires room { Room out.old at (four false n) }
+fn write_four(out: &mut [u8], at: usize, n: u32) -> usize
+    requires { Room out.old at (four false n) }
     ensures { Appended out.old at (four false n) out.new result }
 {
-    let a = (n % 256) as u8;
-    let b = (n / 256 % 256) as u8;
-    let c = (n / 256 / 256 % 256) as u8;
-    let d = (n / 256 / 256 / 256 % 256) as u8;
-    rows::put_bytes(out, at, &[a, b, c, d]);
+    rows::put(out, at, &n.to_le_bytes());
     at + 4
 }
 
 // What stands before a packet: seconds, nanoseconds, and its length twice.
-fn write_heading(out: &mut [u8], at: usize, seconds: u64, fraction: u64, size: u64) -> usize
-    requires seconds_bound { seconds < 2 ^ 32 }
-    requires fraction_bound { fraction < 2 ^ 32 }
-    requires size_bound { size < 2 ^ 32 }
-    requires room { Room out.old at (heading false seconds fraction size) }
+fn write_heading(out: &mut [u8], at: usize, seconds: u32, fraction: u32, size: u32) -> usize
+    requires { Room out.old at (heading false seconds fraction size) }
     ensures { Appended out.old at (heading false seconds fraction size) out.new result }
 {
     let next = write_four(out, at, seconds);
@@ -56,8 +47,10 @@ pub fn write_record(out: &mut [u8], at: usize, time: u64, packet: &[u8]) -> usiz
     requires room { Room out.old at (record_bytes time packet.now) }
     ensures { Appended out.old at (record_bytes time packet.now) out.new result }
 {
-    let next = write_heading(out, at, time / SECOND, time % SECOND, packet.len() as u64);
-    rows::put_bytes(out, next, packet);
+    let seconds = (time / SECOND) as u32;
+    let fraction = (time % SECOND) as u32;
+    let next = write_heading(out, at, seconds, fraction, packet.len() as u32);
+    rows::put(out, next, packet);
     next + packet.len()
 }
 
@@ -86,17 +79,6 @@ fn write_row(
     write_record(out, at, packets[k * width::PACKET + 1], &bytes[start..stop])
 }
 
-// How many event rows are taken behind a row.
-fn taken_after(t: usize, event: bool) -> usize
-    requires { t < 16777216 }
-    ensures { result ≡ t + one event }
-{
-    if event {
-        return t + 1;
-    }
-    t
-}
-
 // The records of n packet rows, but for the events'.
 pub fn write_rows(
     out: &mut [u8],
@@ -114,12 +96,10 @@ pub fn write_rows(
 {
     let mut next = at;
     let mut taken: usize = 0;
-    let mut k: usize = 0;
-    while k < n {
+    for k in 0..n {
         let event = logs::is_event(events, marks, taken, k);
         next = write_row(out, next, event, bytes, n, packets, k);
-        taken = taken_after(taken, event);
-        k += 1;
+        taken += usize::from(event);
     }
     next
 }

@@ -8,8 +8,6 @@ use lib.ListN.{length, take, drop}
 use lib.Seq.{sets, sets-eq, length-sets, length-take-le, take-append_seam}
 use Rattle.text.specs.Append.{Appended}
 use Rattle.parts.specs.Parts.{Told, row_line, rows_of}
-use Rattle.parts.specs.declared.Named.{Named}
-use Rattle.parts.specs.declared.Named.TheVariants.{Of, Nothing}
 use Rattle.lines.specs.declared.Kind.{Kind}
 use Rattle.pivotspark.specs.Lines.{ToldPart, ToldNothing, ToldLines, Alone}
 
@@ -18,14 +16,6 @@ pub told_part :
     → told ≡ sets word 0 (len ∷ [])
     → ToldPart line n from before word r after told
 told_part {word} t e w = record { goes = e ∙ t.goes; size = w ∙ ap (λ (k : ℕ). sets word 0 (k ∷ [])) t.size; stored = t.stored }
-
--- by the kind that the number has, or has not
-module _ {named : Named} (n : ℕ) (log : List ℕ) {from : ℕ} {before word : List ℕ} {r : ℕ} {after told : List ℕ} where
-  pub told-kind : (kind : Kind) → named ≡ Of kind → ToldPart (row_line kind log) (rows_of kind n log) from before word r after told → ToldLines named from n log before word r after told
-  told-kind kind e t = rw e t
-
-  pub told-nothing : named ≡ Nothing → ToldNothing from before word r after told → ToldLines named from n log before word r after told
-  told-nothing e t = rw e t
 
 -- what was appended at the front of a buffer that has room for it is its first bytes
 module _ {buffer line l : List ℕ} {len : ℕ} (a : Appended buffer 0 line l len) (h : length line ≤ length buffer) where

@@ -1,11 +1,10 @@
 -- To be believed: what the entries for the listing tell, and what they leave in the buffer that they are lent.
 -- Assumes nothing.
 -- Hold it to: ours: the interface of the library, where it lists
-use Rattle.std.specs.Prelude.{ℕ, cond, ◌≡◌, List, [], ◌∷◌, leb, length}
+use Rattle.std.specs.Prelude.{ℕ, cond, ◌≡◌, List, [], ◌∷◌, Option, Some, None, leb, length}
 use Rattle.std.proofs.lemmas.List.Edits.{sets}
 use Rattle.parts.specs.Parts.{next_of, part_of, row_line, rows_of}
-use Rattle.parts.specs.declared.Named.{Named}
-use Rattle.parts.specs.declared.Named.TheVariants.{Of, Nothing}
+use Rattle.lines.specs.declared.Kind.{Kind}
 
 -- a part (parts, Parts): the row behind it is the answer, the number of its bytes the word that is told
 pub record ToldPart (line : ℕ → List ℕ) (n from : ℕ) (before word : List ℕ) (r : ℕ) (after told : List ℕ) : Type 0 where
@@ -20,9 +19,9 @@ pub record ToldNothing (from : ℕ) (before word : List ℕ) (r : ℕ) (after to
   pub stored : after ≡ before
 
 -- a part of the rows of a kind, where the number is a kind's
-abbrev pub ToldLines : Named → ℕ → ℕ → List ℕ → List ℕ → List ℕ → ℕ → List ℕ → List ℕ → Type 0
-ToldLines (Of kind) from n log before word r after told = ToldPart (row_line kind log) (rows_of kind n log) from before word r after told
-ToldLines Nothing from n log before word r after told = ToldNothing from before word r after told
+abbrev pub ToldLines : Option Kind → ℕ → ℕ → List ℕ → List ℕ → List ℕ → ℕ → List ℕ → List ℕ → Type 0
+ToldLines (Some kind) from n log before word r after told = ToldPart (row_line kind log) (rows_of kind n log) from before word r after told
+ToldLines None from n log before word r after told = ToldNothing from before word r after told
 
 -- a line by itself: all of it and its length where there is room for all of it, else nothing and 0
 pub record Alone (line before after : List ℕ) (r : ℕ) : Type 0 where

@@ -16,7 +16,6 @@ use Rattle.group.specs.declared.Effect.{Effect}
 use Rattle.group.specs.declared.Effect.TheVariants.{NoEffect, NewDevice, Request, PendingData, IndexData}
 use Rattle.group.specs.declared.Grouped.{Grouped}
 use Rattle.group.specs.Group.{group_status}
-use Rattle.pivotspark.specs.declared.groups.Numbers.{Numbers}
 
 abbrev pub word : List ℕ → ℕ → ℕ
 word s i = get_or s i 0
@@ -94,24 +93,22 @@ abbrev pub flag_word : Bool → ℕ
 flag_word true = 1
 flag_word false = 0
 
-abbrev pub numbers : ℕ → ℕ → ℕ → ℕ → Numbers
-numbers k n w i = record { kind = k; number = n; waited = w; id = i }
-
-abbrev pub effect_words : Effect → Numbers
-effect_words NoEffect = numbers 0 0 0 0
-effect_words (NewDevice a) = numbers 1 a 0 0
-effect_words (Request n) = numbers 2 n 0 0
-effect_words (PendingData n) = numbers 3 n 0 0
-effect_words (IndexData n w i) = numbers 4 n (flag_word w) i
+-- which effect it is, its number, and of IndexData the other two
+abbrev pub effect_words : Effect → List ℕ
+effect_words NoEffect = 0 ∷ 0 ∷ 0 ∷ 0 ∷ []
+effect_words (NewDevice a) = 1 ∷ a ∷ 0 ∷ 0 ∷ []
+effect_words (Request n) = 2 ∷ n ∷ 0 ∷ 0 ∷ []
+effect_words (PendingData n) = 3 ∷ n ∷ 0 ∷ 0 ∷ []
+effect_words (IndexData n w i) = 4 ∷ n ∷ flag_word w ∷ i ∷ []
 
 -- status, the effect's four words, and what may have changed of the endpoint
 abbrev pub answer_words : Grouped → List ℕ
 answer_words g =
     status_word g.status
-    ∷ (effect_words g.effect).kind
-    ∷ (effect_words g.effect).number
-    ∷ (effect_words g.effect).waited
-    ∷ (effect_words g.effect).id
+    ∷ word (effect_words g.effect) 0
+    ∷ word (effect_words g.effect) 1
+    ∷ word (effect_words g.effect) 2
+    ∷ word (effect_words g.effect) 3
     ∷ flag_word g.endpoint.success
     ∷ flag_word g.endpoint.ready
     ∷ g.endpoint.setup

@@ -8,15 +8,6 @@ use endpoints::{Endpoint, Phase};
 use group::{Effect, GroupStatus};
 use transaction::{Style, Transaction};
 
-// The numbers of an effect: which it is, its number, and of IndexData the other two.
-#[derive(Clone, Copy)]
-pub struct Numbers {
-    pub kind: u64,
-    pub number: u64,
-    pub waited: u64,
-    pub id: u64,
-}
-
 fn byte(w: u64) -> u8
     ensures { result ≡ byte_of w }
 {
@@ -111,59 +102,29 @@ fn detail(s: &[u64; 23]) -> Detail
     }
 }
 
+// The variants stand in the order of their numbers.
 fn status_word(status: GroupStatus) -> u64
     ensures { result ≡ status_word status }
 {
-    match status {
-        GroupStatus::Single => 0,
-        GroupStatus::New => 1,
-        GroupStatus::Continue => 2,
-        GroupStatus::Retry => 3,
-        GroupStatus::Done => 4,
-        GroupStatus::Invalid => 5,
-    }
+    status as u64
 }
 
 fn flag_word(b: bool) -> u64
     ensures { result ≡ flag_word b }
 {
-    if b { 1 } else { 0 }
+    u64::from(b)
 }
 
-fn effect_words(effect: Effect) -> Numbers
+// The words of an effect: which it is, its number, and of IndexData the other two.
+fn effect_words(effect: Effect) -> [u64; 4]
     ensures { result ≡ effect_words effect }
 {
     match effect {
-        Effect::NoEffect => Numbers {
-            kind: 0,
-            number: 0,
-            waited: 0,
-            id: 0,
-        },
-        Effect::NewDevice(at) => Numbers {
-            kind: 1,
-            number: at as u64,
-            waited: 0,
-            id: 0,
-        },
-        Effect::Request(len) => Numbers {
-            kind: 2,
-            number: len,
-            waited: 0,
-            id: 0,
-        },
-        Effect::PendingData(len) => Numbers {
-            kind: 3,
-            number: len,
-            waited: 0,
-            id: 0,
-        },
-        Effect::IndexData(len, waited, id) => Numbers {
-            kind: 4,
-            number: len,
-            waited: flag_word(waited),
-            id,
-        },
+        Effect::NoEffect => [0, 0, 0, 0],
+        Effect::NewDevice(at) => [1, u64::from(at), 0, 0],
+        Effect::Request(len) => [2, len, 0, 0],
+        Effect::PendingData(len) => [3, len, 0, 0],
+        Effect::IndexData(len, waited, id) => [4, len, flag_word(waited), id],
     }
 }
 
@@ -176,18 +137,18 @@ pub extern "C" fn pivotspark_group_status(state: &[u64; 23], out: &mut [u64; 10]
     let t = transaction(state);
     let d = detail(state);
     let g = group::group_status(e, t, d, flag(state[21]), flag(state[22]));
-    let status = g.status;
-    let effect = g.effect;
     let u = g.endpoint;
-    let n = effect_words(effect);
-    out[0] = status_word(status);
-    out[1] = n.kind;
-    out[2] = n.number;
-    out[3] = n.waited;
-    out[4] = n.id;
-    out[5] = flag_word(u.success);
-    out[6] = flag_word(u.ready);
-    out[7] = u.setup;
-    out[8] = u.payload;
-    out[9] = flag_word(u.pending);
+    let [kind, number, waited, id] = effect_words(g.effect);
+    *out = [
+        status_word(g.status),
+        kind,
+        number,
+        waited,
+        id,
+        flag_word(u.success),
+        flag_word(u.ready),
+        u.setup,
+        u.payload,
+        flag_word(u.pending),
+    ];
 }

@@ -6,7 +6,7 @@ ghost use Rattle.text.specs.Lines.{details_line, refused_line};
 ghost use Rattle.parts.specs.Parts.{named_of, state_row, state_rows, state_end};
 ghost use Rattle.pivotspark.specs.Lines.{ToldPart, ToldLines, Alone};
 
-use parts::{Named, Part};
+use parts::Part;
 
 // The bytes of a part in the word that is lent for them; gives the row behind it.
 fn tell_part(part: Part, told: &mut [u64; 1]) -> u64
@@ -24,7 +24,7 @@ fn put_line(out: &mut [u8], line: &[u8]) -> u64
     if out.len() < line.len() {
         return 0;
     }
-    rows::put_bytes(out, 0, line);
+    rows::put(out, 0, line);
     line.len() as u64
 }
 
@@ -40,8 +40,7 @@ pub extern "C" fn pivotspark_lines(
 ) -> u64
     ensures { ToldLines (named_of kind) from n log.now out.old told.old result out.new told.new }
 {
-    let named = parts::kind_of(kind);
-    let Named::Of(kind) = named else {
+    let Some(kind) = parts::kind_of(kind) else {
         told[0] = 0;
         return from;
     };

@@ -4,17 +4,14 @@ ghost use Rattle.crc.specs.Crc.{crc16_of};
 ghost use Rattle.usb.specs.Packet.{checked_of};
 ghost use Rattle.pivotspark.specs.Answer.{answer_of};
 
-use usb::Checked;
-
 // The PID byte of a valid packet, and 256 times the reason of a malformed one.
 #[unsafe(no_mangle)]
 pub extern "C" fn pivotspark_check(packet: &[u8]) -> u16
     ensures { result ≡ answer_of (checked_of packet.now) }
 {
-    let answer = usb::check(packet);
-    match answer {
-        Checked::Valid(pid) => pid as u16,
-        Checked::Malformed(reason) => 256 * reason as u16,
+    match usb::check(packet) {
+        Ok(pid) => pid as u16,
+        Err(reason) => 256 * reason as u16,
     }
 }
 

@@ -8,11 +8,14 @@ use record::Decoder;
 use run::run;
 use shelving::Shelf;
 
+// Where the top byte of a word begins.
+const TOP: u64 = 1 << 56;
+
 // The answer in the top byte, the place below it.
 fn tell(answer: u8, place: usize) -> u64
     ensures { result ≡ told answer place }
 {
-    72057594037927936 * (answer as u64) + place as u64 % 72057594037927936
+    TOP * (answer as u64) + place as u64 % TOP
 }
 
 // Twelve counts, one behind the other, where there are words for all of them.
@@ -23,30 +26,20 @@ fn put_counts(counts: &mut [u64], d: Decoder)
         return;
     }
     let n = d.counts;
-    rows::put4(
-        counts,
-        0,
+    counts[..12].copy_from_slice(&[
         n.bytes as u64,
         n.devices as u64,
         n.endpoints as u64,
         n.packets as u64,
-    );
-    rows::put4(
-        counts,
-        4,
         n.events as u64,
         n.transactions as u64,
         n.groups as u64,
         n.statebytes as u64,
-    );
-    rows::put4(
-        counts,
-        8,
         n.states as u64,
         n.items as u64,
         n.links as u64,
         n.requests as u64,
-    );
+    ]);
 }
 
 // The trace on the lent table, logs and shelf, which may hold anything; in the mode for high-bandwidth isochronous data where `mode` is not 0. The record's counts are stored in `counts`; if it has fewer than twelve words it is left as it is.

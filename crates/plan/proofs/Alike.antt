@@ -16,8 +16,7 @@ use Rattle.details.specs.Details.{details_of, fresh}
 use Rattle.details.specs.Search.{first_from, last_of}
 use Rattle.details.specs.declared.Detail.{Detail}
 use Rattle.endpoints.specs.declared.Endpoint.{Endpoint}
-use Rattle.details.specs.declared.Found.{Found}
-use Rattle.details.specs.declared.Found.TheVariants.{At, Nothing as Missing}
+use Rattle.std.specs.Prelude.{Option, Some, None}
 use Rattle.rules.specs.World.{World, invalid_ep, framing_ep, new_transaction, with_pid}
 use Rattle.endpoints.specs.Table.{new_endpoint}
 use Rattle.rules.specs.Endpoints.{device_for, address_for, endpoint_lookup, found, detail_of}
@@ -40,22 +39,22 @@ module _ {w v : World} (a : Alike w v) where
   pub same-device : (address : ℕ) → device_for address v ≡ device_for address w
   same-device address i = last_of (λ j. eqb (a.devices i j).address address) (a.device_count i)
 
-  same_lookup : (f : Found) (address : ℕ) → endpoint_lookup f address v ≡ endpoint_lookup f address w
-  same_lookup (At d) address = λ i. first_from (λ j. eqb (a.device j i) d && eqb (a.address j i) address) 0 (a.count i)
-  same_lookup Missing address = refl
+  same_lookup : (f : Option ℕ) (address : ℕ) → endpoint_lookup f address v ≡ endpoint_lookup f address w
+  same_lookup (Some d) address = λ i. first_from (λ j. eqb (a.device j i) d && eqb (a.address j i) address) 0 (a.count i)
+  same_lookup None address = refl
 
   pub same-found : (pid : ℕ) (packet : List ℕ) → found pid packet v ≡ found pid packet w
   same-found pid packet =
-      ap (λ (f : Found). pick (eqb pid SOF) (At framing_ep) (pick ((SETUP or IN or OUT or only PING) pid) f (At invalid_ep)))
-      (ap (λ (f : Found). endpoint_lookup f (address_for pid (token_of packet).number) v) (same-device (token_of packet).address) ∙ same_lookup (device_for (token_of packet).address w) (address_for pid (token_of packet).number))
+      ap (λ (f : Option ℕ). pick (eqb pid SOF) (Some framing_ep) (pick ((SETUP or IN or OUT or only PING) pid) f (Some invalid_ep)))
+      (ap (λ (f : Option ℕ). endpoint_lookup f (address_for pid (token_of packet).number) v) (same-device (token_of packet).address) ∙ same_lookup (device_for (token_of packet).address w) (address_for pid (token_of packet).number))
 
   pub same-detail : (j : ℕ) → detail_of j v ≡ detail_of j w
   same-detail j i = details_of (a.devices i (a.device j i)) (a.address j i)
 
-  same_new : (g : Found) (owner address : ℕ) → new_on g owner address v ≡ new_on g owner address w
-  same_new (At d) owner address =
+  same_new : (g : Option ℕ) (owner address : ℕ) → new_on g owner address v ≡ new_on g owner address w
+  same_new (Some d) owner address =
       λ i. record { x = a.count i; new = true; device = false; place = d; number = address; detail = details_of (a.devices i d) address; entry = new_endpoint d address }
-  same_new Missing owner address =
+  same_new None owner address =
       λ i. record { x = a.count i; new = true; device = true; place = a.device_count i; number = address; detail = details_of (fresh owner) address; entry = new_endpoint (a.device_count i) address }
 
   -- the endpoint of a packet, where its entry is the same too
@@ -65,13 +64,13 @@ module _ {w v : World} (a : Alike w v) where
 
     same_place : (pid : ℕ) (packet : List ℕ) → place_of x0 e0 pid packet v ≡ place_of x0 e0 pid packet w
     unfolding place_of
-    same_place pid packet = ap (λ (f : Found). place_at f x0 e0 pid packet v) (same-found pid packet) ∙ by (found pid packet w)
+    same_place pid packet = ap (λ (f : Option ℕ). place_at f x0 e0 pid packet v) (same-found pid packet) ∙ by (found pid packet w)
       where
-        by : (f : Found) → place_at f x0 e0 pid packet v ≡ place_at f x0 e0 pid packet w
-        by (At j) = same-standing j
-        by Missing =
+        by : (f : Option ℕ) → place_at f x0 e0 pid packet v ≡ place_at f x0 e0 pid packet w
+        by (Some j) = same-standing j
+        by None =
             let address = address_for pid (token_of packet).number in
-            ap (λ (g : Found). new_on g (token_of packet).address address v) (same-device (token_of packet).address) ∙ same_new (device_for (token_of packet).address w) (token_of packet).address address
+            ap (λ (g : Option ℕ). new_on g (token_of packet).address address v) (same-device (token_of packet).address) ∙ same_new (device_for (token_of packet).address w) (token_of packet).address address
 
     pub same-starting : (s : Status) (pid : ℕ) (packet : List ℕ) (n : ℕ) → starting s x0 e0 pid packet n v ≡ starting s x0 e0 pid packet n w
     unfolding starting
@@ -106,17 +105,17 @@ module _ {w v : World} (a : Alike w v) where
         ∙ (λ i. let t = new_transaction (Simple pid) n pid j (kind_of (detail_of j w)) in
         record { row = true; device = false; endpoint = false; types = false; owner = owner; place = (w.endpoints j).device; number = (w.endpoints j).address; kind = 0; transaction = t; update = near j t i })
 
-    near-plain : (f : Found) → (start_plain s (place_at f x0 e0 pid packet v) pid packet n).begin ≡ (start_plain s (place_at f x0 e0 pid packet w) pid packet n).begin
-    near-plain (At j) = near-standing (λ d. type_by d.kind) (token_of packet).address j
-    near-plain Missing =
+    near-plain : (f : Option ℕ) → (start_plain s (place_at f x0 e0 pid packet v) pid packet n).begin ≡ (start_plain s (place_at f x0 e0 pid packet w) pid packet n).begin
+    near-plain (Some j) = near-standing (λ d. type_by d.kind) (token_of packet).address j
+    near-plain None =
         let address = address_for pid (token_of packet).number in
         ap (λ (p : Place). (start_plain s p pid packet n).begin)
-        (ap (λ (g : Found). new_on g (token_of packet).address address v) (same-device (token_of packet).address) ∙ same_new (device_for (token_of packet).address w) (token_of packet).address address)
+        (ap (λ (g : Option ℕ). new_on g (token_of packet).address address v) (same-device (token_of packet).address) ∙ same_new (device_for (token_of packet).address w) (token_of packet).address address)
 
     pub near-starting : (starting s x0 e0 pid packet n v).begin ≡ (starting s x0 e0 pid packet n w).begin
     unfolding starting place_of
     near-starting =
-        ap (λ (f : Found). (pick (eqb pid MALFORMED) (start_on s (standing x0 e0 invalid_ep v) Unknown 0 pid n) (pick (eqb pid SPLIT) (start_split packet pid n (standing x0 e0 invalid_ep v)) (start_plain s (place_at f x0 e0 pid packet v) pid packet n))).begin) (same-found pid packet)
+        ap (λ (f : Option ℕ). (pick (eqb pid MALFORMED) (start_on s (standing x0 e0 invalid_ep v) Unknown 0 pid n) (pick (eqb pid SPLIT) (start_split packet pid n (standing x0 e0 invalid_ep v)) (start_plain s (place_at f x0 e0 pid packet v) pid packet n))).begin) (same-found pid packet)
         ∙ by (eqb pid MALFORMED) (eqb pid SPLIT)
       where
         by : (b c : Bool)

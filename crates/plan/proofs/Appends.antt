@@ -9,8 +9,7 @@ use Rattle.transaction.specs.declared.Style.{Style}
 use Rattle.transaction.specs.declared.Style.TheVariants.{Nothing, Simple, Split, Token}
 use Rattle.transaction.specs.declared.Transaction.{Transaction}
 use Rattle.endpoints.specs.declared.Endpoint.{Endpoint}
-use Rattle.details.specs.declared.Found.{Found}
-use Rattle.details.specs.declared.Found.TheVariants.{At, Nothing as Missing}
+use Rattle.std.specs.Prelude.{Option, Some, None}
 use Rattle.rules.specs.World.{World, ◌▷◌, with_transaction, with_pid, with_token, change_device}
 use Rattle.rules.specs.Endpoints.{add_device, device_for, address_for, push_endpoint, add_endpoint_on, packet_endpoint_at, number_at, found, set_endpoint_type, typed}
 use Rattle.rules.specs.Groups.{group_early_append}
@@ -62,20 +61,20 @@ module _ (s : Status) (id pid x0 : ℕ) (packet : List ℕ) (b : Transaction) (w
   abbrev token_in : ℕ → ℕ → ℕ → World → World
   token_in sc kind x v = v ▷ set_endpoint_type x kind ▷ with_transaction (with_pid pid (with_token (Token sc kind pid) x b))
 
-  new_is : (sc kind : ℕ) (g : Found) → token_in sc kind w.count (add_endpoint_on g owner address brought) ≡ rows_of (with_token_on s (new_on g owner address w) sc kind owner pid b)
+  new_is : (sc kind : ℕ) (g : Option ℕ) → token_in sc kind w.count (add_endpoint_on g owner address brought) ≡ rows_of (with_token_on s (new_on g owner address w) sc kind owner pid b)
   unfolding opened
-  new_is sc kind (At d) =
+  new_is sc kind (Some d) =
       let v = push_endpoint d address brought in
       λ i. with_transaction (with_pid pid (with_token (Token sc kind pid) w.count b)) (change_device (new-entry d address brought i).device (typed (new-entry d address brought i).address kind) v)
-  new_is sc kind Missing =
+  new_is sc kind None =
       let u = add_device owner brought in
       let v = push_endpoint w.device_count address u in
       λ i. with_transaction (with_pid pid (with_token (Token sc kind pid) w.count b)) (change_device (new-entry w.device_count address u i).device (typed (new-entry w.device_count address u i).address kind) v)
 
-  token-is : (sc kind : ℕ) (f : Found) → token_in sc kind (number_at f brought) (packet_endpoint_at f pid packet brought) ≡ rows_of (with_token_on s (place_at f x0 old pid packet w) sc kind owner pid b)
+  token-is : (sc kind : ℕ) (f : Option ℕ) → token_in sc kind (number_at f brought) (packet_endpoint_at f pid packet brought) ≡ rows_of (with_token_on s (place_at f x0 old pid packet w) sc kind owner pid b)
   unfolding opened
-  token-is sc kind (At i) = refl
-  token-is sc kind Missing = new_is sc kind (device_for owner w)
+  token-is sc kind (Some i) = refl
+  token-is sc kind None = new_is sc kind (device_for owner w)
 
   brought_alike : Alike w brought
   brought_alike = record { count = refl; devices = refl; device_count = refl; device = λ j. refl; address = λ j. refl }
@@ -88,7 +87,7 @@ module _ (s : Status) (id pid x0 : ℕ) (packet : List ℕ) (b : Transaction) (w
       by Nothing = refl
       by (Simple first) = refl
       by (Split sc kind) =
-          token-is sc kind (found pid packet brought) ∙ ap (λ (f : Found). rows_of (with_token_on s (place_at f x0 old pid packet w) sc kind owner pid b)) (same-found brought_alike pid packet)
+          token-is sc kind (found pid packet brought) ∙ ap (λ (f : Option ℕ). rows_of (with_token_on s (place_at f x0 old pid packet w) sc kind owner pid b)) (same-found brought_alike pid packet)
       by (Token sc kind token) = refl
 
   -- what is decided for its endpoint

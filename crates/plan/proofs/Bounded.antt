@@ -21,8 +21,7 @@ use Rattle.details.specs.Kind.{Unknown}
 use Rattle.details.specs.Search.{first_from}
 use Rattle.details.proofs.SearchLaws.{First, Last, first-is, last-is}
 use Rattle.endpoints.specs.declared.Endpoint.{Endpoint}
-use Rattle.details.specs.declared.Found.{Found}
-use Rattle.details.specs.declared.Found.TheVariants.{At, Nothing as Missing}
+use Rattle.std.specs.Prelude.{Option, Some, None}
 use Rattle.rules.specs.World.{World, invalid_ep, framing_ep}
 use Rattle.endpoints.specs.Table.{new_endpoint}
 use Rattle.rules.specs.Endpoints.{device_for, address_for, endpoint_lookup, found}
@@ -32,17 +31,17 @@ use Rattle.plan.specs.declared.Place.{Place}
 use Rattle.plan.proofs.Small.{Small, new_small}
 
 -- a row that a search found
-abbrev pub Within : ℕ → Found → Type 0
-Within n (At i) = i < n
-Within n Missing = Unit {0}
+abbrev pub Within : ℕ → Option ℕ → Type 0
+Within n (Some i) = i < n
+Within n None = Unit {0}
 
-first_within : (n : ℕ) (test : ℕ → Bool) (f : Found) → First test 0 n f → Within n f
-first_within n test (At j) h = omega (arith, h.1.0)
-first_within n test Missing h = tt
+first_within : (n : ℕ) (test : ℕ → Bool) (f : Option ℕ) → First test 0 n f → Within n f
+first_within n test (Some j) h = omega (arith, h.1.0)
+first_within n test None h = tt
 
-last_within : (n : ℕ) (test : ℕ → Bool) (f : Found) → Last test n f → Within n f
-last_within n test (At j) h = h.0
-last_within n test Missing h = tt
+last_within : (n : ℕ) (test : ℕ → Bool) (f : Option ℕ) → Last test n f → Within n f
+last_within n test (Some j) h = h.0
+last_within n test None h = tt
 
 pub device_within : (address : ℕ) (w : World) → Within w.device_count (device_for address w)
 device_within address w = last_within w.device_count (λ i. eqb (w.devices i).address address) (device_for address w) (last-is (λ i. eqb (w.devices i).address address) w.device_count)
@@ -50,13 +49,13 @@ device_within address w = last_within w.device_count (λ i. eqb (w.devices i).ad
 pub found_within : (pid : ℕ) (packet : List ℕ) (w : World) → 3 ≤ w.count → Within w.count (found pid packet w)
 found_within pid packet w h = by (eqb pid SOF) ((SETUP or IN or OUT or only PING) pid)
   where
-    looked : (f : Found) (address : ℕ) → Within w.count (endpoint_lookup f address w)
-    looked (At d) address =
+    looked : (f : Option ℕ) (address : ℕ) → Within w.count (endpoint_lookup f address w)
+    looked (Some d) address =
         let test : ℕ → Bool = λ i. eqb (w.endpoints i).device d && eqb (w.endpoints i).address address in
         first_within w.count test (first_from test 0 w.count) (first-is test w.count 0)
-    looked Missing address = tt
+    looked None address = tt
 
-    by : (a b : Bool) → Within w.count (pick a (At framing_ep) (pick b (endpoint_lookup (device_for (token_of packet).address w) (address_for pid (token_of packet).number) w) (At invalid_ep)))
+    by : (a b : Bool) → Within w.count (pick a (Some framing_ep) (pick b (endpoint_lookup (device_for (token_of packet).address w) (address_for pid (token_of packet).number) w) (Some invalid_ep)))
     by true b = omega arith
     by false true = looked (device_for (token_of packet).address w) (address_for pid (token_of packet).number)
     by false false = omega arith
@@ -102,17 +101,17 @@ module _ (w : World) (special : 3 ≤ w.count) (devices : w.device_count ≤ 64)
   standing-placed : (i : ℕ) → i < w.count → Placed w.count ts gs (standing x0 e0 i w)
   standing-placed i h = record { there = omega arith; number = (entries i h).fits.address; place = never; entry = entry_small i h }
 
-  new-placed : (g : Found) (owner address : ℕ) → address < 256 → Within w.device_count g → Placed w.count ts gs (new_on g owner address w)
-  new-placed (At d) owner address h v = record { there = omega arith; number = h; place = λ q. omega arith; entry = new_small d address h }
-  new-placed Missing owner address h v = record { there = omega arith; number = h; place = λ q. omega arith; entry = new_small w.device_count address h }
+  new-placed : (g : Option ℕ) (owner address : ℕ) → address < 256 → Within w.device_count g → Placed w.count ts gs (new_on g owner address w)
+  new-placed (Some d) owner address h v = record { there = omega arith; number = h; place = λ q. omega arith; entry = new_small d address h }
+  new-placed None owner address h v = record { there = omega arith; number = h; place = λ q. omega arith; entry = new_small w.device_count address h }
 
   place-placed : (pid : ℕ) (packet : List ℕ) → Placed w.count ts gs (place_of x0 e0 pid packet w)
   unfolding place_of
   place-placed pid packet = by (found pid packet w) (found_within pid packet w special)
     where
-      by : (f : Found) → Within w.count f → Placed w.count ts gs (place_at f x0 e0 pid packet w)
-      by (At i) h = standing-placed i h
-      by Missing h = new-placed (device_for (token_of packet).address w) (token_of packet).address (address_for pid (token_of packet).number) (address_byte pid packet) (device_within (token_of packet).address w)
+      by : (f : Option ℕ) → Within w.count f → Placed w.count ts gs (place_at f x0 e0 pid packet w)
+      by (Some i) h = standing-placed i h
+      by None h = new-placed (device_for (token_of packet).address w) (token_of packet).address (address_for pid (token_of packet).number) (address_byte pid packet) (device_within (token_of packet).address w)
 
   module _ (s : Status) (pid n : ℕ) (byte : pid < 256) (packet : List ℕ) where
     on_bounded : (p : Place) (kind owner : ℕ) → Placed w.count ts gs p → Bounded w.count ts gs n (start_on s p kind owner pid n)

@@ -24,8 +24,7 @@ use Rattle.details.specs.Details.{with_type, fresh}
 use Rattle.details.specs.Kind.{Unknown}
 use Rattle.details.specs.declared.Device.{Device}
 use Rattle.endpoints.specs.declared.Endpoint.{Endpoint}
-use Rattle.details.specs.declared.Found.{Found}
-use Rattle.details.specs.declared.Found.TheVariants.{At, Nothing as Missing}
+use Rattle.std.specs.Prelude.{Option, Some, None}
 use Rattle.group.specs.declared.Effect.{Effect}
 use Rattle.group.specs.declared.Effect.TheVariants.{NoEffect, NewDevice, Request, PendingData, IndexData}
 use Rattle.rules.specs.World.{World, ◌▷◌, invalid_ep, with_transaction, change, change_device}
@@ -243,13 +242,13 @@ module _ (w : World) where
   unfolding place_of
   place-behind x0 e0 pid packet = by (found pid packet w)
     where
-      new : (d : Found) (owner address : ℕ) → NewBehind (new_on d owner address w) w
-      new (At d) owner address = never
-      new Missing owner address = λ h. refl
+      new : (d : Option ℕ) (owner address : ℕ) → NewBehind (new_on d owner address w) w
+      new (Some d) owner address = never
+      new None owner address = λ h. refl
 
-      by : (f : Found) → NewBehind (place_at f x0 e0 pid packet w) w
-      by (At i) = never
-      by Missing = new (device_for (token_of packet).address w) (token_of packet).address (address_for pid (token_of packet).number)
+      by : (f : Option ℕ) → NewBehind (place_at f x0 e0 pid packet w) w
+      by (Some i) = never
+      by None = new (device_for (token_of packet).address w) (token_of packet).address (address_for pid (token_of packet).number)
 
   abbrev MiddleBehind : Middle → Type 0
   MiddleBehind m = Behind m.begin w.device_count

@@ -8,8 +8,8 @@ use lib.ListN.{length}
 use Rattle.usb.specs.Packet.{checked_of}
 use Rattle.usb.specs.Pid.{OUT, IN, SOF, PING, MALFORMED, SETUP, SPLIT}
 use Rattle.usb.specs.Types.{Complete}
-use Rattle.usb.specs.declared.Checked.{Checked}
-use Rattle.usb.specs.declared.Checked.TheVariants.{Valid, Malformed}
+use Rattle.std.specs.Prelude.{Result, Ok, Err}
+use Rattle.usb.specs.declared.reason.Reason.{Reason}
 use Rattle.details.specs.declared.Detail.{Detail}
 use Rattle.endpoints.specs.declared.Endpoint.{Endpoint}
 use Rattle.transaction.specs.Table.{pick, Row, only, ◌or◌, fits, look}
@@ -103,8 +103,8 @@ no-transaction high P new invalid t h packet = by (checked_of packet)
     rows false true = new
     rows false false = invalid
 
-    by : (c : Checked) → P (judged_of high t c (length packet)).status
-    by (Malformed reason) = invalid
-    by (Valid next) =
+    by : (c : Result ℕ Reason) → P (judged_of high t c (length packet)).status
+    by (Err reason) = invalid
+    by (Ok next) =
         subst (λ (s : Style). P (status_of high s t next (length packet))) (sym h)
         (rows (fits (SOF or SETUP or IN or OUT or PING or only SPLIT ∷ []) (next ∷ []) && true) (fits (only MALFORMED ∷ []) (next ∷ []) && true))

@@ -17,8 +17,7 @@ use Rattle.details.specs.Kind.{Unknown}
 use Rattle.details.specs.Details.{details_of, with_type, fresh}
 use Rattle.details.specs.declared.Device.{Device}
 use Rattle.endpoints.specs.declared.Endpoint.{Endpoint}
-use Rattle.details.specs.declared.Found.{Found}
-use Rattle.details.specs.declared.Found.TheVariants.{At, Nothing as Missing}
+use Rattle.std.specs.Prelude.{Option, Some, None}
 use Rattle.rules.specs.World.{World, invalid_ep, with_slot, with_transaction, change_device}
 use Rattle.rules.specs.Endpoints.{device_for, address_for, found, add_device, push_endpoint, typed, detail_of}
 use Rattle.rules.specs.Transactions.{transaction_end_at}
@@ -57,18 +56,18 @@ module _ (s : Status) (id pid x0 n : ℕ) (packet : List ℕ) (w : World) where
   unfolding opened
   settled-standing i kind owner = record { entry = own-entry x0 i w; detail = refl }
 
-  settled-new : (g : Found) (address : ℕ) → Settled id w (start_plain s (new_on g owner address w) pid packet n)
+  settled-new : (g : Option ℕ) (address : ℕ) → Settled id w (start_plain s (new_on g owner address w) pid packet n)
   unfolding opened
-  settled-new (At d) address =
+  settled-new (Some d) address =
       record { entry = new-entry d address w; detail = ap (λ (e : Endpoint). details_of (w.devices e.device) e.address) (new-entry d address w) }
-  settled-new Missing address =
+  settled-new None address =
       let v = add_device owner w in
       let e = new-entry w.device_count address v in
       record { entry = e; detail = ap (λ (e : Endpoint). details_of (v.devices e.device) e.address) e ∙ ap (λ (d : Device). details_of d address) (new-device owner w) }
 
-  settled_plain : (f : Found) → Settled id w (start_plain s (place_at f x0 old pid packet w) pid packet n)
-  settled_plain (At i) = settled-standing i (type_by (detail_of i w).kind) owner
-  settled_plain Missing = settled-new (device_for owner w) (address_for pid (token_of packet).number)
+  settled_plain : (f : Option ℕ) → Settled id w (start_plain s (place_at f x0 old pid packet w) pid packet n)
+  settled_plain (Some i) = settled-standing i (type_by (detail_of i w).kind) owner
+  settled_plain None = settled-new (device_for owner w) (address_for pid (token_of packet).number)
 
   -- but for a split, which has no endpoint yet
   pub start-settled : eqb (starting s x0 old pid packet n w).begin.transaction.endpoint 0 ≡ false → Settled id w (starting s x0 old pid packet n w)
@@ -105,19 +104,19 @@ module _ (s : Status) (id pid x0 : ℕ) (packet : List ℕ) (b : Transaction) (w
       ∙ (ap (λ (z : Device). details_of z address) (changed-device d (typed address kind) (push_endpoint d address v))
       ∙ (ap (λ (z : Device). details_of (with_type z address kind) address) h ∙ typed-detail k address kind))
 
-  settled-token : (sc kind : ℕ) (f : Found) → Settled id w (with_token_on s (place_at f x0 before pid packet w) sc kind (token_of packet).address pid b)
+  settled-token : (sc kind : ℕ) (f : Option ℕ) → Settled id w (with_token_on s (place_at f x0 before pid packet w) sc kind (token_of packet).address pid b)
   unfolding opened
-  settled-token sc kind (At i) =
+  settled-token sc kind (Some i) =
       let a = (w.endpoints i).address in
       record {
         entry = own-entry x0 i w;
         detail = ap (λ (z : Device). details_of z a) (changed-device (w.endpoints i).device (typed a kind) w) ∙ typed-detail (w.devices (w.endpoints i).device) a kind;
       }
-  settled-token sc kind Missing = by (device_for (token_of packet).address w)
+  settled-token sc kind None = by (device_for (token_of packet).address w)
     where
-      by : (g : Found) → Settled id w (with_token_on s (new_on g (token_of packet).address address w) sc kind (token_of packet).address pid b)
-      by (At d) = record { entry = new-entry d address w; detail = typed-new kind d w (w.devices d) refl }
-      by Missing =
+      by : (g : Option ℕ) → Settled id w (with_token_on s (new_on g (token_of packet).address address w) sc kind (token_of packet).address pid b)
+      by (Some d) = record { entry = new-entry d address w; detail = typed-new kind d w (w.devices d) refl }
+      by None =
           let a = (token_of packet).address in
           let v = add_device a w in
           record { entry = new-entry w.device_count address v; detail = typed-new kind w.device_count v (fresh a) (new-device a w) }

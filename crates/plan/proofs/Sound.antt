@@ -10,8 +10,8 @@ use Rattle.rows.specs.One.{one}
 use Rattle.usb.specs.Fields.{setup_data_of}
 use Rattle.usb.proofs.Laws.{valid}
 use Rattle.usb.specs.Packet.{checked_of}
-use Rattle.usb.specs.declared.Checked.{Checked}
-use Rattle.usb.specs.declared.Checked.TheVariants.{Valid, Malformed}
+use Rattle.std.specs.Prelude.{Result, Ok, Err}
+use Rattle.usb.specs.declared.reason.Reason.{Reason}
 use Rattle.transaction.specs.Payload.{start_pid, extract_payload}
 use Rattle.transaction.specs.Status.{judged_of, transaction_status}
 use Rattle.transaction.specs.declared.Judged.{Judged}
@@ -107,9 +107,9 @@ pid_byte : (high : Bool) (t : Transaction) (packet : List ℕ) → get_or packet
 unfolding transaction_status
 pid_byte high t packet h = by (checked_of packet) refl
   where
-    by : (c : Checked) → checked_of packet ≡ c → (judged_of high t c (length packet)).pid < 256
-    by (Malformed reason) q = omega arith
-    by (Valid next) q = omega (arith, (valid packet next q).first)
+    by : (c : Result ℕ Reason) → checked_of packet ≡ c → (judged_of high t c (length packet)).pid < 256
+    by (Err reason) q = omega arith
+    by (Ok next) q = omega (arith, (valid packet next q).first)
 
 -- ---- the steps of a plan
 

@@ -16,8 +16,7 @@ use Rattle.details.specs.Kind.{Unknown}
 use Rattle.details.specs.Details.{details_of, fresh}
 use Rattle.details.specs.declared.Device.{Device}
 use Rattle.endpoints.specs.declared.Endpoint.{Endpoint}
-use Rattle.details.specs.declared.Found.{Found}
-use Rattle.details.specs.declared.Found.TheVariants.{At, Nothing}
+use Rattle.std.specs.Prelude.{Option, Some, None as Absent}
 use Rattle.endpoints.specs.declared.Phase.{Phase}
 use Rattle.endpoints.specs.declared.Phase.TheVariants.{None, Early, Active, Ended}
 use Rattle.rules.specs.World.{World, invalid_ep, with_slot, with_transaction, new_transaction}
@@ -167,18 +166,18 @@ module _ (s : Status) (begins : Begins s) (id pid x0 : ℕ) (packet : List ℕ) 
       h' : v.devices ((push_endpoint d address v).endpoints v.count).device ≡ k
       h' = ap (λ (e : Endpoint). v.devices e.device) (new-entry d address v) ∙ h
 
-  new_is : (g : Found) (address : ℕ)
+  new_is : (g : Option ℕ) (address : ℕ)
       → (let v = add_endpoint_on g owner address pushed in following s (begin_on w.count (type_of w.count v) pid n v))
       ≡ with_slot Current (begun id (start_plain s (new_on g owner address w) pid packet n).begin w)
   unfolding begun opened
-  new_is (At d) address = on-new pushed d address (w.devices d) refl
-  new_is Nothing address = on-new (add_device owner pushed) w.device_count address (fresh owner) (new-device owner pushed)
+  new_is (Some d) address = on-new pushed d address (w.devices d) refl
+  new_is Absent address = on-new (add_device owner pushed) w.device_count address (fresh owner) (new-device owner pushed)
 
-  plain-is : (f : Found)
+  plain-is : (f : Option ℕ)
       → (let v = packet_endpoint_at f pid packet pushed in following s (begin_on (number_at f pushed) (type_of (number_at f pushed) v) pid n v))
       ≡ with_slot Current (begun id (start_plain s (place_at f x0 known pid packet w) pid packet n).begin w)
-  plain-is (At i) = standing-is i (type_of i pushed) owner
-  plain-is Nothing = new_is (device_for owner w) (address_for pid (token_of packet).number)
+  plain-is (Some i) = standing-is i (type_of i pushed) owner
+  plain-is Absent = new_is (device_for owner w) (address_for pid (token_of packet).number)
 
   pushed_alike : Alike w pushed
   pushed_alike = record { count = refl; devices = refl; device_count = refl; device = λ j. refl; address = λ j. refl }
@@ -186,7 +185,7 @@ module _ (s : Status) (begins : Begins s) (id pid x0 : ℕ) (packet : List ℕ) 
   begin-plain-is : following s (begin_plain pid packet n pushed) ≡ with_slot Current (begun id (start_plain s (place_at (found pid packet w) x0 known pid packet w) pid packet n).begin w)
   begin-plain-is =
       plain-is (found pid packet pushed)
-      ∙ ap (λ (f : Found). with_slot Current (begun id (start_plain s (place_at f x0 known pid packet w) pid packet n).begin w)) (same-found pushed_alike pid packet)
+      ∙ ap (λ (f : Option ℕ). with_slot Current (begun id (start_plain s (place_at f x0 known pid packet w) pid packet n).begin w)) (same-found pushed_alike pid packet)
 
   pub start_is : following s (transaction_start id pid packet w) ≡ with_slot Current (begun id (starting s x0 known pid packet n w).begin w)
   unfolding starting place_of

@@ -20,8 +20,7 @@ use Rattle.transaction.specs.declared.Style.TheVariants.{Nothing, Simple, Split,
 use Rattle.transaction.specs.declared.Transaction.{Transaction}
 use Rattle.details.specs.Kind.{Unknown}
 use Rattle.details.specs.declared.Detail.{Detail}
-use Rattle.details.specs.declared.Found.{Found}
-use Rattle.details.specs.declared.Found.TheVariants.{At, Nothing as Missing}
+use Rattle.std.specs.Prelude.{Option, Some, None}
 use Rattle.endpoints.specs.declared.Endpoint.{Endpoint}
 use Rattle.group.specs.declared.Effect.TheVariants.{NoEffect}
 use Rattle.group.specs.declared.Grouped.{Grouped}
@@ -230,17 +229,17 @@ module _ (w : World) (special : 3 ≤ w.count) (entries : (j : ℕ) → j < w.co
       by true = refl
       by false = sym (entries i h)
 
-  new-words : (f : Found) (owner address : ℕ) → new_on f owner address w ≡ place_words (new_on f owner address w)
-  new-words (At d) owner address = refl
-  new-words Missing owner address = refl
+  new-words : (f : Option ℕ) (owner address : ℕ) → new_on f owner address w ≡ place_words (new_on f owner address w)
+  new-words (Some d) owner address = refl
+  new-words None owner address = refl
 
   place-words : (pid : ℕ) (packet : List ℕ) → place_of x0 (in_words e0) pid packet w ≡ place_words (place_of x0 e0 pid packet w)
   unfolding place_of
   place-words pid packet = by (found pid packet w) (found_within pid packet w special)
     where
-      by : (f : Found) → Within w.count f → place_at f x0 (in_words e0) pid packet w ≡ place_words (place_at f x0 e0 pid packet w)
-      by (At i) h = standing-words i h
-      by Missing h = new-words (device_for (token_of packet).address w) (token_of packet).address (address_for pid (token_of packet).number)
+      by : (f : Option ℕ) → Within w.count f → place_at f x0 (in_words e0) pid packet w ≡ place_words (place_at f x0 e0 pid packet w)
+      by (Some i) h = standing-words i h
+      by None h = new-words (device_for (token_of packet).address w) (token_of packet).address (address_for pid (token_of packet).number)
 
   starting-words : (s : verdict.Status) (pid : ℕ) (packet : List ℕ) (n : ℕ) → starting s x0 (in_words e0) pid packet (n % 2 ^ 64) w ≡ middle_words (starting s x0 e0 pid packet n w)
   unfolding starting

@@ -1,5 +1,5 @@
 -- Inner (cited by private contracts alone): the steps of a packet, decided from the world before it.
-use Rattle.std.specs.Prelude.{Bool, true, false, ◌&&◌, not, List, ℕ, ◌+◌, eqb, ltb, length}
+use Rattle.std.specs.Prelude.{Bool, true, false, ◌&&◌, not, List, ℕ, ◌+◌, eqb, ltb, length, Option, Some, None}
 use Rattle.group.specs.declared.Effect.TheVariants.{NoEffect}
 use Rattle.rows.specs.One.{one}
 use Rattle.usb.specs.Pid.{SPLIT, MALFORMED}
@@ -9,8 +9,6 @@ use Rattle.details.specs.Details.{number_of, details_of, fresh}
 use Rattle.details.specs.Kind.{Unknown}
 use Rattle.details.specs.declared.Detail.{Detail}
 use Rattle.endpoints.specs.declared.Endpoint.{Endpoint}
-use Rattle.details.specs.declared.Found.{Found}
-use Rattle.details.specs.declared.Found.TheVariants.{At, Nothing as Missing}
 use Rattle.transaction.specs.Table.{pick}
 use Rattle.transaction.specs.Payload.{start_pid, extract_payload}
 use Rattle.transaction.specs.Status.{transaction_status}
@@ -86,15 +84,15 @@ abbrev pub standing : ℕ → Endpoint → ℕ → World → Place
 standing x0 e0 i w =
     record { x = i; new = false; device = false; place = (w.endpoints i).device; number = (w.endpoints i).address; detail = detail_of i w; entry = entry_by x0 e0 i w }
 
-abbrev pub new_on : Found → ℕ → ℕ → World → Place
-new_on (At d) owner address w =
+abbrev pub new_on : Option ℕ → ℕ → ℕ → World → Place
+new_on (Some d) owner address w =
     record { x = w.count; new = true; device = false; place = d; number = address; detail = details_of (w.devices d) address; entry = new_endpoint d address }
-new_on Missing owner address w =
+new_on None owner address w =
     record { x = w.count; new = true; device = true; place = w.device_count; number = address; detail = details_of (fresh owner) address; entry = new_endpoint w.device_count address }
 
-abbrev pub place_at : Found → ℕ → Endpoint → ℕ → List ℕ → World → Place
-place_at (At i) x0 e0 pid packet w = standing x0 e0 i w
-place_at Missing x0 e0 pid packet w = new_on (device_for (token_of packet).address w) (token_of packet).address (address_for pid (token_of packet).number) w
+abbrev pub place_at : Option ℕ → ℕ → Endpoint → ℕ → List ℕ → World → Place
+place_at (Some i) x0 e0 pid packet w = standing x0 e0 i w
+place_at None x0 e0 pid packet w = new_on (device_for (token_of packet).address w) (token_of packet).address (address_for pid (token_of packet).number) w
 
 unfoldable pub place_of : ℕ → Endpoint → ℕ → List ℕ → World → Place
 place_of x0 e0 pid packet w = place_at (found pid packet w) x0 e0 pid packet w

@@ -2,10 +2,11 @@
 use mathlib.Core.Path.{◌≡◌, refl, sym, ap, subst, ◌∙◌}
 use mathlib.Core.Bool.{Bool, true, false, ◌||◌}
 use mathlib.Core.List.{List, [], ◌∷◌}
-use Prim.Native.Nat.{ℕ, ◌+◌, ◌*◌, ◌/◌, ◌^◌, ◌<◌, ◌≤◌}
+use Prim.Native.Nat.{ℕ, ◌+◌, ◌*◌, ◌^◌, ◌<◌, ◌≤◌}
 use native.Mathlib.Omega.{arith}
 use lib.ListN.{length}
 use lib.Seq.{sets}
+use Rattle.std.specs.Prelude.{Ok}
 use Rattle.usb.specs.Packet.{no_reason}
 use Rattle.rows.specs.One.{one}
 use Rattle.rows.specs.Sets.{opt}
@@ -70,7 +71,7 @@ shape {p} h =
 -- ---- the sum
 
 abbrev pub begin_sum : Bool → Bool → ℕ → Decoder → Sum
-begin_sum row l len d = record { answer = 0; counts = more_rows (one row) (one l) len d.counts; waiting = d.waiting }
+begin_sum row l len d = record { counts = more_rows (one row) (one l) len d.counts; waiting = d.waiting }
 
 module _ (p : Plan) (t : Transaction) (slot : Slot) (d : Decoder) (len : ℕ) where
   counts_by : (row l : Bool) (n : Counts) → add_counts n (tally_of d (only_begin p row t l slot) len) ≡ more_rows (one row) (one l) len n
@@ -88,11 +89,11 @@ module _ (p : Plan) (t : Transaction) (slot : Slot) (d : Decoder) (len : ℕ) wh
   waiting_by false false = refl
 
   pub sum-by : (row l : Bool) (held room : Counts) → Within held room → Numbered d.counts → RowsRoom (one row) (one l) len held d.counts room
-      → sum_plan d held (only_begin p row t l slot) len room ≡ begin_sum row l len d
+      → sum_plan d held (only_begin p row t l slot) len room ≡ Ok (begin_sum row l len d)
   unfolding sum_plan plan_passes
   sum-by row l held room w m f =
       ap (λ (b : Bool). sum_by b false d (tally_of d (only_begin p row t l slot) len)) (room-by (one row) (one l) len (tally_of d (only_begin p row t l slot) len) held d.counts room (counts_by row l) w m f)
-      ∙ λ i. record { answer = 0; counts = counts_by row l d.counts i; waiting = waiting_by row l i }
+      ∙ λ i. Ok (record { counts = counts_by row l d.counts i; waiting = waiting_by row l i })
 
 -- ---- the steps
 
@@ -112,7 +113,7 @@ BeginWants s t l = (t.endpoint < s.decoder.counts.endpoints) × ((s.decoder.coun
 pub record BeginPlan (packet : List ℕ) (time : ℕ) (s : State) (row : Bool) (t : Transaction) (l : Bool) : Type 0 where
   pub plan : Plan
   pub is : plan_of s.decoder.high packet (world_at s) ≡ plan
-  pub summed : sum_plan s.decoder (held_at s) plan (length packet) (room_of s.logs) ≡ begin_sum row l (length packet) s.decoder
+  pub summed : sum_plan s.decoder (held_at s) plan (length packet) (room_of s.logs) ≡ Ok (begin_sum row l (length packet) s.decoder)
   pub left : left_with plan (begin_sum row l (length packet) s.decoder) packet time s ≡ begin_state row t l packet time s
   pub kept : is_change (change_by s.decoder.high plan s.decoder.counts.devices (held_at s).requests) ≡ false
   -- what the code asks before it writes: the endpoint is there, and its count has room for one more
@@ -134,13 +135,13 @@ module _ (packet : List ℕ) (time : ℕ) (s : State) (h : Enters packet s) wher
 
   module _ {row : Bool} {t : Transaction} {l : Bool} (q : BeginPlan packet time s row t l) where
     pub begin-call : {s' : State} → s' ≡ begin_state row t l packet time s → (shelf : List ℕ) → PacketCall packet time s shelf 0 s' shelf
-    begin-call e shelf = subst (λ (x : State). PacketCall packet time s shelf 0 x shelf) (q.left ∙ sym e) (shape-call packet time s h q.is q.summed refl q.kept shelf)
+    begin-call e shelf = subst (λ (x : State). PacketCall packet time s shelf 0 x shelf) (q.left ∙ sym e) (shape-call packet time s h q.is q.summed q.kept shelf)
 
     pub begin-asks : BeginWants s t l
-    begin-asks = q.wants (shape-asks packet time s h q.is q.summed refl)
+    begin-asks = q.wants (shape-asks packet time s h q.is q.summed)
 
     pub begin-rows : ((held_at s).bytes + length packet ≤ length s.logs.bytes) × (((held_at s).packets + 1) * packet_width ≤ length s.logs.packets)
-    begin-rows = shape-rows packet time s h q.is q.summed refl
+    begin-rows = shape-rows packet time s h q.is q.summed
 
     -- of what the code has: each part with its equation (begin_only)
     pub begin_by : {held : Counts} {r : Decoder} {table bytes packets transactions rows : List ℕ}

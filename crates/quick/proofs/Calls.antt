@@ -1,10 +1,11 @@
 -- A packet whose plan is of a given shape, and whose sum is known: what it leaves, and what carrying it out asks.
 use mathlib.Core.Path.{◌≡◌, refl, sym}
-use mathlib.Core.Bool.{Bool, true, false}
+use mathlib.Core.Bool.{false}
 use mathlib.Core.List.{List, [], ◌∷◌}
 use Prim.Native.Nat.{ℕ, ◌+◌, ◌*◌, ◌<◌, ◌≤◌}
 use lib.ListN.{length, get_or}
 use lib.Seq.{sets}
+use Rattle.std.specs.Prelude.{Ok}
 use Rattle.rows.specs.Widths.{packet_width}
 use Rattle.transaction.specs.Payload.{start_pid}
 use Rattle.rules.specs.Transactions.{is_dropped}
@@ -16,11 +17,11 @@ use Rattle.call.proofs.OutcomeLaws.{sound}
 use Rattle.call.specs.Share.{Known}
 use Rattle.call.specs.State.{State, state, logs, held_at, room_of}
 use Rattle.write_packet.specs.Asked.{PlanAsks}
-use Rattle.write_packet.specs.Desk.{Desk, performed}
+use Rattle.write_packet.specs.Desk.{performed}
 use Rattle.packet.specs.After.{sum_plan, hand_of, decoder_by, change_by, is_change}
 use Rattle.packet.specs.Call.{PacketCall}
 use Rattle.packet.specs.declared.sum.Sum.{Sum}
-use Rattle.packet.proofs.Answers.{Passes, Decided, desk_by, with_parts, accepted-by, asks_by, rows_fit}
+use Rattle.packet.proofs.Answers.{Decided, desk_by, with_parts, accepted-by, asks_by, rows_fit}
 use Rattle.packet.proofs.Changes.{changed-none, shelved-none, requested-none}
 
 -- the tests that were passed, and what is known of the arguments
@@ -45,8 +46,8 @@ module _ (packet : List ℕ) (time : ℕ) (s : State) (h : Enters packet s) wher
   pub well : WellFormed s.decoder s.devices s.table (room_of s.logs)
   well = (sound s h.ill).0
 
-  module _ {q : Plan} {z : Sum} (e : plan_of s.decoder.high packet (world_at s) ≡ q) (f : sum_plan s.decoder (held_at s) q (length packet) (room_of s.logs) ≡ z) (ok : z.answer ≡ 0) where
-    decided : Decided packet s q (held_at s) (room_of s.logs) z
+  module _ {q : Plan} {z : Sum} (e : plan_of s.decoder.high packet (world_at s) ≡ q) (f : sum_plan s.decoder (held_at s) q (length packet) (room_of s.logs) ≡ Ok z) where
+    decided : Decided packet s q (held_at s) (room_of s.logs) (Ok z)
     decided =
         record {
           passes = record { ill = h.ill; finished = h.finished; short = h.short };
@@ -63,14 +64,14 @@ module _ (packet : List ℕ) (time : ℕ) (s : State) (h : Enters packet s) wher
         }
 
     pub shape-asks : PlanAsks q (desk_by (hand_of time q.reason s.decoder (held_at s) s.table) s)
-    shape-asks = asks_by packet time s decided ok refl
+    shape-asks = asks_by packet time s decided refl refl
 
     pub shape-rows : ((held_at s).bytes + length packet ≤ length s.logs.bytes) × (((held_at s).packets + 1) * packet_width ≤ length s.logs.packets)
-    shape-rows = rows_fit packet time s decided ok
+    shape-rows = rows_fit packet time s decided refl
 
     pub shape-call : is_change (change_by s.decoder.high q s.decoder.counts.devices (held_at s).requests) ≡ false → (shelf : List ℕ) → PacketCall packet time s shelf 0 (left_with q z packet time s) shelf
     shape-call c shelf =
         let k = performed q (desk_by (hand_of time q.reason s.decoder (held_at s) s.table) s) in
         let x = change_by s.decoder.high q s.decoder.counts.devices (held_at s).requests in
         with_parts packet time s shelf (sym (changed-none x packet shelf s.devices c)) (sym (requested-none x packet shelf s.devices c s.logs.requests)) (sym (shelved-none x packet shelf s.devices c))
-        (accepted-by packet time s decided ok {h = hand_of time q.reason s.decoder (held_at s) s.table} {k = k} {x = decoder_by s.decoder q z k.hand} {c = x} refl refl refl refl refl refl shelf)
+        (accepted-by packet time s decided refl {h = hand_of time q.reason s.decoder (held_at s) s.table} {k = k} {x = decoder_by s.decoder q z k.hand} {c = x} refl refl refl refl refl refl shelf)

@@ -1,11 +1,12 @@
 -- A close-only packet leaves what specs/Close.antt says: `close-only-call`.
 use mathlib.Core.Path.{◌≡◌, refl, sym, ap, subst, ◌∙◌}
-use mathlib.Core.Bool.{Bool, true, false, ◌&&◌, ◌||◌, not}
+use mathlib.Core.Bool.{Bool, true, false, true≢false, ◌&&◌, ◌||◌, not}
 use mathlib.Core.List.{List, [], ◌∷◌}
 use Prim.Native.Nat.{ℕ, ◌+◌, ◌*◌, ◌≤◌}
 use native.Mathlib.Omega.{arith}
 use lib.ListN.{length}
 use lib.Seq.{sets}
+use Rattle.std.specs.Prelude.{Ok, Option, Some, None}
 use Rattle.usb.specs.Packet.{no_reason}
 use Rattle.rows.specs.Widths.{packet_width}
 use Rattle.details.specs.declared.Detail.{Detail}
@@ -38,8 +39,7 @@ use Rattle.write_packet.specs.Desk.{desk, begun_desk, ended_desk}
 use Rattle.write_packet.specs.declared.Hand.{Hand}
 use Rattle.packet.specs.After.{sum_by, sum_plan, tally_of, accepted, hand_of}
 use Rattle.packet.specs.Call.{PacketCall}
-use Rattle.quick.specs.Close.{only_close, CloseOnly, end_by, close_tally, close_of, CloseFits, holding, close_hand, closed_decoder, close_state}
-use Rattle.quick.specs.declared.close.Close.{Close}
+use Rattle.quick.specs.Close.{only_close, CloseOnly, end_by, close_tally, taken, rows_if, close_of, CloseFits, holding, close_hand, closed_decoder, close_state}
 use Rattle.quick.specs.declared.shape.Shape.{Shape}
 use Rattle.quick.proofs.Calls.{Enters, left_with, shape-asks, shape-rows, shape-call}
 use Rattle.quick.proofs.Fit.{off}
@@ -74,7 +74,7 @@ module _ (p : Plan) (t : Transaction) (e : End) (slot : Slot) (d : Decoder) (len
   unfolding tally_plan tally_begin tally_update close_tally
   tally-by = let same : d.counts.endpoints + 0 ≡ d.counts.endpoints = omega arith in ap (λ (n : ℕ). tally_end e n (nothing d.waiting ▷ add_packet len)) same
 
-  pub sum-by : (held room : Counts) → CloseFits e len d held room → sum_plan d held (only_close p t e slot) len room ≡ accepted d (close_tally e len d)
+  pub sum-by : (held room : Counts) → CloseFits e len d held room → sum_plan d held (only_close p t e slot) len room ≡ Ok (accepted d (close_tally e len d))
   unfolding sum_plan plan_passes
   sum-by held room f =
       ap (λ (x : Tally). sum_by (room_for held d.counts x room) (passes e.effect e.entry.total) d x) tally-by
@@ -91,20 +91,20 @@ left_by p t e packet time s = refl
 
 module _ (packet : List ℕ) (time : ℕ) (s : State) (h : Enters packet s) where
   module _ {t : Transaction} {e : End} (q : CloseOnly (plan_of s.decoder.high packet (world_at s)) t e Empty) (f : CloseFits e (length packet) s.decoder (held_at s) (room_of s.logs)) where
-    summed : sum_plan s.decoder (held_at s) (only_close (plan_of s.decoder.high packet (world_at s)) t e Empty) (length packet) (room_of s.logs) ≡ accepted s.decoder (close_tally e (length packet) s.decoder)
+    summed : sum_plan s.decoder (held_at s) (only_close (plan_of s.decoder.high packet (world_at s)) t e Empty) (length packet) (room_of s.logs) ≡ Ok (accepted s.decoder (close_tally e (length packet) s.decoder))
     summed = sum-by (plan_of s.decoder.high packet (world_at s)) t e Empty s.decoder (length packet) (held_at s) (room_of s.logs) f
 
     pub close-only-call : keeps s.decoder.high (plan_of s.decoder.high packet (world_at s)) ≡ false → {s' : State} → s' ≡ close_state t e (close_tally e (length packet) s.decoder) packet time s → (shelf : List ℕ) → PacketCall packet time s shelf 0 s' shelf
     close-only-call u c shelf =
         let k : keeps s.decoder.high (only_close (plan_of s.decoder.high packet (world_at s)) t e Empty) ≡ false = ap (keeps s.decoder.high) (sym (shape q)) ∙ u in
         subst (λ (x : State). PacketCall packet time s shelf 0 x shelf) (left_by (plan_of s.decoder.high packet (world_at s)) t e packet time s ∙ sym c)
-        (shape-call packet time s h (shape q) summed refl (λ i. f.device i || (k i || f.request i)) shelf)
+        (shape-call packet time s h (shape q) summed (λ i. f.device i || (k i || f.request i)) shelf)
 
     -- what carrying the end out asks, of the logs that are lent for it
     pub close-only-asks : EndReady t.endpoint t.id (start_pid t.style) e (desk (close_hand t time s.decoder (held_at s) s.table) s.table s.logs.devices [] [] s.logs.groups s.logs.statebytes s.logs.states s.logs.items s.logs.links)
     unfolding begun_desk ended_desk opened closed
     close-only-asks =
-        let a = shape-asks packet time s h (shape q) summed refl in
+        let a = shape-asks packet time s h (shape q) summed in
         let b = a.close refl in
         record {
           asks = record { few = b.few; there = b.there; transactions = b.transactions; groups = b.groups; total = b.total };
@@ -113,12 +113,25 @@ module _ (packet : List ℕ) (time : ℕ) (s : State) (h : Enters packet s) wher
         }
 
     pub close-only-rows : ((held_at s).bytes + length packet ≤ length s.logs.bytes) × (((held_at s).packets + 1) * packet_width ≤ length s.logs.packets)
-    close-only-rows = shape-rows packet time s h (shape q) summed refl
+    close-only-rows = shape-rows packet time s h (shape q) summed
 
 -- ---- the same, of what the code has decided (end_by, close_of)
 
+-- there are rows where the packet is taken
+abbrev rows_or : Tally → Option Tally → Tally
+rows_or t (Some z) = z
+rows_or t None = t
+
+abbrev is_there : Option Tally → Bool
+is_there (Some z) = true
+is_there None = false
+
+pub some-rows : (b : Bool) (t : Tally) {z : Tally} → Some z ≡ rows_if b t → (b ≡ true) × (z ≡ t)
+some-rows true t {z} e = (refl, ap (rows_or z) e)
+some-rows false t e = absurd (true≢false (ap is_there e))
+
 -- the tests that close_of has put together
-pub taken-fits : (closes : Bool) (e : End) (d : Decoder) (held : Counts) (len : ℕ) (room : Counts) → (close_of closes e d held len room).taken ≡ true → (closes ≡ true) × CloseFits e len d held room
+pub taken-fits : (closes : Bool) (e : End) (d : Decoder) (held : Counts) (len : ℕ) (room : Counts) → taken closes e d held len room ≡ true → (closes ≡ true) × CloseFits e len d held room
 taken-fits closes e d held len room h =
     let a = both closes _ h in
     let b = both (room_for held d.counts (close_tally e len d) room) _ a.1 in
@@ -168,6 +181,6 @@ close_on t e z {held} packet time s {table = table} {v = v} {g = g} {m = m} {st 
     ∙ λ j. state (closed_decoder t z (k j).hand.written s.decoder) s.devices (k j).table (logs (sets g₀.bytes (held_at s).bytes packet) (k j).devices g₀.endpoints (sets g₀.packets ((held_at s).packets * packet_width) (s.decoder.counts.bytes ∷ time ∷ [])) g₀.events g₀.transactions (k j).groups (k j).statebytes (k j).states (k j).items (k j).links g₀.requests)
 
 -- and with the rows of close_of
-pub close-counted : (t : Transaction) (e : End) (packet : List ℕ) (time : ℕ) (s : State) (closes : Bool) (held room : Counts) {c : Close} → c ≡ close_of closes e s.decoder held (length packet) room
-    → close_state t e c.tally packet time s ≡ close_state t e (close_tally e (length packet) s.decoder) packet time s
-close-counted t e packet time s closes held room p = ap (λ (c : Close). close_state t e c.tally packet time s) p
+pub close-counted : (t : Transaction) (e : End) (packet : List ℕ) (time : ℕ) (s : State) (closes : Bool) (held room : Counts) {z : Tally} → Some z ≡ close_of closes e s.decoder held (length packet) room
+    → close_state t e z packet time s ≡ close_state t e (close_tally e (length packet) s.decoder) packet time s
+close-counted t e packet time s closes held room p = ap (λ (x : Tally). close_state t e x packet time s) (some-rows _ _ p).1

@@ -1,5 +1,5 @@
 -- What quick_in has decided, of each of the two shapes: the tests that were passed, and the plan.
-use mathlib.Core.Path.{◌≡◌, refl, sym, ap, subst, ◌∙◌}
+use mathlib.Core.Path.{◌≡◌, sym, ap, subst, ◌∙◌}
 use mathlib.Core.Bool.{Bool, true, false, ◌&&◌}
 use mathlib.Core.List.{List, []}
 use Prim.Native.Nat.{ℕ, ◌+◌, ◌*◌, ◌<◌, ◌≤◌}
@@ -7,7 +7,6 @@ use lib.ListN.{length, get_or}
 use Rattle.rows.specs.One.{one}
 use Rattle.rows.specs.Widths.{packet_width, transaction_width, link_width}
 use Rattle.details.specs.declared.Detail.{Detail}
-use Rattle.details.specs.declared.Device.{Device}
 use Rattle.endpoints.specs.Table.{entry_at}
 use Rattle.endpoints.proofs.TableLaws.{Fits}
 use Rattle.transaction.specs.Payload.{start_pid}
@@ -20,28 +19,27 @@ use Rattle.write_packet.specs.Asked.{EndsIf}
 use Rattle.write_packet.specs.Desk.{desk}
 use Rattle.record.specs.Bools.{both}
 use Rattle.record.specs.declared.Counts.{Counts}
-use Rattle.record.specs.declared.Decoder.{Decoder}
 use Rattle.plan.specs.Packet.{old_endpoint, end_if, keeps, plan_of}
 use Rattle.plan.specs.Step.{end_of}
 use Rattle.plan.specs.declared.End.{End}
 use Rattle.call.specs.Outcome.{world_at}
 use Rattle.call.specs.Share.{Known}
-use Rattle.call.specs.State.{State, Logs, state, held_at, room_of}
+use Rattle.call.specs.State.{State, state, held_at, room_of}
 use Rattle.packet.specs.After.{keeping, is_change, changed, requested, shelved}
 use Rattle.packet.specs.Call.{PacketCall}
 use Rattle.packet.specs.declared.change.Change.{Change}
 use Rattle.packet.proofs.Answers.{Passes, with_requests, with_parts}
 use Rattle.packet.proofs.Changes.{changed-none, requested-none, shelved-none}
-use Rattle.decide.specs.declared.near.Near.{Near}
 use Rattle.quick.specs.Begin.{Begins}
 use Rattle.quick.specs.Close.{CloseOnly, end_by, close_tally, close_of, CloseFits, close_hand}
 use Rattle.quick.specs.Light.{light_fits}
 use Rattle.quick.specs.Room.{rows_room, RowsRoom}
 use Rattle.quick.specs.Shaped.{Shaped, held_end}
-use Rattle.quick.specs.declared.close.Close.{Close}
+use Rattle.tally.specs.declared.add.Tally.{Tally}
 use Rattle.quick.specs.declared.shape.Shape.{Shape}
 use Rattle.quick.proofs.Calls.{Enters, well}
-use Rattle.quick.proofs.CloseOnly.{taken-fits}
+use Rattle.quick.proofs.CloseOnly.{taken-fits, some-rows}
+use Rattle.std.specs.Prelude.{Some}
 use Rattle.quick.proofs.Fit.{room_fits}
 use Rattle.quick.proofs.LightCall.{LightRoom, light_tests, light-closes, end_fits}
 
@@ -96,11 +94,11 @@ close-plan packet s q old {e} h e1 e2 c =
     e2 ∙ ((λ i. end_if (c i) (end_of x (entry_at s.table x) q.transaction (e1 i) s.decoder.last q.success true) (entry_at s.table x))) in
     (b.live, (subst (λ (y : End). CloseOnly (plan_of s.decoder.high packet (world_at s)) q.transaction y Empty) (sym end) b.plan, b.kept))
 
-pub close-taken : (packet : List ℕ) (s : State) (q : Shape) (old : Detail) {held room : Counts} {e : End} {c : Close} → Meets packet s → Shaped s.decoder.high q (plan_of s.decoder.high packet (world_at s)) (world_at s)
+pub close-taken : (packet : List ℕ) (s : State) (q : Shape) (old : Detail) {held room : Counts} {e : End} {z : Tally} → Meets packet s → Shaped s.decoder.high q (plan_of s.decoder.high packet (world_at s)) (world_at s)
     → held ≡ held_at s → room ≡ room_of s.logs → old ≡ detail_of (old_endpoint s.decoder.slot s.decoder.transaction) (world_at s)
-    → e ≡ end_by q s.decoder old s.table → c ≡ close_of q.closes e s.decoder held (length packet) room → c.taken ≡ true → CloseTaken packet s q e
-close-taken packet s q old {held} {room} {e} {c} m h e0 e1 e2 e3 e4 t =
-    let g = taken-fits q.closes e s.decoder held (length packet) room (sym (ap (λ (x : Close). x.taken) e4) ∙ t) in
+    → e ≡ end_by q s.decoder old s.table → Some z ≡ close_of q.closes e s.decoder held (length packet) room → CloseTaken packet s q e
+close-taken packet s q old {held} {room} {e} m h e0 e1 e2 e3 e4 =
+    let g = taken-fits q.closes e s.decoder held (length packet) room (some-rows _ _ e4).0 in
     let b = close-plan packet s q old h e2 e3 g.0 in
     record {
       enters = enters m b.0;
@@ -154,14 +152,14 @@ begin-lent packet s row l e a b c d =
     subst (λ (h : Counts). (h.bytes + length packet ≤ length s.logs.bytes) × (((h.packets + 1) * packet_width ≤ length s.logs.packets) × (((h.transactions + one row) * transaction_width ≤ length s.logs.transactions) × ((h.links + one l) * link_width ≤ length s.logs.links)))) (sym e)
     (a, (b, (c, d)))
 
-pub close-lent : (packet : List ℕ) (time : ℕ) (s : State) (closes : Bool) (room : Counts) (t : Transaction) {held : Counts} {end : End} {c : Close} → held ≡ held_at s → c ≡ close_of closes end s.decoder held (length packet) room
+pub close-lent : (packet : List ℕ) (time : ℕ) (s : State) (closes : Bool) (room : Counts) (t : Transaction) {held : Counts} {end : End} {z : Tally} → held ≡ held_at s → Some z ≡ close_of closes end s.decoder held (length packet) room
     → Sums s.decoder.counts (close_tally end (length packet) s.decoder)
     → (held_at s).bytes + length packet ≤ length s.logs.bytes → ((held_at s).packets + 1) * packet_width ≤ length s.logs.packets
     → EndsIf true t.endpoint t.id (start_pid t.style) end (desk (close_hand t time s.decoder (held_at s) s.table) s.table s.logs.devices [] [] s.logs.groups s.logs.statebytes s.logs.states s.logs.items s.logs.links)
-    → Sums s.decoder.counts c.tally × ((held.bytes + length packet ≤ length s.logs.bytes) × (((held.packets + 1) * packet_width ≤ length s.logs.packets)
+    → Sums s.decoder.counts z × ((held.bytes + length packet ≤ length s.logs.bytes) × (((held.packets + 1) * packet_width ≤ length s.logs.packets)
     × EndsIf true t.endpoint t.id (start_pid t.style) end (desk (close_hand t time s.decoder held s.table) s.table s.logs.devices [] [] s.logs.groups s.logs.statebytes s.logs.states s.logs.items s.logs.links)))
-close-lent packet time s closes room t {held} {end} {c} e f w a b k = (
-  subst (λ (x : Close). Sums s.decoder.counts x.tally) (sym f) w,
+close-lent packet time s closes room t {held} {end} e f w a b k = (
+  subst (λ (x : Tally). Sums s.decoder.counts x) (sym (some-rows _ _ f).1) w,
   subst (λ (h : Counts). (h.bytes + length packet ≤ length s.logs.bytes) × (((h.packets + 1) * packet_width ≤ length s.logs.packets) × EndsIf true t.endpoint t.id (start_pid t.style) end (desk (close_hand t time s.decoder h s.table) s.table s.logs.devices [] [] s.logs.groups s.logs.statebytes s.logs.states s.logs.items s.logs.links))) (sym e)
       (a, (b, k)),
 )

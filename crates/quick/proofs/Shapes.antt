@@ -7,7 +7,8 @@ use Rattle.details.specs.declared.Detail.{Detail}
 use Rattle.endpoints.specs.declared.Endpoint.{Endpoint}
 use lib.ListN.{length}
 use Rattle.usb.specs.Packet.{checked_of}
-use Rattle.usb.specs.declared.Checked.{Checked}
+use Rattle.std.specs.Prelude.{Result}
+use Rattle.usb.specs.declared.reason.Reason.{Reason}
 use Rattle.transaction.specs.Status.{judged, judged_of, transaction_status}
 use Rattle.transaction.proofs.StatusLaws.{Taken, judged-is}
 use Rattle.transaction.specs.declared.Judged.{Judged}
@@ -29,9 +30,9 @@ use Rattle.quick.specs.declared.shape.Shape.{Shape}
 use Rattle.quick.proofs.Packets.{next_shaped}
 
 -- the status, by the check that was made before
-pub status_checked : (high : Bool) (t : Transaction) (packet : List ℕ) {c : Checked} {j : Judged} → c ≡ checked_of packet → j ≡ judged_of high t c (length packet) → j ≡ transaction_status high t packet
+pub status_checked : (high : Bool) (t : Transaction) (packet : List ℕ) {c : Result ℕ Reason} {j : Judged} → c ≡ checked_of packet → j ≡ judged_of high t c (length packet) → j ≡ transaction_status high t packet
 unfolding transaction_status
-status_checked high t packet e h = h ∙ ap (λ (x : Checked). judged_of high t x (length packet)) e
+status_checked high t packet e h = h ∙ ap (λ (x : Result ℕ Reason). judged_of high t x (length packet)) e
 
 -- ---- a token
 

@@ -10,8 +10,7 @@ use lib.Dec.{eqb}
 use Rattle.usb.specs.Pid.{SPLIT, MALFORMED, SOF}
 use Rattle.details.specs.Kind.{Framing}
 use Rattle.details.specs.declared.Detail.{Detail}
-use Rattle.details.specs.declared.Found.{Found}
-use Rattle.details.specs.declared.Found.TheVariants.{At}
+use Rattle.std.specs.Prelude.{Option, Some}
 use Rattle.endpoints.specs.Table.{entry_at}
 use Rattle.endpoints.specs.declared.Endpoint.{Endpoint}
 use Rattle.endpoints.specs.declared.Phase.{Phase}
@@ -102,10 +101,10 @@ resting_by w old h o c =
 -- ---- the token
 
 module _ (d : Decoder) (table : List ℕ) (r : Ready d table) (near : Near) (packet : List ℕ) (pid i x0 : ℕ) where
-  pub token_shaped : {f : Found} {detail : Detail} {e : Endpoint} {start append : Update} {kind : ℕ} {t : Transaction} {q : Shape}
+  pub token_shaped : {f : Option ℕ} {detail : Detail} {e : Endpoint} {start append : Update} {kind : ℕ} {t : Transaction} {q : Shape}
       → x0 ≡ old_endpoint d.slot d.transaction → is_free d.slot d.transaction near.old (entry_at table framing_ep) ≡ true
       → transaction_status d.high (state_at d.slot d.transaction) packet ≡ judged pid New → (eqb pid MALFORMED || eqb pid SPLIT) ≡ false
-      → f ≡ found_on near.found pid packet (world_of d [] table) → f ≡ At i → detail ≡ detail_by pid near → e ≡ entry_at table i
+      → f ≡ found_on near.found pid packet (world_of d [] table) → f ≡ Some i → detail ≡ detail_by pid near → e ≡ entry_at table i
       → start ≡ decide_early_start pid e.phase false → (start.start || eqb i x0) ≡ false
       → kind ≡ type_by detail.kind → t ≡ new_transaction (Simple pid) d.counts.transactions pid i kind → append ≡ decide_early_append t e → q ≡ begin_shape true append.link t
       → ForSeen near (old_endpoint d.slot d.transaction) packet d table (λ w. Shaped d.high q (plan_of d.high packet w) w)

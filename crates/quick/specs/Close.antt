@@ -1,5 +1,5 @@
 -- Inner (cited by private contracts alone): close-only: a packet whose plan (plan, Packet) goes on with the transaction that is held, with no row of its own, and ends it.
-use Rattle.std.specs.Prelude.{ℕ, ◌*◌, ◌≡◌, Bool, true, false, ◌&&◌, not, List, [], ◌∷◌}
+use Rattle.std.specs.Prelude.{ℕ, ◌*◌, ◌≡◌, Bool, true, false, ◌&&◌, not, List, [], ◌∷◌, Option, Some, None}
 use Rattle.std.proofs.lemmas.List.Edits.{sets}
 use Rattle.usb.specs.Packet.{no_reason}
 use Rattle.rows.specs.Widths.{packet_width}
@@ -30,7 +30,6 @@ use Rattle.write.specs.declared.Written.{Written}
 use Rattle.write_packet.specs.Desk.{Desk, desk, ended_desk}
 use Rattle.write_packet.specs.declared.Hand.{Hand}
 use Rattle.packet.specs.After.{hand_of}
-use Rattle.quick.specs.declared.close.Close.{Close}
 use Rattle.quick.specs.declared.shape.Shape.{Shape}
 
 -- ---- the shape: t is the transaction that ends, e its end. What is under a flag that is off is p's
@@ -74,10 +73,17 @@ unfoldable pub close_tally : End → ℕ → Decoder → Tally
 close_tally e len d = nothing d.waiting ▷ add_packet len ▷ tally_end e d.counts.endpoints
 
 -- what is tested: there is room, no byte total passes, no device is added, and no request completes
-abbrev pub close_of : Bool → End → Decoder → Counts → ℕ → Counts → Close
-close_of closes e d held len room =
-    let t = close_tally e len d in
-    record { taken = closes && (room_for held d.counts t room && (not (passes e.effect e.entry.total) && (not (adds_device e.effect) && not (asks e.effect)))); tally = t }
+abbrev pub taken : Bool → End → Decoder → Counts → ℕ → Counts → Bool
+taken closes e d held len room =
+    closes && (room_for held d.counts (close_tally e len d) room && (not (passes e.effect e.entry.total) && (not (adds_device e.effect) && not (asks e.effect))))
+
+abbrev pub rows_if : Bool → Tally → Option Tally
+rows_if true t = Some t
+rows_if false t = None
+
+-- the rows, where it is taken
+abbrev pub close_of : Bool → End → Decoder → Counts → ℕ → Counts → Option Tally
+close_of closes e d held len room = rows_if (taken closes e d held len room) (close_tally e len d)
 
 pub record CloseFits (e : End) (len : ℕ) (d : Decoder) (held room : Counts) : Type 0 where
   pub fits : room_for held d.counts (close_tally e len d) room ≡ true

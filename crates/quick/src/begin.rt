@@ -14,7 +14,7 @@ ghost use Rattle.quick.specs.Room.{most_numbers, rows_room, RowsFit};
 
 use crate::room::{more_rows, rows_fit};
 use call::stamp_of;
-use endpoints::entry::{flag_word, load, store};
+use endpoints::entry::{load, store};
 use endpoints::{Table, link};
 use packet::inner::put_packet;
 use record::{Counts, Decoder};
@@ -30,8 +30,8 @@ pub fn begin_fits(row: bool, l: bool, len: usize, held: Counts, n: Counts, room:
     requires countable { Countable held n }
     ensures { result ≡ rows_room (one row) (one l) len held n room }
 {
-    let rows = flag_word(row) as usize;
-    let links = flag_word(l) as usize;
+    let rows = usize::from(row);
+    let links = usize::from(l);
     rows_fit(rows, links, len, held, n, room)
 }
 
@@ -56,7 +56,7 @@ fn begin_link(
         let count = e.transactions;
         e.transactions = count + 1;
         store(table, x, e);
-        rows::put4(links, n * width::LINK, link::T, x as u64, t.id, 0);
+        rows::put(links, n * width::LINK, &[link::T, x as u64, t.id, 0]);
         let mut t = t;
         t.linked = true;
         t.link = count;
@@ -99,22 +99,13 @@ pub fn begin_only(
     put_packet(n.bytes, held, packet, time, bytes, packets);
     put_transaction(row, transactions, held.transactions, stamp);
     let transaction = begin_link(l, t, held.links, table, links);
-    let counts = more_rows(
-        flag_word(row) as usize,
-        flag_word(l) as usize,
-        packet.len(),
-        n,
-    );
+    let counts = more_rows(usize::from(row), usize::from(l), packet.len(), n);
     Decoder {
         counts,
         slot: Slot::Current,
         transaction,
-        last: d.last,
         event: EventState::Idle,
-        keepalive: d.keepalive,
-        waiting: d.waiting,
-        finished: d.finished,
-        high: d.high,
         time,
+        ..d
     }
 }

@@ -21,7 +21,7 @@ use plan::End;
 use record::{Counts, Decoder};
 use rules::{EventState, Slot};
 use shelving::is_request;
-use tally::add::{Tally, tally_none, tally_packet};
+use tally::add::{Tally, tally_none};
 use tally::{add_counts, has_room_for, tally_end};
 use transaction::Transaction;
 use transaction::payload::start_pid;
@@ -29,22 +29,12 @@ use update::effect::total_passes;
 use usb::reason::NONE;
 use write_packet::{Hand, end_if};
 
-// Whether the packet is taken, and the rows that it adds.
-#[derive(Clone, Copy)]
-pub struct Close {
-    // It ends the transaction, there is room, no byte total passes 2^64 - 1, no device is added, and no request completes.
-    pub taken: bool,
-    pub tally: Tally,
-}
-
 // The end of the transaction that is held, where the packet is of that shape; old is what is known of its endpoint.
 pub fn end_by(q: Shape, d: Decoder, old: Detail, table: &Table) -> End
     requires { Ready d table.now }
     ensures { result ≡ end_by q d old table.now }
 {
-    let slot = d.slot;
-    let held = d.transaction;
-    let x = old_endpoint(slot, held);
+    let x = old_endpoint(d.slot, d.transaction);
     let e = load(table, x);
     if q.closes {
         end_of(x, e, q.transaction, old, d.last, q.success, true)
@@ -60,14 +50,21 @@ fn close_tally(end: End, len: usize, d: Decoder) -> Tally
     requires endpoints_bound { d.counts.endpoints ≤ 128 }
     ensures { result ≡ close_tally end len d }
 {
-    let n = d.counts;
-    let t = tally_none(d.waiting);
-    let t = tally_packet(len, t);
-    tally_end(end, n.endpoints, t)
+    let mut t = tally_none(d.waiting);
+    t.add_packet(len);
+    tally_end(end, d.counts.endpoints, t)
 }
 
-// Reckoned before anything is written; the logs hold the rows `held`.
-pub fn close_of(closes: bool, end: End, d: Decoder, held: Counts, len: usize, room: Counts) -> Close
+// The rows that the packet adds, where it is taken: it ends the transaction, there is room, no byte total passes 2^64 - 1, no device is added, and no request
+// completes. Reckoned before anything is written; the logs hold the rows `held`.
+pub fn close_of(
+    closes: bool,
+    end: End,
+    d: Decoder,
+    held: Counts,
+    len: usize,
+    room: Counts,
+) -> Option<Tally>
     requires len_bound { len ≤ 4096 }
     requires waiting_bound { d.waiting ≤ 128 }
     requires endpoints_bound { d.counts.endpoints ≤ 128 }
@@ -75,15 +72,14 @@ pub fn close_of(closes: bool, end: End, d: Decoder, held: Counts, len: usize, ro
     ensures { result ≡ close_of closes end d held len room }
 {
     let tally = close_tally(end, len, d);
-    let entry = end.entry;
-    let effect = end.effect;
-    let over = total_passes(effect, entry.total);
-    let adds = adds_device(effect);
-    let asks = is_request(effect);
+    let over = total_passes(end.effect, end.entry.total);
+    let adds = adds_device(end.effect);
+    let asks = is_request(end.effect);
     let fits = has_room_for(held, d.counts, tally, room);
-    Close {
-        taken: closes & (fits & (!over & (!adds & !asks))),
-        tally,
+    if closes & (fits & (!over & (!adds & !asks))) {
+        Some(tally)
+    } else {
+        None
     }
 }
 
@@ -91,9 +87,10 @@ pub fn close_of(closes: bool, end: End, d: Decoder, held: Counts, len: usize, ro
 fn holding(t: Transaction, d: Decoder) -> Decoder
     ensures { result ≡ holding t d }
 {
-    let mut d = d;
-    d.transaction = t;
-    d
+    Decoder {
+        transaction: t,
+        ..d
+    }
 }
 
 fn closed_decoder(t: Transaction, tally: Tally, d: Decoder, h: Hand) -> Decoder
@@ -101,18 +98,15 @@ fn closed_decoder(t: Transaction, tally: Tally, d: Decoder, h: Hand) -> Decoder
     ensures { result ≡ closed_decoder t tally h.written d }
 {
     let written = h.written;
-    let transaction = tie(t, written);
     Decoder {
         counts: add_counts(d.counts, tally),
         slot: Slot::Empty,
-        transaction,
+        transaction: tie(t, written),
         last: written.last,
         event: EventState::Idle,
-        keepalive: d.keepalive,
         waiting: tally.waiting,
-        finished: d.finished,
-        high: d.high,
         time: written.stamp.time,
+        ..d
     }
 }
 
@@ -141,10 +135,8 @@ pub fn close_only(
     requires ends_if { EndsIf true t.endpoint t.id (start_pid t.style) end (desk (close_hand t time d held table.old) table.old device_rows.old [] [] groups.old statebytes.old states.old items.old links.old) }
     ensures { OnClose t end tally held packet.now time d table.old bytes.old device_rows.old packets.old groups.old statebytes.old states.old items.old links.old result table.new bytes.new device_rows.new packets.new groups.new statebytes.new states.new items.new links.new }
 {
-    let n = d.counts;
-    put_packet(n.bytes, held, packet, time, bytes, packets);
-    let style = t.style;
-    let pid = start_pid(style);
+    put_packet(d.counts.bytes, held, packet, time, bytes, packets);
+    let pid = start_pid(t.style);
     let hand = hand_of(holding(t, d), held, time, NONE, table);
     let hand = end_if(
         true,

@@ -17,7 +17,7 @@ use crate::begin::{begin_fits, begin_only};
 use crate::close::{close_of, close_only, end_by};
 use crate::light::{light_fits, light_only};
 use crate::shape::shape_of;
-use call::{bytes_known, known, room_of};
+use call::room_of;
 use decide::near::Near;
 use endpoints::Table;
 use packet::change::no_change;
@@ -67,12 +67,8 @@ pub fn quick_in(
         links.len(),
         requests.len(),
     );
-    let held = d.transaction;
-    // What the proof learns here: the table's words are words, the packet's bytes bytes, and so is the old transaction's token.
-    known(table);
-    bytes_known(packet);
-    let style = held.style;
-    let _token = start_pid(style);
+    // What the proof learns here: the old transaction's token is a byte.
+    let _token = start_pid(d.transaction.style);
     let none = no_change();
     let rows = held_of(d.counts, table);
     let q = shape_of(d, near, table, packet);
@@ -117,12 +113,11 @@ pub fn quick_in(
             change: none,
         };
     }
-    let c = close_of(q.closes, end, d, rows, packet.len(), room);
-    if c.taken {
+    if let Some(tally) = close_of(q.closes, end, d, rows, packet.len(), room) {
         let decoder = close_only(
             q.transaction,
             end,
-            c.tally,
+            tally,
             rows,
             d,
             packet,

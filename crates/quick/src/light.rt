@@ -16,7 +16,7 @@ ghost use Rattle.quick.specs.Light.{is_quiet, is_counting, is_total, link_rows, 
 ghost use Rattle.quick.specs.Room.{most_numbers, more_rows, RowsFit};
 
 use crate::room::{more_rows, rows_fit};
-use endpoints::entry::{flag_word, store};
+use endpoints::entry::store;
 use endpoints::{Endpoint, Table, link};
 use group::Effect;
 use packet::inner::put_packet;
@@ -41,33 +41,21 @@ fn is_quiet(u: Update) -> bool
 fn is_counting(effect: Effect) -> bool
     ensures { result ≡ is_counting effect }
 {
-    match effect {
-        Effect::NoEffect => true,
-        Effect::NewDevice(_) => false,
-        Effect::Request(_) => false,
-        Effect::PendingData(_) => false,
-        Effect::IndexData(_, _, _) => true,
-    }
+    matches!(effect, Effect::NoEffect | Effect::IndexData(..))
 }
 
 // Whether there is a D row.
 fn is_total(effect: Effect) -> bool
     ensures { result ≡ is_total effect }
 {
-    match effect {
-        Effect::NoEffect => false, // There is no payload.
-        Effect::NewDevice(_) => false,
-        Effect::Request(_) => false,
-        Effect::PendingData(_) => false,
-        Effect::IndexData(_, _, _) => true,
-    }
+    matches!(effect, Effect::IndexData(..))
 }
 
 // The link rows of a light end.
 fn link_rows(u: Update, effect: Effect) -> usize
     ensures { result ≡ link_rows u effect }
 {
-    flag_word(u.link) as usize + flag_word(is_total(effect)) as usize
+    usize::from(u.link) + usize::from(is_total(effect))
 }
 
 // Whether an end is light, and there is room for a packet of so many bytes with it; no byte total passes 2^64 - 1.
@@ -78,8 +66,7 @@ pub fn light_fits(end: End, len: usize, held: Counts, n: Counts, room: Counts) -
 {
     let u = end.update;
     let effect = end.effect;
-    let entry = end.entry;
-    let over = total_passes(effect, entry.total);
+    let over = total_passes(effect, end.entry.total);
     is_quiet(u)
         & (is_counting(effect) & (!over & rows_fit(0, link_rows(u, effect), len, held, n, room)))
 }
@@ -91,7 +78,11 @@ fn light_link(l: bool, t: Transaction, count: u64, n: usize, links: &mut [u64]) 
     ensures links_after { links.new ≡ sets links.old (n * link_width) (opt l (T ∷ t.endpoint ∷ t.id ∷ 0 ∷ [])) }
 {
     if l {
-        rows::put4(links, n * width::LINK, link::T, t.endpoint as u64, t.id, 0);
+        rows::put(
+            links,
+            n * width::LINK,
+            &[link::T, t.endpoint as u64, t.id, 0],
+        );
         let mut t = t;
         t.linked = true;
         t.link = count;
@@ -113,13 +104,10 @@ fn total_row(effect: Effect, x: usize, e: Endpoint, t: u64, n: usize, links: &mu
     ensures { links.new ≡ sets links.old (n * link_width) (total_words effect x e t) }
 {
     match effect {
-        Effect::NoEffect => {}
-        Effect::NewDevice(_) => {}
-        Effect::Request(_) => {}
-        Effect::PendingData(_) => {}
+        Effect::NoEffect | Effect::NewDevice(_) | Effect::Request(_) | Effect::PendingData(_) => {}
         Effect::IndexData(_, waited, i) => {
             let row = payload_row(waited, i, t);
-            rows::put4(links, n * width::LINK, link::D, x as u64, row, e.total);
+            rows::put(links, n * width::LINK, &[link::D, x as u64, row, e.total]);
         }
     }
 }
@@ -154,13 +142,12 @@ pub fn light_only(
 {
     let n = d.counts;
     put_packet(n.bytes, held, packet, time, bytes, packets);
-    let style = t.style;
     let u = end.update;
     let effect = end.effect;
     let entry = end.entry;
     let transaction = light_link(u.link, t, entry.transactions, held.links, links);
-    let e = entry_update(u, start_pid(style), entry);
-    let row = held.links + flag_word(u.link) as usize;
+    let e = entry_update(u, start_pid(t.style), entry);
+    let row = held.links + usize::from(u.link);
     total_row(effect, t.endpoint, e, transaction.link, row, links);
     store(table, t.endpoint, entry_effect(effect, e, transaction.link));
     let counts = more_rows(0, link_rows(u, effect), packet.len(), n);
@@ -168,12 +155,8 @@ pub fn light_only(
         counts,
         slot: Slot::Empty,
         transaction,
-        last: d.last,
         event: EventState::Idle,
-        keepalive: d.keepalive,
-        waiting: d.waiting,
-        finished: d.finished,
-        high: d.high,
         time,
+        ..d
     }
 }

@@ -16,7 +16,7 @@ use decide::near::Near;
 use decide::place::{detail_by, find_place};
 use decide::slot::{new_transaction, old_endpoint, state_at};
 use decide::status::is_new;
-use details::{Detail, Found, kind};
+use details::{Detail, kind};
 use endpoints::Table;
 use endpoints::entry::load;
 use group::step::is_active;
@@ -98,19 +98,17 @@ fn token_shape(x0: usize, pid: u8, packet: &[u8], d: Decoder, near: Near, table:
         return no_shape(t);
     }
     let found = find_place(pid, packet, d, near, table);
-    let Found::At(i) = found else {
+    let Some(i) = found else {
         return no_shape(t);
     };
     // The details, and the entry.
     let detail = detail_by(pid, near);
     let e = load(table, i);
-    let phase = e.phase;
-    let early = decide_early_start(pid, phase, false);
+    let early = decide_early_start(pid, e.phase, false);
     if early.start | (i == x0) {
         return no_shape(t);
     }
-    let counts = d.counts;
-    let row = counts.transactions as u64;
+    let row = d.counts.transactions as u64;
     let kind = type_by(detail.kind);
     let t = new_transaction(Style::Simple(pid), row, pid, i, kind);
     let append = decide_early_append(t, e);
@@ -123,17 +121,15 @@ fn next_shape(status: Status, x: usize, t: Transaction, table: &Table) -> Shape
     ensures { result ≡ next_shape status x (entry_at table.now x) t }
 {
     match status {
-        Status::New => no_shape(t),
+        Status::New | Status::Invalid => no_shape(t),
         Status::Continue => {
             let e = load(table, x);
             let append = decide_early_append(t, e);
             begin_shape(false, append.link, t)
         }
-        Status::Retry => close_shape(true, x, t),
-        Status::Done => close_shape(true, x, t),
+        Status::Retry | Status::Done => close_shape(true, x, t),
         Status::Fail => close_shape(false, x, t),
         Status::Ambiguous => begin_shape(false, false, t),
-        Status::Invalid => no_shape(t),
     }
 }
 
@@ -156,30 +152,20 @@ fn lays(high: bool, x: usize, t: Transaction, table: &Table) -> bool
     is_kept(high, t, e, t.last)
 }
 
+// Whether a plain transaction is current; a suspended one is resumed first.
 fn is_plain(slot: Slot, style: Style) -> bool
     ensures { result ≡ is_plain slot style }
 {
-    match slot {
-        Slot::Empty => false,
-        Slot::Current => match style {
-            Style::Nothing => false,
-            Style::Simple(_) => true,
-            Style::Split(_, _) => false,
-            Style::Token(_, _, _) => false,
-        },
-        Slot::Suspended => false, // It is resumed first.
-    }
+    matches!(slot, Slot::Current) && matches!(style, Style::Simple(_))
 }
 
 // Whether the old transaction is a SOF whose end changes no word; old is what is known of its endpoint.
 fn rests(t: Transaction, old: Detail, table: &Table) -> bool
     ensures { result ≡ rests_on t old (entry_at table.now framing_ep) }
 {
-    let style = t.style;
-    let token = start_pid(style);
+    let token = start_pid(t.style);
     let e = load(table, FRAMING_EP_ID);
-    let phase = e.phase;
-    let active = is_active(phase);
+    let active = is_active(e.phase);
     (t.endpoint == FRAMING_EP_ID)
         & ((token == SOF)
             & (t.linked
@@ -203,19 +189,17 @@ pub fn shape_of(d: Decoder, near: Near, table: &Table, packet: &[u8]) -> Shape
     requires { Ready d table.now }
     ensures { ForSeen near (old_endpoint d.slot d.transaction) packet.now d table.now (λ w. Shaped d.high result (plan_of d.high packet.now w) w) }
 {
-    let slot = d.slot;
     let t = d.transaction;
-    let style = t.style;
     // By itself: handed on to be checked below another call, the packet's slice is stored by two words and loaded as one, and the load waits (docs/SPEED.md).
     let checked = usb::check(packet);
-    let j = status_by(d.high, state_at(slot, t), checked, packet.len());
+    let j = status_by(d.high, state_at(d.slot, t), checked, packet.len());
     let status = j.status;
     let pid = j.pid;
-    let x0 = old_endpoint(slot, t);
-    if is_new(status) & is_free(slot, t, near.old, table) {
+    let x0 = old_endpoint(d.slot, t);
+    if is_new(status) & is_free(d.slot, t, near.old, table) {
         return token_shape(x0, pid, packet, d, near, table);
     }
-    if !is_plain(slot, style) {
+    if !is_plain(d.slot, t.style) {
         return no_shape(t);
     }
     let x = t.endpoint;

@@ -1,10 +1,8 @@
 -- Laws (proved): what an answer tells of the tests before it.
-use Rattle.std.specs.Prelude.{ℕ, ◌<◌, ◌≡◌, refl, Bool, true, false, cond}
+use Rattle.std.specs.Prelude.{ℕ, ◌<◌, ◌≡◌, refl, Bool, true, false, cond, Option, Some, None}
 use Rattle.std.proofs.Common.{arith}
 use Rattle.details.specs.Details.{wrong}
 use Rattle.details.specs.Lookup.{detail_answer}
-use Rattle.details.specs.declared.Found.{Found}
-use Rattle.details.specs.declared.Found.TheVariants.{At, Nothing}
 use Rattle.record.specs.Answers.{Tests, first_of, missing}
 
 -- a number that is not the answer was not given
@@ -63,7 +61,7 @@ unfolding first_of
 first_passed q p = rw (p.ill, p.finished, p.long, p.kind, p.detail, p.address, p.full, p.over)
 
 -- the answer of tables is that of the tests 5 and 6
-pub detail-tests : (number direction kind : ℕ) (device : Found) → detail_answer number direction kind device ≡ cond (wrong number direction kind) 5 (cond (missing device) 6 0)
+pub detail-tests : (number direction kind : ℕ) (device : Option ℕ) → detail_answer number direction kind device ≡ cond (wrong number direction kind) 5 (cond (missing device) 6 0)
 unfolding detail_answer
-detail-tests number direction kind (At d) = refl
-detail-tests number direction kind Nothing = refl
+detail-tests number direction kind (Some d) = refl
+detail-tests number direction kind None = refl

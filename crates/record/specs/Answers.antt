@@ -1,9 +1,7 @@
 -- To be believed: the answer numbers, in the order they are tested (01, the table of "Answer numbers"); words in quotation marks are its.
 -- Hold it to: 01, "Answer numbers", the table in its order
-use Rattle.std.specs.Prelude.{ℕ, Bool, true, false, cond, ltb}
+use Rattle.std.specs.Prelude.{ℕ, Bool, true, false, cond, ltb, Option, Some, None}
 use Rattle.details.specs.Details.{wrong}
-use Rattle.details.specs.declared.Found.{Found}
-use Rattle.details.specs.declared.Found.TheVariants.{At, Nothing}
 
 -- what each number is given for, but for 0
 pub record Tests : Type 0 where
@@ -50,12 +48,12 @@ event_tests ill finished kind full over =
     record { ill = ill; finished = finished; long = false; kind = ltb 7 kind; detail = false; address = false; full = full; over = over; dropped = false }
 
 -- no device now stands for the address
-abbrev pub missing : Found → Bool
-missing (At d) = false
-missing Nothing = true
+abbrev pub missing : Option ℕ → Bool
+missing (Some d) = false
+missing None = true
 
 -- a detail call appends nothing
-abbrev pub detail_tests : Bool → Bool → ℕ → ℕ → ℕ → Found → Tests
+abbrev pub detail_tests : Bool → Bool → ℕ → ℕ → ℕ → Option ℕ → Tests
 detail_tests ill finished number direction kind device =
     record {
       ill = ill;

@@ -17,12 +17,7 @@ use usb::pid::{IN, OUT};
 fn stands(phase: Phase) -> bool
     ensures { result ≡ standing phase }
 {
-    match phase {
-        Phase::None => false,
-        Phase::Early => true,
-        Phase::Active => true,
-        Phase::Ended => true,
-    }
+    !matches!(phase, Phase::None)
 }
 
 // What an endpoint's entry holds fits the counts.
@@ -32,11 +27,10 @@ fn entry_formed(counts: Counts, e: Endpoint) -> bool
     let links = counts.links as u64;
     let devices = counts.devices as u64;
     let bytes = counts.bytes as u64;
-    let phase = e.phase;
     let fit = (e.transactions <= links) & (e.groups <= links);
     let names = (e.device < devices) & (!e.pending | (e.pendinglink < e.transactions));
     let payloads = (e.payload <= bytes) & (!e.pending | (e.pendinglength <= bytes));
-    let groups = !stands(phase) | (0 < e.groups);
+    let groups = !stands(e.phase) | (0 < e.groups);
     fit & names & payloads & groups
 }
 
@@ -61,20 +55,15 @@ fn endpoint_formed(counts: Counts, table: &Table, i: usize) -> bool
     requires { i < 128 }
     ensures { result ≡ endpoint_formed counts table.now i }
 {
-    let e = load(table, i);
-    entry_formed(counts, e) & words_stored(table, i)
+    entry_formed(counts, load(table, i)) & words_stored(table, i)
 }
 
 fn endpoints_formed(counts: Counts, table: &Table) -> bool
     requires { counts.endpoints ≤ 128 }
     ensures { result ≡ every (endpoint_formed counts table.now) 0 counts.endpoints }
 {
-    let n = counts.endpoints;
-    let mut i: usize = 0;
-    while i < n {
-        if endpoint_formed(counts, table, i) {
-            i += 1;
-        } else {
+    for i in 0..counts.endpoints {
+        if !endpoint_formed(counts, table, i) {
             return false;
         }
     }
@@ -87,9 +76,8 @@ fn style_formed(style: Style, endpoint: usize) -> bool
 {
     match style {
         Style::Nothing => false,
-        Style::Simple(_) => 0 < endpoint,
-        Style::Split(_, _) => endpoint == 0,
-        Style::Token(_, _, _) => 0 < endpoint,
+        Style::Split(..) => endpoint == 0,
+        Style::Simple(_) | Style::Token(..) => 0 < endpoint,
     }
 }
 
@@ -98,10 +86,9 @@ fn may_lack(phase: Phase, first: u8) -> bool
     ensures { result ≡ may_lack phase first }
 {
     match phase {
-        Phase::None => true,
+        Phase::None | Phase::Ended => true,
         Phase::Early => false,
         Phase::Active => (first == IN) | (first == OUT),
-        Phase::Ended => true,
     }
 }
 
@@ -110,26 +97,18 @@ fn transaction_formed(counts: Counts, t: Transaction, e: Endpoint) -> bool
     ensures { result ≡ held_formed counts t e }
 {
     let x = t.endpoint;
-    let style = t.style;
-    let phase = e.phase;
     let rows = (x < counts.endpoints) & (t.id < counts.transactions as u64);
     let names = rows & (!t.linked | ((0 < x) & (t.link < e.transactions)));
     let payload = !t.filled | (t.payload <= counts.bytes as u64);
-    let linked = (x == 0) | t.linked | may_lack(phase, e.first);
-    names & payload & style_formed(style, x) & linked
+    let linked = (x == 0) | t.linked | may_lack(e.phase, e.first);
+    names & payload & style_formed(t.style, x) & linked
 }
 
 fn held_formed(counts: Counts, t: Transaction, table: &Table) -> bool
     requires { counts.endpoints ≤ 128 }
     ensures { result ≡ held_formed counts t (entry_at table.now t.endpoint) }
 {
-    let x = t.endpoint;
-    if x < counts.endpoints {
-        let e = load(table, x);
-        transaction_formed(counts, t, e)
-    } else {
-        false
-    }
+    t.endpoint < counts.endpoints && transaction_formed(counts, t, load(table, t.endpoint))
 }
 
 fn slot_formed(slot: Slot, counts: Counts, t: Transaction, table: &Table) -> bool
@@ -138,8 +117,7 @@ fn slot_formed(slot: Slot, counts: Counts, t: Transaction, table: &Table) -> boo
 {
     match slot {
         Slot::Empty => true,
-        Slot::Current => held_formed(counts, t, table),
-        Slot::Suspended => held_formed(counts, t, table),
+        Slot::Current | Slot::Suspended => held_formed(counts, t, table),
     }
 }
 
@@ -169,9 +147,7 @@ fn specials_stand(counts: Counts, devices: [Device; 64], table: &Table) -> bool
 fn event_rests(table: &Table) -> bool
     ensures { result ≡ event_rests table.now }
 {
-    let event = load(table, 0);
-    let phase = event.phase;
-    !stands(phase)
+    !stands(load(table, 0).phase)
 }
 
 fn last_formed(counts: Counts, last: usize) -> bool
@@ -185,13 +161,11 @@ pub fn well_formed(d: Decoder, devices: [Device; 64], table: &Table, room: Count
     ensures { result ≡ well_formed d devices table.now room }
 {
     let counts = d.counts;
-    let slot = d.slot;
-    let t = d.transaction;
     if has_room(counts, table, room) {
         specials_stand(counts, devices, table)
             & event_rests(table)
             & endpoints_formed(counts, table)
-            & slot_formed(slot, counts, t, table)
+            & slot_formed(d.slot, counts, d.transaction, table)
             & last_formed(counts, d.last)
             & (d.waiting == count_waiting(table, counts.endpoints))
     } else {

@@ -48,11 +48,10 @@ fn counts_of(devices: usize, endpoints: usize) -> Counts
 fn idle_with(high: bool, counts: Counts) -> Decoder
     ensures { result ≡ idle_with high counts }
 {
-    let transaction = no_transaction();
     Decoder {
         counts,
         slot: Slot::Empty,
-        transaction,
+        transaction: no_transaction(),
         last: NO_ITEM,
         event: EventState::Idle,
         keepalive: false,
@@ -67,14 +66,12 @@ fn idle_with(high: bool, counts: Counts) -> Decoder
 pub fn fresh_decoder(high: bool) -> Decoder
     ensures { result ≡ fresh_decoder high }
 {
-    let counts = counts_of(1, 3);
-    idle_with(high, counts)
+    idle_with(high, counts_of(1, 3))
 }
 
 // Not well formed, whatever stands beside it: there is no device.
 pub fn refused_decoder() -> Decoder
     ensures { result ≡ refused_decoder }
 {
-    let counts = counts_of(0, 0);
-    idle_with(false, counts)
+    idle_with(false, counts_of(0, 0))
 }

@@ -16,7 +16,7 @@ const MOST_ROWS: usize = 16777216;
 const MOST_BYTES: usize = 1073741824;
 
 // The greatest number of a next row.
-pub const MOST_NUMBER: usize = 18446744073709551615;
+pub const MOST_NUMBER: usize = usize::MAX;
 
 // How many devices and endpoints there may be, whatever the room.
 const MOST_DEVICES: usize = 64;
@@ -133,10 +133,5 @@ pub fn held_of(n: Counts, table: &Table) -> Counts
 pub fn has_room(n: Counts, table: &Table, room: Counts) -> bool
     ensures { result ≡ roomy table.now n room }
 {
-    if is_begun(n, table) {
-        let held = held_of(n, table);
-        fits(held, room) & is_numbered(n)
-    } else {
-        false
-    }
+    is_begun(n, table) && (fits(held_of(n, table), room) & is_numbered(n))
 }

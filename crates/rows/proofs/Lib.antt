@@ -1,1 +1,3 @@
+pub mod FlagLaws
 pub mod WidthsLaws
+pub mod Filled

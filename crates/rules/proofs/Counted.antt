@@ -22,8 +22,7 @@ use Rattle.transaction.specs.declared.Style.TheVariants.{Nothing as NoStyle, Sim
 use Rattle.details.specs.Kind.{Unknown}
 use Rattle.endpoints.specs.Table.{with_phase}
 use Rattle.endpoints.specs.declared.Endpoint.{Endpoint}
-use Rattle.details.specs.declared.Found.{Found}
-use Rattle.details.specs.declared.Found.TheVariants.{At, Nothing}
+use Rattle.std.specs.Prelude.{Option, Some, None as Absent}
 use Rattle.endpoints.specs.declared.Phase.{Phase}
 use Rattle.endpoints.specs.declared.Phase.TheVariants.{None, Early, Active, Ended}
 use Rattle.group.specs.declared.Effect.{Effect}
@@ -290,13 +289,13 @@ module _ (n : World) where
   tr-end : (s k : Bool) (w : World) → Counted w → Counted (transaction_end s k w)
   tr-end s k w l = tr-end_at w.slot s k w l
 
-  add_on : (g : Found) (d a : ℕ) (w : World) → Counted w → Counted (add_endpoint_on g d a w)
-  add_on (At i) d a w l = endpoint i a w l
-  add_on Nothing d a w l = endpoint w.device_count a (add_device d w) (device d w l)
+  add_on : (g : Option ℕ) (d a : ℕ) (w : World) → Counted w → Counted (add_endpoint_on g d a w)
+  add_on (Some i) d a w l = endpoint i a w l
+  add_on Absent d a w l = endpoint w.device_count a (add_device d w) (device d w l)
 
-  place_at : (g : Found) (pid : ℕ) (p : List ℕ) (w : World) → Counted w → Counted (packet_endpoint_at g pid p w)
-  place_at (At i) pid p w l = l
-  place_at Nothing pid p w l = add_on (device_for (token_of p).address w) (token_of p).address (address_for pid (token_of p).number) w l
+  place_at : (g : Option ℕ) (pid : ℕ) (p : List ℕ) (w : World) → Counted w → Counted (packet_endpoint_at g pid p w)
+  place_at (Some i) pid p w l = l
+  place_at Absent pid p w l = add_on (device_for (token_of p).address w) (token_of p).address (address_for pid (token_of p).number) w l
 
   place : (pid : ℕ) (p : List ℕ) (w : World) → Counted w → Counted (packet_endpoint pid p w)
   place pid p w l = place_at (found pid p w) pid p w l
@@ -393,9 +392,9 @@ module _ (n : World) where
       v : World
       v = pick (eqb kind 0) (suspend (stamped time 0 w)) (end_all (stamped time 0 w))
 
-  details : (g : Found) (number direction kind max : ℕ) (w : World) → Counted w → Counted (set_detail_on g number direction kind max w)
-  details (At i) number direction kind max w l = l
-  details Nothing number direction kind max w l = l
+  details : (g : Option ℕ) (number direction kind max : ℕ) (w : World) → Counted w → Counted (set_detail_on g number direction kind max w)
+  details (Some i) number direction kind max w l = l
+  details Absent number direction kind max w l = l
 
   pub counts : (high : Bool) (k : Call) (w : World) → Counted w → Counted (call high k w)
   unfolding handle_detail finish

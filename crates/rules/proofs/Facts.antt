@@ -7,7 +7,7 @@ use native.Mathlib.Omega.{arith}
 use native.Mathlib.Decide.{dec_lt}
 use lib.ListN.{length, get_or, length-append, get_or-append}
 use lib.Seq.{get_or-append_seam}
-use Rattle.details.specs.declared.Found.TheVariants.{At}
+use Rattle.std.specs.Prelude.{Some}
 use Rattle.rules.specs.Marks.{Mark, other, started, ended, item, closed, starts, endings, closings, items, last_ended, First, Asserted, InTurn}
 use Rattle.rules.specs.Demand.{up_to}
 
@@ -70,8 +70,8 @@ extra due = 1
 
 abbrev pub Waits : Wait → ℕ → ℕ → List Mark → Type 0
 Waits calm k n ms = Unit {0}
-Waits waits k n ms = Waiting k ms × (last_ended ms ≡ At k)
-Waits due k n ms = ((i : ℕ) → n ≡ suc i → First k i ms) × (last_ended ms ≡ At k)
+Waits waits k n ms = Waiting k ms × (last_ended ms ≡ Some k)
+Waits due k n ms = ((i : ℕ) → n ≡ suc i → First k i ms) × (last_ended ms ≡ Some k)
 
 -- of endpoint e: g groups were started, n items added; a group is open or not. The event endpoint, 0, has groups that are never ended
 pub record Facts (e : ℕ) (o : Bool) (v : Wait) (g n : ℕ) (ms : List Mark) : Type 0 where

@@ -9,8 +9,8 @@ use lib.ListN.{length}
 use Rattle.usb.specs.Pid.{IN, OUT, SPLIT, MALFORMED}
 use Rattle.usb.specs.Fields.{setup_data_of}
 use Rattle.usb.specs.Packet.{checked_of, reason_of}
-use Rattle.usb.specs.declared.Checked.{Checked}
-use Rattle.usb.specs.declared.Checked.TheVariants.{Valid, Malformed}
+use Rattle.std.specs.Prelude.{Result, Ok, Err}
+use Rattle.usb.specs.declared.reason.Reason.{Reason}
 use Rattle.transaction.specs.Table.{pick, Row as Rule, fits, only, ◌or◌, look}
 use Rattle.transaction.specs.Payload.{extract_payload}
 use Rattle.transaction.specs.Split.{split_rows}
@@ -25,8 +25,7 @@ use Rattle.transaction.specs.declared.Status.TheVariants.{New, Continue, Retry, 
 use Rattle.details.specs.Details.{fresh}
 use Rattle.details.specs.Kind.{Unknown}
 use Rattle.endpoints.specs.declared.Endpoint.{Endpoint}
-use Rattle.details.specs.declared.Found.{Found}
-use Rattle.details.specs.declared.Found.TheVariants.{At, Nothing}
+use Rattle.std.specs.Prelude.{Option, Some, None as Absent}
 use Rattle.endpoints.specs.declared.Phase.{Phase}
 use Rattle.endpoints.specs.declared.Phase.TheVariants.{None, Early, Active, Ended}
 use Rattle.group.specs.Step.{is_active}
@@ -237,9 +236,9 @@ none_of (r ∷ rs) d xs h k = by (fits r.tests xs && r.guard) (ambiguous r.answe
     by false false q i rest = rest i
     by false true q i rest = let z : true ≡ false = i in cc
 
-split_sure : (high : Bool) (t : Transaction) (sc kind : ℕ) → t.style ≡ Split sc kind → (c : Checked) (n : ℕ) → ambiguous (judged_of high t c n).status ≡ false
-split_sure high t sc kind q (Malformed reason) n = refl
-split_sure high t sc kind q (Valid pid) n = rw q (none_of (split_rows n) Invalid (kind ∷ sc ∷ t.last ∷ pid ∷ []) refl refl)
+split_sure : (high : Bool) (t : Transaction) (sc kind : ℕ) → t.style ≡ Split sc kind → (c : Result ℕ Reason) (n : ℕ) → ambiguous (judged_of high t c n).status ≡ false
+split_sure high t sc kind q (Err reason) n = refl
+split_sure high t sc kind q (Ok pid) n = rw q (none_of (split_rows n) Invalid (kind ∷ sc ∷ t.last ∷ pid ∷ []) refl refl)
 
 sure : (high : Bool) (t : Transaction) (sc kind : ℕ) (p : List ℕ) → t.style ≡ Split sc kind → ambiguous (transaction_status high t p).status ≡ false
 unfolding transaction_status
@@ -311,9 +310,9 @@ packet-links high p time w l = by (is_dropped w.slot w.transaction)
 
 -- ---- every call, on every world
 
-detail-links : (g : Found) (number direction kind max : ℕ) (w : World) → Linked w → Linked (set_detail_on g number direction kind max w)
-detail-links (At i) number direction kind max w l = l
-detail-links Nothing number direction kind max w l = l
+detail-links : (g : Option ℕ) (number direction kind max : ℕ) (w : World) → Linked w → Linked (set_detail_on g number direction kind max w)
+detail-links (Some i) number direction kind max w l = l
+detail-links Absent number direction kind max w l = l
 
 pub linked-after : (high : Bool) (k : Call) (w : World) → Linked w → Linked (call high k w)
 unfolding handle_detail finish

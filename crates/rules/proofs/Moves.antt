@@ -22,8 +22,7 @@ use Rattle.transaction.specs.declared.Status.TheVariants.{New, Continue, Retry, 
 use Rattle.details.specs.Kind.{Unknown}
 use Rattle.details.proofs.SearchLaws.{First, first-is}
 use Rattle.details.specs.Search.{first_from}
-use Rattle.details.specs.declared.Found.{Found}
-use Rattle.details.specs.declared.Found.TheVariants.{At, Nothing}
+use Rattle.std.specs.Prelude.{Option, Some, None as Absent}
 use Rattle.endpoints.specs.declared.Phase.{Phase}
 use Rattle.endpoints.specs.declared.Phase.TheVariants.{None, Early, Active, Ended}
 use Rattle.group.specs.declared.Effect.{Effect}
@@ -48,17 +47,17 @@ use Rattle.rules.proofs.Keeps.{Keeps, passed, item-keeps, entry-keeps, link-keep
 
 -- ---- where a token's endpoint is found: at a row that is there, and not at the event endpoint's
 
-abbrev pub Spot : Found → ℕ → Type 0
-Spot (At i) n = (i < n) × ¬ (i ≡ 0)
-Spot Nothing n = Unit {0}
+abbrev pub Spot : Option ℕ → ℕ → Type 0
+Spot (Some i) n = (i < n) × ¬ (i ≡ 0)
+Spot Absent n = Unit {0}
 
 and_right : (p q : Bool) → (p && q) ≡ true → q ≡ true
 and_right true q h = h
 and_right false q h = let z : false ≡ true = h in cc
 
-on-spot : (f : Found) (a : ℕ) (w : World) → (w.endpoints 0).address ≡ 16 → ¬ (a ≡ 16) → Spot (endpoint_lookup f a w) w.count
-on-spot Nothing a w s d = tt
-on-spot (At i) a w s d = by (first_from test 0 w.count) (first-is test w.count 0)
+on-spot : (f : Option ℕ) (a : ℕ) (w : World) → (w.endpoints 0).address ≡ 16 → ¬ (a ≡ 16) → Spot (endpoint_lookup f a w) w.count
+on-spot Absent a w s d = tt
+on-spot (Some i) a w s d = by (first_from test 0 w.count) (first-is test w.count 0)
   where
     test : ℕ → Bool
     test j = eqb (w.endpoints j).device i && eqb (w.endpoints j).address a
@@ -68,9 +67,9 @@ on-spot (At i) a w s d = by (first_from test 0 w.count) (first-is test w.count 0
         let t : eqb (w.endpoints 0).address a ≡ true = and_right (eqb (w.endpoints 0).device i) _ (rw z at h) in
         d (sym (eqb-true _ _ t) ∙ s)
 
-    by : (f : Found) → First test 0 w.count f → Spot f w.count
-    by (At j) r = (omega (arith, r.1.0), other j r.1.1.0)
-    by Nothing r = tt
+    by : (f : Option ℕ) → First test 0 w.count f → Spot f w.count
+    by (Some j) r = (omega (arith, r.1.0), other j r.1.1.0)
+    by Absent r = tt
 
 small : (p : List ℕ) → (token_of p).number < 16
 small p = mod-lt _ (omega arith)
@@ -82,7 +81,7 @@ not_16 false n h z = omega arith
 pub found-spot : (pid : ℕ) (p : List ℕ) (w : World) → 3 ≤ w.count → (w.endpoints 0).address ≡ 16 → Spot (found pid p w) w.count
 found-spot pid p w t s = by (eqb pid SOF) ((SETUP or IN or OUT or only PING) pid)
   where
-    by : (a b : Bool) → Spot (pick a (At 2) (pick b (endpoint_lookup (device_for (token_of p).address w) (address_for pid (token_of p).number) w) (At 1))) w.count
+    by : (a b : Bool) → Spot (pick a (Some 2) (pick b (endpoint_lookup (device_for (token_of p).address w) (address_for pid (token_of p).number) w) (Some 1))) w.count
     by true b = (omega arith, λ z. omega arith)
     by false true = on-spot (device_for (token_of p).address w) (address_for pid (token_of p).number) w s (not_16 (eqb pid IN && not (eqb (token_of p).number 0)) (token_of p).number (small p))
     by false false = (omega arith, λ z. omega arith)
@@ -190,9 +189,9 @@ module _ (base : List Row) where
             rw q (record { facts = pass (unused_facts e (phase e v) l.inside z (l.unused (omega arith)) l.facts); inside = tt; unused = λ i. refl; quiet = λ i. refl; special = λ i. absurd (omega arith); size = ap suc l.size; target = l.target })
         at false q = rw q (record { facts = pass l.facts; inside = wider e (phase e v) l.inside; unused = λ i. l.unused (omega arith); quiet = l.quiet; special = l.special; size = ap suc l.size; target = l.target })
 
-    add-keeps : (g : Found) (e d a : ℕ) (w : World) → Keeps base e c y w → Keeps base e (suc c) y (add_endpoint_on g d a w)
-    add-keeps (At i) e d a w l = push-keeps e i a w l
-    add-keeps Nothing e d a w l = push-keeps e w.device_count a (add_device d w) (passed l)
+    add-keeps : (g : Option ℕ) (e d a : ℕ) (w : World) → Keeps base e c y w → Keeps base e (suc c) y (add_endpoint_on g d a w)
+    add-keeps (Some i) e d a w l = push-keeps e i a w l
+    add-keeps Absent e d a w l = push-keeps e w.device_count a (add_device d w) (passed l)
 
   -- ---- packet_endpoint, transaction_start, transaction_append
 
@@ -209,9 +208,9 @@ module _ (base : List Row) where
     placing : (pid : ℕ) (p : List ℕ) (w : World) → Keeps base 0 c y w → Placed c y (endpoint_of pid p w) w (packet_endpoint pid p w)
     placing pid p w z = by (found pid p w) (found-spot pid p w (let q = z.size in omega arith) (z.special refl))
       where
-        by : (g : Found) → Spot g w.count → Placed c y (number_at g w) w (packet_endpoint_at g pid p w)
-        by (At i) s = let q = z.size in record { c'' = c; there = omega (arith, s.0); real = s.1; old = f; three'' = t; keeps'' = λ e l. l }
-        by Nothing s =
+        by : (g : Option ℕ) → Spot g w.count → Placed c y (number_at g w) w (packet_endpoint_at g pid p w)
+        by (Some i) s = let q = z.size in record { c'' = c; there = omega (arith, s.0); real = s.1; old = f; three'' = t; keeps'' = λ e l. l }
+        by Absent s =
             let q = z.size in
             record { c'' = suc c; there = omega arith; real = λ h. omega arith; old = omega arith; three'' = omega arith; keeps'' = λ e l. add-keeps c y f t (device_for (token_of p).address w) e (token_of p).address (address_for pid (token_of p).number) w l }
 
@@ -409,9 +408,9 @@ module _ (base : List Row) where
         by true = go (stays c y f t w (suspend (stamped time 0 w)) (λ e l. l))
         by false = go (then (stays c y f t w (stamped time 0 w) (λ e l. l)) (ending-all c y f t (stamped time 0 w)))
 
-    details : (g : Found) (number direction kind max : ℕ) (w : World) → Moves c y w (set_detail_on g number direction kind max w)
-    details (At i) number direction kind max w = stays c y f t w _ (λ e l. l)
-    details Nothing number direction kind max w = stays c y f t w w (λ e l. l)
+    details : (g : Option ℕ) (number direction kind max : ℕ) (w : World) → Moves c y w (set_detail_on g number direction kind max w)
+    details (Some i) number direction kind max w = stays c y f t w _ (λ e l. l)
+    details Absent number direction kind max w = stays c y f t w w (λ e l. l)
 
     pub calls : (high : Bool) (k : Call) (w : World) → Keeps base 0 c y w → Moves c y w (call high k w)
     unfolding handle_detail finish

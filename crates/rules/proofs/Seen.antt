@@ -10,8 +10,7 @@ use Rattle.transaction.specs.Table.{pick}
 use Rattle.transaction.proofs.Laws.{extract-keeps}
 use Rattle.transaction.specs.declared.Style.{Style}
 use Rattle.endpoints.specs.Table.{with_phase}
-use Rattle.details.specs.declared.Found.{Found}
-use Rattle.details.specs.declared.Found.TheVariants.{At, Nothing}
+use Rattle.std.specs.Prelude.{Option, Some, None as Absent}
 use Rattle.endpoints.specs.declared.Phase.{Phase}
 use Rattle.endpoints.specs.declared.Phase.TheVariants.{None, Early, Active, Ended}
 use Rattle.rules.specs.World.{World, phase, change}
@@ -28,13 +27,13 @@ pub record Seen : Type 0 where
 abbrev pub seen : World → Seen
 seen w = record { slot = w.slot; style = w.transaction.style; endpoint = w.transaction.endpoint }
 
-add-seen : (g : Found) (d a : ℕ) (w : World) → seen (add_endpoint_on g d a w) ≡ seen w
-add-seen (At i) d a w = refl
-add-seen Nothing d a w = refl
+add-seen : (g : Option ℕ) (d a : ℕ) (w : World) → seen (add_endpoint_on g d a w) ≡ seen w
+add-seen (Some i) d a w = refl
+add-seen Absent d a w = refl
 
-place-seen : (g : Found) (pid : ℕ) (p : List ℕ) (w : World) → seen (packet_endpoint_at g pid p w) ≡ seen w
-place-seen (At i) pid p w = refl
-place-seen Nothing pid p w = add-seen (device_for _ w) _ _ w
+place-seen : (g : Option ℕ) (pid : ℕ) (p : List ℕ) (w : World) → seen (packet_endpoint_at g pid p w) ≡ seen w
+place-seen (Some i) pid p w = refl
+place-seen Absent pid p w = add-seen (device_for _ w) _ _ w
 
 pub packet-seen : (pid : ℕ) (p : List ℕ) (w : World) → seen (packet_endpoint pid p w) ≡ seen w
 packet-seen pid p w = place-seen (found pid p w) pid p w

@@ -16,8 +16,7 @@ use Rattle.transaction.specs.declared.Status.{Status}
 use Rattle.transaction.specs.declared.Status.TheVariants.{New, Continue, Retry, Done, Fail, Ambiguous, Invalid}
 use Rattle.details.specs.Details.{fresh}
 use Rattle.details.specs.Kind.{Unknown}
-use Rattle.details.specs.declared.Found.{Found}
-use Rattle.details.specs.declared.Found.TheVariants.{At, Nothing}
+use Rattle.std.specs.Prelude.{Option, Some, None}
 use Rattle.rules.specs.Rows.{Row, EventRow}
 use Rattle.rules.specs.World.{with_shelf, stamped, World, push, with_slot, with_journal, with_keepalive, with_event_state, last_stamped}
 use Rattle.rules.specs.Endpoints.{device_for, found, packet_endpoint, number_at, endpoint_of, set_detail_on}
@@ -58,9 +57,9 @@ end_at Suspended b c w q h = h
 ends : (b c : Bool) (w : World) → Tokened w → Tokened (transaction_end b c w)
 ends b c w h = end_at w.slot b c w refl h
 
-number_real : (g : Found) (w : World) → 3 ≤ w.count → Spot g w.count → ¬ (number_at g w ≡ 0)
-number_real (At i) w t s = s.1
-number_real Nothing w t s = λ z. omega arith
+number_real : (g : Option ℕ) (w : World) → 3 ≤ w.count → Spot g w.count → ¬ (number_at g w ≡ 0)
+number_real (Some i) w t s = s.1
+number_real None w t s = λ z. omega arith
 
 module _ (pid : ℕ) (p : List ℕ) where
   endpoint_real : (w : World) → Stands w → ¬ (endpoint_of pid p w ≡ 0)
@@ -156,9 +155,9 @@ events kind code time w h = by (eqb kind 0)
     by true = acts (turn_of w.event_state kind).act w.packets (push (EventRow w.packets code) (push_packet w.bytes time (suspend (stamped time 0 w)))) (suspends w.slot w.transaction.style w.transaction.endpoint h)
     by false = acts (turn_of (end_all (stamped time 0 w)).event_state kind).act w.packets (push (EventRow w.packets code) (push_packet w.bytes time (end_all (stamped time 0 w)))) (ends false false (stamped time 0 w) h)
 
-details : (g : Found) (number direction kind max : ℕ) (w : World) → Tokened w → Tokened (set_detail_on g number direction kind max w)
-details (At i) number direction kind max w h = h
-details Nothing number direction kind max w h = h
+details : (g : Option ℕ) (number direction kind max : ℕ) (w : World) → Tokened w → Tokened (set_detail_on g number direction kind max w)
+details (Some i) number direction kind max w h = h
+details None number direction kind max w h = h
 
 -- ---- every call, on every world where the special endpoints stand
 

@@ -1,9 +1,7 @@
 -- To be believed: what the rows of a journal are to one endpoint. Marks, like rows, stand the newest first.
 -- Hold it to: demand 3: "the first item added after that group ended"; the assert of add_item in decoder.rs
-use Rattle.std.specs.Prelude.{◌≡◌, List, [], ◌∷◌, ◌++◌, ℕ, suc, eqb, length}
+use Rattle.std.specs.Prelude.{◌≡◌, List, [], ◌∷◌, ◌++◌, ℕ, suc, eqb, length, Option, Some, None}
 use Rattle.transaction.specs.Table.{pick}
-use Rattle.details.specs.declared.Found.{Found}
-use Rattle.details.specs.declared.Found.TheVariants.{At, Nothing}
 use Rattle.rules.specs.Rows.{Row, BytesRow, DeviceRow, EndpointRow, PacketRow, EventRow, TransactionRow, GroupRow, StateRow, StateBytes, ItemRow, T, G, D, E, RequestRow, Over}
 
 pub data Mark : Type 0 where
@@ -77,11 +75,11 @@ items (item ∷ ms) = suc (items ms)
 items (closed i ∷ ms) = items ms
 
 -- the group that ended last
-abbrev pub last_ended : List Mark → Found
-last_ended [] = Nothing
+abbrev pub last_ended : List Mark → Option ℕ
+last_ended [] = None
 last_ended (other ∷ ms) = last_ended ms
 last_ended (started ∷ ms) = last_ended ms
-last_ended (ended k ∷ ms) = At k
+last_ended (ended k ∷ ms) = Some k
 last_ended (item ∷ ms) = last_ended ms
 last_ended (closed i ∷ ms) = last_ended ms
 
@@ -102,7 +100,7 @@ Asserted (other ∷ ms) = Asserted ms
 Asserted (started ∷ ms) = Asserted ms
 Asserted (ended k ∷ ms) = Asserted ms
 Asserted (item ∷ ms) = Asserted ms
-Asserted (closed i ∷ ms) = (last_ended ms ≡ At (length (closings ms))) × Asserted ms
+Asserted (closed i ∷ ms) = (last_ended ms ≡ Some (length (closings ms))) × Asserted ms
 
 -- a group that ends is the last that was started: where group k ends there are k + 1 G rows, so group k is the one of G row k
 abbrev pub InTurn : List Mark → Type 0

@@ -4,13 +4,14 @@ use mathlib.Core.Bool.{Bool, true}
 use mathlib.Core.List.{List, replicate}
 use mathlib.Core.Path.{◌≡◌, sym, ap, subst, ◌∙◌}
 use lib.ListN.{length}
+use Rattle.std.specs.Prelude.{Result}
 use Rattle.details.specs.Details.{fresh}
 use Rattle.details.specs.declared.Device.{Device}
 use Rattle.record.specs.Fresh.{refused_decoder}
 use Rattle.record.specs.declared.Decoder.{Decoder}
 use Rattle.trace.specs.Clock.{stopped}
 use Rattle.trace.specs.Trace.{header_of, header_answer, header_place}
-use Rattle.trace.specs.declared.Header.{Header}
+use Rattle.trace.specs.declared.HeaderError.{HeaderError}
 use Rattle.trace.specs.declared.clock.Clock.{Clock}
 use Rattle.call.specs.State.{Logs, State, state}
 use Rattle.start.specs.Fresh.{Makes, unmade, no_devices}
@@ -37,10 +38,10 @@ module _ {trace : List ℕ} {at n e b p : ℕ} {c c' : Clock} {s s' : Stand} (h 
 
 -- ---- the whole trace
 
-answered : (trace : List ℕ) {h : Header} {a : ℕ} → h ≡ header_of trace → a ≡ header_answer h → a ≡ header_answer (header_of trace)
+answered : (trace : List ℕ) {h : Result (Unit {0}) HeaderError} {a : ℕ} → h ≡ header_of trace → a ≡ header_answer h → a ≡ header_answer (header_of trace)
 answered trace f k = k ∙ ap header_answer f
 
-module _ {high : Bool} {trace t : List ℕ} {l : Logs} {shelf : List ℕ} {d : Device} {h : Header} {a : ℕ} (e : d ≡ fresh 0) (f : h ≡ header_of trace) (k : a ≡ header_answer h) where
+module _ {high : Bool} {trace t : List ℕ} {l : Logs} {shelf : List ℕ} {d : Device} {h : Result (Unit {0}) HeaderError} {a : ℕ} (e : d ≡ fresh 0) (f : h ≡ header_of trace) (k : a ≡ header_answer h) where
   pub ran-wrong : {p : ℕ} {r : Decoder} → (a ≡ 0 → ⊥) → r ≡ refused_decoder → p ≡ header_place h → Ran high trace t l shelf a p (stand (state r (replicate 64 d) t l) shelf)
   unfolding unmade
   ran-wrong {p} {r} n u v =

@@ -26,15 +26,6 @@ const PART: usize = 8192;
 
 pub type Shelf = [u8; 524288];
 
-fn lent(_bytes: &[u8]) {}
-
-// A lent shelf has all its bytes: a proof learns it where the array is lent on as a slice.
-pub fn sized(shelf: &Shelf)
-    ensures { length shelf.now ≡ 524288 }
-{
-    lent(shelf);
-}
-
 // The packet's payload is laid by where `keeps`: in the part of the device `device`, behind `count` bytes. A request completes where `asks`: on the device `place`,
 // with these setup data and a payload of this length, on the endpoint `endpoint`. Where not, the device is the first.
 #[derive(Clone, Copy)]
@@ -69,8 +60,7 @@ fn is_payload(high: bool, style: Style, pid: u8) -> bool
 pub fn is_kept(high: bool, t: Transaction, e: Endpoint, pid: u8) -> bool
     ensures { result ≡ is_kept high t e pid }
 {
-    let style = t.style;
-    let payload = is_payload(high, style, pid);
+    let payload = is_payload(high, t.style, pid);
     let read = is_laid(kind_of(e.setup));
     payload & (!(t.endpoint == 0) & read)
 }
@@ -79,24 +69,15 @@ pub fn is_kept(high: bool, t: Transaction, e: Endpoint, pid: u8) -> bool
 fn keeps_payload(high: bool, p: Plan) -> bool
     ensures { result ≡ keeps high p }
 {
-    let begin = p.begin;
-    let end = p.end;
-    let t = begin.transaction;
-    let kept = is_kept(high, p.brought, end.entry, t.last);
-    !begin.row & kept
+    let kept = is_kept(high, p.brought, p.end.entry, p.begin.transaction.last);
+    !p.begin.row & kept
 }
 
 // Whether an end is that of a request.
 pub fn is_request(effect: Effect) -> bool
     ensures { result ≡ asks effect }
 {
-    match effect {
-        Effect::NoEffect => false,
-        Effect::NewDevice(_) => false,
-        Effect::Request(_) => true,
-        Effect::PendingData(_) => false,
-        Effect::IndexData(_, _, _) => false,
-    }
+    matches!(effect, Effect::Request(_))
 }
 
 // The length of its payload.
@@ -104,11 +85,8 @@ fn length_of(effect: Effect) -> u64
     ensures { result ≡ length_of effect }
 {
     match effect {
-        Effect::NoEffect => 0,
-        Effect::NewDevice(_) => 0,
         Effect::Request(n) => n,
-        Effect::PendingData(_) => 0,
-        Effect::IndexData(_, _, _) => 0,
+        _ => 0,
     }
 }
 
@@ -116,10 +94,7 @@ fn length_of(effect: Effect) -> u64
 fn is_asked(p: Plan) -> bool
     ensures { result ≡ is_asked p }
 {
-    let close = p.close;
-    let effect = close.effect;
-    let request = is_request(effect);
-    p.closes & request
+    p.closes & is_request(p.close.effect)
 }
 
 // A device that something is done for, else the first.
@@ -149,27 +124,19 @@ pub fn no_reading() -> Reading
 pub fn reading_of(high: bool, p: Plan) -> Reading
     ensures { result ≡ reading_of high p }
 {
-    let begin = p.begin;
-    let t = begin.transaction;
-    let end = p.end;
-    let old = end.entry;
-    let close = p.close;
-    let e = close.entry;
-    let effect = close.effect;
+    let old = p.end.entry;
+    let e = p.close.entry;
     let keeps = keeps_payload(high, p);
     let asks = is_asked(p);
-    let device = device_if(keeps, old.device);
-    let place = device_if(asks, e.device);
-    let length = length_of(effect);
     Reading {
         keeps,
-        device,
+        device: device_if(keeps, old.device),
         count: old.payload as usize,
         asks,
-        endpoint: t.endpoint,
-        place,
+        endpoint: p.begin.transaction.endpoint,
+        place: device_if(asks, e.device),
         setup: e.setup,
-        length,
+        length: length_of(p.close.effect),
     }
 }
 
@@ -225,13 +192,10 @@ pub fn put_request(requests: &mut [u64], at: usize, t: Reading, note: u64)
     ensures { requests.new ≡ request_after t at note requests.old }
 {
     if t.asks {
-        rows::put4(
+        rows::put(
             requests,
             at * width::REQUEST,
-            t.endpoint as u64,
-            t.setup,
-            t.length,
-            note,
+            &[t.endpoint as u64, t.setup, t.length, note],
         );
     }
 }

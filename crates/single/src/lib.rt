@@ -149,8 +149,6 @@ pub fn single_step(
             let devices = r.devices;
             went(answer, next, clock, decoder, devices)
         }
-        Next::Unknown => over(trace::answer(found), at, clock, d, devices),
-        Next::Cut => over(trace::answer(found), at, clock, d, devices),
-        Next::End => over(trace::answer(found), at, clock, d, devices),
+        Next::Unknown | Next::Cut | Next::End => over(trace::answer(found), at, clock, d, devices),
     }
 }

@@ -23,8 +23,7 @@ use Rattle.transaction.specs.declared.Transaction.{Transaction}
 use Rattle.details.proofs.DetailsLaws.{type-kept, detail-kept}
 use Rattle.details.specs.Kind.{Unknown}
 use Rattle.endpoints.specs.declared.Endpoint.{Endpoint}
-use Rattle.details.specs.declared.Found.{Found}
-use Rattle.details.specs.declared.Found.TheVariants.{At, Nothing}
+use Rattle.std.specs.Prelude.{Option, Some, None as Absent}
 use Rattle.endpoints.specs.declared.Phase.{Phase}
 use Rattle.endpoints.specs.declared.Phase.TheVariants.{None, Early, Active, Ended}
 use Rattle.rules.proofs.Linked.{token-slot, resume-links, extract-links}
@@ -331,9 +330,9 @@ module _ (n : ℕ) where
 
   -- ---- every call
 
-  detail-fits : (g : Found) (number direction kind max : ℕ) (w : World) → Fits n w → Fits n (set_detail_on g number direction kind max w)
-  detail-fits (At i) number direction kind max w f = changed-device n (holds w.slot) w.transaction.endpoint i (detailed number direction kind max) w (λ e. (detail-kept e number direction kind max).address) f
-  detail-fits Nothing number direction kind max w f = f
+  detail-fits : (g : Option ℕ) (number direction kind max : ℕ) (w : World) → Fits n w → Fits n (set_detail_on g number direction kind max w)
+  detail-fits (Some i) number direction kind max w f = changed-device n (holds w.slot) w.transaction.endpoint i (detailed number direction kind max) w (λ e. (detail-kept e number direction kind max).address) f
+  detail-fits Absent number direction kind max w f = f
 
   call_fits : (high : Bool) (k : Call) (w : World) → Tokened w → Linked w → Fits n w → Fits n (call high k w)
   unfolding handle_detail finish

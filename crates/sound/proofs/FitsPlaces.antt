@@ -14,8 +14,7 @@ use Rattle.transaction.specs.declared.Transaction.{Transaction}
 use Rattle.details.proofs.SearchLaws.{Last, last-is}
 use Rattle.details.specs.declared.Device.{Device}
 use Rattle.endpoints.specs.declared.Endpoint.{Endpoint}
-use Rattle.details.specs.declared.Found.{Found}
-use Rattle.details.specs.declared.Found.TheVariants.{At, Nothing}
+use Rattle.std.specs.Prelude.{Option, Some, None}
 use Rattle.rules.proofs.Moves.{Spot, found-spot}
 use Rattle.rules.specs.World.{World, no_item}
 use Rattle.endpoints.specs.Table.{new_endpoint}
@@ -75,9 +74,9 @@ module _ (n : ℕ) (b : Bool) (y : ℕ) where
   push_stands : (d a : ℕ) (w : World) → d < w.device_count → StandsIn n b y w → StandsIn n b y (push_endpoint d a w)
   push_stands d a w h s = more-endpoints d a h (longer (omega arith) s)
 
-  add_stands : (g : Found) (device a : ℕ) (w : World) → Last (λ i. eqb (w.devices i).address device) w.device_count g → StandsIn n b y w → StandsIn n b y (add_endpoint_on g device a w)
-  add_stands (At d) device a w h s = push_stands d a w h.0 s
-  add_stands Nothing device a w h s = push_stands w.device_count a (add_device device w) (omega arith) (device_stands n b y device w s)
+  add_stands : (g : Option ℕ) (device a : ℕ) (w : World) → Last (λ i. eqb (w.devices i).address device) w.device_count g → StandsIn n b y w → StandsIn n b y (add_endpoint_on g device a w)
+  add_stands (Some d) device a w h s = push_stands d a w h.0 s
+  add_stands None device a w h s = push_stands w.device_count a (add_device device w) (omega arith) (device_stands n b y device w s)
 
 -- ---- packet_endpoint: its number x is one that is there, and not the event endpoint's
 
@@ -87,20 +86,20 @@ pub record Placed (n : ℕ) (b : Bool) (y x : ℕ) (w v : World) : Type 0 where
   pub there : x < v.count
   pub real : ¬ (x ≡ 0)
 
-added-count : (g : Found) (device a : ℕ) (w : World) → (add_endpoint_on g device a w).count ≡ suc w.count
-added-count (At d) device a w = refl
-added-count Nothing device a w = refl
+added-count : (g : Option ℕ) (device a : ℕ) (w : World) → (add_endpoint_on g device a w).count ≡ suc w.count
+added-count (Some d) device a w = refl
+added-count None device a w = refl
 
-added-rows : (g : Found) (device a : ℕ) (w : World) → (add_endpoint_on g device a w).transactions ≡ w.transactions
-added-rows (At d) device a w = refl
-added-rows Nothing device a w = refl
+added-rows : (g : Option ℕ) (device a : ℕ) (w : World) → (add_endpoint_on g device a w).transactions ≡ w.transactions
+added-rows (Some d) device a w = refl
+added-rows None device a w = refl
 
 pub placing : (n : ℕ) (b : Bool) (y pid : ℕ) (p : List ℕ) (w : World) → StandsIn n b y w → Placed n b y (endpoint_of pid p w) w (packet_endpoint pid p w)
 placing n b y pid p w s = by (found pid p w) (found-spot pid p w s.three s.event.address)
   where
-    by : (g : Found) → Spot g w.count → Placed n b y (number_at g w) w (packet_endpoint_at g pid p w)
-    by (At i) h = record { rows = refl; stands = s; there = h.0; real = h.1 }
-    by Nothing h =
+    by : (g : Option ℕ) → Spot g w.count → Placed n b y (number_at g w) w (packet_endpoint_at g pid p w)
+    by (Some i) h = record { rows = refl; stands = s; there = h.0; real = h.1 }
+    by None h =
         let d = device_for (token_of p).address w in
         let a = address_for pid (token_of p).number in
         let q = added-count d (token_of p).address a w in

@@ -9,8 +9,8 @@ use lib.ListN.{length}
 use Rattle.usb.specs.Packet.{checked_of}
 use Rattle.usb.specs.Pid.{OUT}
 use Rattle.usb.specs.Types.{Start, Complete}
-use Rattle.usb.specs.declared.Checked.{Checked}
-use Rattle.usb.specs.declared.Checked.TheVariants.{Valid, Malformed}
+use Rattle.std.specs.Prelude.{Result, Ok, Err}
+use Rattle.usb.specs.declared.reason.Reason.{Reason}
 use Rattle.transaction.specs.Payload.{start_pid}
 use Rattle.transaction.specs.Split.{split_rows}
 use Rattle.transaction.specs.Status.{judged_of, transaction_status}
@@ -173,9 +173,9 @@ none_of (r ∷ rs) k s l pid h = by (fits r.tests (k ∷ s ∷ l ∷ pid ∷ [])
         shut true t u v = absurd (true≢false (sym v ∙ u))
         shut false t u v = refl
 
-split_goes_on : (high : Bool) (t : Transaction) (sc kind : ℕ) → t.style ≡ Split sc kind → (c : Checked) (n : ℕ) → closing (judged_of high t c n).status ≡ true → ¬ ((judged_of high t c n).pid ≡ OUT)
-split_goes_on high t sc kind q (Malformed reason) n h = absurd (true≢false (sym h))
-split_goes_on high t sc kind q (Valid pid) n h = λ z. absurd (true≢false (sym (rw (q, z) at h) ∙ none_of (split_rows n) kind sc t.last OUT refl))
+split_goes_on : (high : Bool) (t : Transaction) (sc kind : ℕ) → t.style ≡ Split sc kind → (c : Result ℕ Reason) (n : ℕ) → closing (judged_of high t c n).status ≡ true → ¬ ((judged_of high t c n).pid ≡ OUT)
+split_goes_on high t sc kind q (Err reason) n h = absurd (true≢false (sym h))
+split_goes_on high t sc kind q (Ok pid) n h = λ z. absurd (true≢false (sym (rw (q, z) at h) ∙ none_of (split_rows n) kind sc t.last OUT refl))
 
 pub split_on : (high : Bool) (t : Transaction) (sc kind : ℕ) (p : List ℕ) → t.style ≡ Split sc kind → closing (transaction_status high t p).status ≡ true → ¬ ((transaction_status high t p).pid ≡ OUT)
 unfolding transaction_status

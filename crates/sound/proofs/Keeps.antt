@@ -11,8 +11,7 @@ use lib.ListN.{length}
 use Rattle.endpoints.specs.Word as word
 use Rattle.details.specs.Details.{fresh}
 use Rattle.details.specs.declared.Device.{Device}
-use Rattle.details.specs.declared.Found.{Found}
-use Rattle.details.specs.declared.Found.TheVariants.{At, Nothing}
+use Rattle.std.specs.Prelude.{Option, Some, None}
 use Rattle.rules.specs.Decoder as rules
 use Rattle.rules.specs.Decoder.{handle_detail}
 use Rattle.rules.specs.Demand.{Call, packet, event, detail, finishing, call}
@@ -88,9 +87,9 @@ detail-room address number direction kind max s w = on (device_for address (worl
     before : Roomy s.table s.decoder.counts (room_of s.logs)
     before = record { begun = w.begun; held = w.counts; numbered = w.numbered }
 
-    on : (g : Found) → Roomy s.table (counts_after s.decoder.counts (set_detail_on g number direction kind max (world_at s))) (room_of s.logs)
-    on (At i) = roomy_same (λ k. refl) (still s _) before
-    on Nothing = roomy_same (λ k. refl) (still s (world_at s).devices) before
+    on : (g : Option ℕ) → Roomy s.table (counts_after s.decoder.counts (set_detail_on g number direction kind max (world_at s))) (room_of s.logs)
+    on (Some i) = roomy_same (λ k. refl) (still s _) before
+    on None = roomy_same (λ k. refl) (still s (world_at s).devices) before
 
 -- ---- a fresh decoder
 

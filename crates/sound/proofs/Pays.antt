@@ -21,8 +21,7 @@ use Rattle.transaction.specs.declared.Style.{Style}
 use Rattle.transaction.specs.declared.Style.TheVariants.{Nothing as NoStyle, Simple, Split, Token}
 use Rattle.transaction.specs.declared.Transaction.{Transaction}
 use Rattle.details.specs.Kind.{Unknown}
-use Rattle.details.specs.declared.Found.{Found}
-use Rattle.details.specs.declared.Found.TheVariants.{At, Nothing}
+use Rattle.std.specs.Prelude.{Option, Some, None}
 use Rattle.rules.specs.Rows.{EventRow}
 use Rattle.rules.specs.World.{with_shelf, World, stamped, event_ep, push, with_slot, with_transaction, with_event_state, with_keepalive, more_transactions, more_groups, with_id, with_pid, new_transaction, last_stamped}
 use Rattle.endpoints.specs.Table.{new_endpoint}
@@ -57,13 +56,13 @@ push_owes k d address w few o i h = by (eqb i w.count) refl
 place_owes : (k pid : ℕ) (p : List ℕ) (w : World) → k ≤ w.bytes → Owes k w → Owes k (packet_endpoint pid p w)
 place_owes k pid p w few o = by (found pid p w)
   where
-    new : (g : Found) (d address : ℕ) → Owes k (add_endpoint_on g d address w)
-    new (At i) d address = push_owes k i address w few o
-    new Nothing d address = push_owes k w.device_count address (add_device d w) few o
+    new : (g : Option ℕ) (d address : ℕ) → Owes k (add_endpoint_on g d address w)
+    new (Some i) d address = push_owes k i address w few o
+    new None d address = push_owes k w.device_count address (add_device d w) few o
 
-    by : (g : Found) → Owes k (packet_endpoint_at g pid p w)
-    by (At i) = o
-    by Nothing = new (device_for _ w) _ _
+    by : (g : Option ℕ) → Owes k (packet_endpoint_at g pid p w)
+    by (Some i) = o
+    by None = new (device_for _ w) _ _
 
 -- ---- transaction_start: a new transaction is not filled
 
@@ -243,9 +242,9 @@ event_pays kind code time w p = by (eqb kind 0)
 
 -- ---- every call
 
-detail_pays : (g : Found) (number direction kind max : ℕ) (w : World) → Paid w → Paid (set_detail_on g number direction kind max w)
-detail_pays (At d) number direction kind max w p = p
-detail_pays Nothing number direction kind max w p = p
+detail_pays : (g : Option ℕ) (number direction kind max : ℕ) (w : World) → Paid w → Paid (set_detail_on g number direction kind max w)
+detail_pays (Some d) number direction kind max w p = p
+detail_pays None number direction kind max w p = p
 
 -- on a world with an endpoint, as every decoder has three
 pub paid-after : (high : Bool) (k : Call) (w : World) → 0 < w.count → Tokened w → Paid w → Paid (call high k w)

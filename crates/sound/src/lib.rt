@@ -20,11 +20,7 @@ use transaction::Transaction;
 fn is_held(slot: Slot) -> bool
     ensures { result ≡ holds slot }
 {
-    match slot {
-        Slot::Empty => false,
-        Slot::Current => true,
-        Slot::Suspended => true,
-    }
+    !matches!(slot, Slot::Empty)
 }
 
 // The payload that waits at an endpoint.
@@ -69,15 +65,12 @@ fn endpoint_paid(d: Decoder, table: &Table, i: usize) -> bool
     requires { i < 128 }
     ensures { result ≡ is_paid d table.now i }
 {
-    let counts = d.counts;
-    let slot = d.slot;
-    let t = d.transaction;
     let e = load(table, i);
     together_within(
         e.payload,
         waiting(e),
-        brought(slot, t, i),
-        counts.bytes as u64,
+        brought(d.slot, d.transaction, i),
+        d.counts.bytes as u64,
     )
 }
 
@@ -85,13 +78,8 @@ fn endpoints_paid(d: Decoder, table: &Table) -> bool
     requires { d.counts.endpoints ≤ 128 }
     ensures { result ≡ every (is_paid d table.now) 0 d.counts.endpoints }
 {
-    let counts = d.counts;
-    let n = counts.endpoints;
-    let mut i: usize = 0;
-    while i < n {
-        if endpoint_paid(d, table, i) {
-            i += 1;
-        } else {
+    for i in 0..d.counts.endpoints {
+        if !endpoint_paid(d, table, i) {
             return false;
         }
     }

@@ -13,7 +13,7 @@ use Rattle.usb.specs.Fields.{setup_data_of}
 use Rattle.usb.specs.Pid.{SPLIT}
 use Rattle.usb.specs.Packet.{format_of, checked_of}
 use Rattle.usb.proofs.Laws.{split-length}
-use Rattle.usb.specs.declared.Checked.TheVariants.{Valid}
+use Rattle.std.specs.Prelude.{Ok}
 use Rattle.details.specs.Details as details
 use Rattle.details.specs.Kind.{Unknown}
 use Rattle.details.specs.declared.Device.{Device}
@@ -197,12 +197,12 @@ module _ (s : State) (g : Good s) where
       dropped-answer = x.answers.answer ∙ packet-answer _ _ (is_full s (after p time s h)) _ _ (length p) true not-ill g.going short unmoved drops
 
 -- a SPLIT where there is no transaction begins one, which has no endpoint yet
-split-world : (high : Bool) (p : List ℕ) (time : ℕ) (w : World) → checked_of p ≡ Valid SPLIT → w.slot ≡ Empty
+split-world : (high : Bool) (p : List ℕ) (time : ℕ) (w : World) → checked_of p ≡ Ok SPLIT → w.slot ≡ Empty
     → ((handle_raw_packet high p time w).slot ≡ Current) × ((handle_raw_packet high p time w).transaction.endpoint ≡ 0)
 unfolding handle_raw_packet transaction_update transaction_status group_early_append
 split-world high p time w h e = rw (e, h) (refl, refl)
 
-pub split-short : (p : List ℕ) → checked_of p ≡ Valid SPLIT → length p ≤ 4096
+pub split-short : (p : List ℕ) → checked_of p ≡ Ok SPLIT → length p ≤ 4096
 unfolding format_of
 split-short p h = let l = split-length p SPLIT h refl in omega arith
 
@@ -308,7 +308,7 @@ pub record Waiting (z : Slot) (s : State) : Type 0 where
   pub slot : s.decoder.slot ≡ z
   pub tokenless : s.decoder.transaction.endpoint ≡ 0
 
-pub after_split : (p : List ℕ) (time : ℕ) (s : State) (h : List ℕ) {a : ℕ} {s' : State} {h' : List ℕ} → checked_of p ≡ Valid SPLIT → PacketCall p time s h a s' h' → a ≡ 0 → Good s
+pub after_split : (p : List ℕ) (time : ℕ) (s : State) (h : List ℕ) {a : ℕ} {s' : State} {h' : List ℕ} → checked_of p ≡ Ok SPLIT → PacketCall p time s h a s' h' → a ≡ 0 → Good s
     → s.decoder.slot ≡ Empty → Waiting Current s'
 after_split p time s h v x ok g e =
     let k = packet-left p time s h x (ap accepts ok) in

@@ -11,7 +11,7 @@ use Rattle.usb.specs.Bits.{after}
 use Rattle.usb.specs.Pid.{IN, OUT, SETUP, DATA0}
 use Rattle.usb.specs.Types.{Isochronous, Bulk}
 use Rattle.usb.specs.Packet.{format_of, format_ok, format_reason, reason_of, checked_of}
-use Rattle.usb.specs.declared.Checked.TheVariants.{Valid}
+use Rattle.std.specs.Prelude.{Ok}
 use Rattle.details.specs.Kind.{Unknown}
 use Rattle.endpoints.specs.declared.Endpoint.{Endpoint}
 use Rattle.transaction.specs.Table.{pick}
@@ -47,17 +47,17 @@ same_mode high pid kind len = status-in high pid pid DATA0 kind len ∙ ap (λ (
     off false = refl
 
 -- the status of a DATA0 after one token
-mode-is : (high : Bool) (pid : ℕ) (t : Transaction) (q : List ℕ) → Began pid t → checked_of q ≡ Valid DATA0 → (transaction_status high t q).status ≡ simple_status_in high pid pid DATA0 t.kind (length q)
+mode-is : (high : Bool) (pid : ℕ) (t : Transaction) (q : List ℕ) → Began pid t → checked_of q ≡ Ok DATA0 → (transaction_status high t q).status ≡ simple_status_in high pid pid DATA0 t.kind (length q)
 unfolding transaction_status
 mode-is high pid t q b v = rw (v, b.style, b.last)
 
-data0-is : (high : Bool) (pid : ℕ) (t : Transaction) (q : List ℕ) → Began pid t → checked_of q ≡ Valid DATA0 → (transaction_status high t q).status ≡ simple_status pid pid DATA0 t.kind (length q)
+data0-is : (high : Bool) (pid : ℕ) (t : Transaction) (q : List ℕ) → Began pid t → checked_of q ≡ Ok DATA0 → (transaction_status high t q).status ≡ simple_status pid pid DATA0 t.kind (length q)
 data0-is high pid t q b v = mode-is high pid t q b v ∙ same_mode high pid t.kind (length q)
 
-setup-data0 : (high : Bool) (n : ℕ) (t : Transaction) (q : List ℕ) → Began SETUP t → checked_of q ≡ Valid DATA0 → length q ≡ n → (transaction_status high t q).status ≡ simple_status SETUP SETUP DATA0 t.kind n
+setup-data0 : (high : Bool) (n : ℕ) (t : Transaction) (q : List ℕ) → Began SETUP t → checked_of q ≡ Ok DATA0 → length q ≡ n → (transaction_status high t q).status ≡ simple_status SETUP SETUP DATA0 t.kind n
 setup-data0 high n t q b v e = data0-is high SETUP t q b v ∙ ap (simple_status SETUP SETUP DATA0 t.kind) e
 
-out-data0 : (high : Bool) (type : ℕ) (t : Transaction) (q : List ℕ) → Began OUT t → t.kind ≡ type → checked_of q ≡ Valid DATA0 → (transaction_status high t q).status ≡ simple_status OUT OUT DATA0 type (length q)
+out-data0 : (high : Bool) (type : ℕ) (t : Transaction) (q : List ℕ) → Began OUT t → t.kind ≡ type → checked_of q ≡ Ok DATA0 → (transaction_status high t q).status ≡ simple_status OUT OUT DATA0 type (length q)
 out-data0 high type t q b e v = data0-is high OUT t q b v ∙ ap (λ (k : ℕ). simple_status OUT OUT DATA0 k (length q)) e
 
 -- ---- calls

@@ -1,13 +1,12 @@
 -- To be believed: what 01's bench cases say. `Holds` gives each kind of case its meaning, in the definitions that the contracts of the public functions cite.
 -- A case speaks of every packet, every transaction, every decoder and every log that it does not name.
 -- Hold it to: 01, "Bench cases": what each kind of case asks
-use Rattle.std.specs.Prelude.{ℕ, ◌≤◌, Bool, true, false, cond, List, [], ◌∷◌, ◌≡◌, length}
+use Rattle.std.specs.Prelude.{ℕ, ◌≤◌, Bool, true, false, cond, List, [], ◌∷◌, ◌≡◌, length, Result, Ok}
 use Rattle.endpoints.specs.Word as word
 use Rattle.usb.specs.Pid.{IN, SPLIT, DATA0, ACK}
 use Rattle.usb.specs.Packet.{payload_of, checked_of}
 use Rattle.usb.specs.Fields.{token_of}
-use Rattle.usb.specs.declared.Checked.{Checked}
-use Rattle.usb.specs.declared.Checked.TheVariants.{Valid}
+use Rattle.usb.specs.declared.reason.Reason.{Reason}
 use Rattle.usb.specs.declared.fields.Token.{Token}
 use Rattle.details.specs.declared.Detail.{Detail}
 use Rattle.details.specs.declared.Device.{Device}
@@ -50,7 +49,7 @@ pub data Step : Type 0 where
 
 pub data Case : Type 0 where
   -- a packet's bytes, and what the check says
-  check : List ℕ → Checked → Case
+  check : List ℕ → Result ℕ Reason → Case
   -- a token's bytes, and its address and number
   token : List ℕ → Token → Case
   -- a data packet's bytes, and its payload
@@ -128,7 +127,7 @@ detail type size = record { kind = type; given = false; max = size }
 abbrev pub Each : Any → State → (World → ℕ → State → Type 0) → Type 0
 Each any_split s P =
     (p : List ℕ) (time : ℕ) (h : List ℕ) (a : ℕ) (s' : State) (h' : List ℕ)
-    → checked_of p ≡ Valid SPLIT → PacketCall p time s h a s' h' → P (after p time s h) a s'
+    → checked_of p ≡ Ok SPLIT → PacketCall p time s h a s' h' → P (after p time s h) a s'
 Each any_keepalive s P =
     (code time a : ℕ) (s' : State) → EventCall LsKeepalive code time s a s' → P (handle_event LsKeepalive code time (world_at s)) a s'
 Each any_packet s P =
@@ -159,7 +158,7 @@ Goes (k ∷ ks) s =
 -- to every transaction that began with pid, of these types, every DATA0 of these lengths has the status a, in either mode
 abbrev pub Judged : ℕ → (ℕ → Bool) → (ℕ → Bool) → Status → Type 0
 Judged pid types lengths a =
-    (high : Bool) (t : Transaction) (q : List ℕ) → Began pid t → types t.kind ≡ true → checked_of q ≡ Valid DATA0 → lengths (length q) ≡ true
+    (high : Bool) (t : Transaction) (q : List ℕ) → Began pid t → types t.kind ≡ true → checked_of q ≡ Ok DATA0 → lengths (length q) ≡ true
     → (transaction_status high t q).status ≡ a
 
 abbrev pub Holds : Case → Type 0
@@ -167,7 +166,7 @@ Holds (check p a) = checked_of p ≡ a
 Holds (token p a) = token_of p ≡ a
 Holds (payload p a) = payload_of p ≡ a
 Holds (data0 pid types lengths p a) =
-    ((checked_of p ≡ Valid DATA0) × (lengths (length p) ≡ true))
+    ((checked_of p ≡ Ok DATA0) × (lengths (length p) ≡ true))
     ×
     Judged pid types lengths a
 Holds (short len max a) =

@@ -1,11 +1,10 @@
 -- To be believed: 01's starred bench cases, in its order; lines in quotation marks are its. `Starred`: each of them holds (Cases.antt says what that means),
 -- and proofs/Held.antt proves it.
 -- Hold it to: 01, "Bench cases", the starred ones in their order; 02, 1, for the reasons
-use Rattle.std.specs.Prelude.{ℕ, true, false, List, [], ◌∷◌}
+use Rattle.std.specs.Prelude.{ℕ, true, false, List, [], ◌∷◌, Ok, Err}
 use Rattle.usb.specs.Pid.{OUT, SETUP, DATA1, ACK}
-use Rattle.usb.specs.Packet.{is_empty, bad_pid, wrong_length, bad_crc}
 use Rattle.usb.specs.Types.{Isochronous, Bulk}
-use Rattle.usb.specs.declared.Checked.TheVariants.{Valid, Malformed}
+use Rattle.usb.specs.declared.reason.Reason.TheVariants.{Empty as NoBytes, Pid as BadPid, Length as WrongLength, Crc as BadCrc}
 use Rattle.details.specs.Kind.{Unknown}
 use Rattle.transaction.specs.Table.{any, only}
 use Rattle.transaction.specs.declared.Status.TheVariants.{Continue, Done, Ambiguous, Invalid}
@@ -23,19 +22,19 @@ ten = 0xC3 ∷ 0x80 ∷ 0x06 ∷ 0x00 ∷ 0x01 ∷ 0x00 ∷ 0x00 ∷ 0x40 ∷ 0x
 abbrev pub cases : List Case
 cases =
     -- "empty packet: Malformed." (the reasons are 02's, 1)
-    check [] (Malformed is_empty)
+    check [] (Err NoBytes)
     -- "`2D 00 10`: SETUP to 0, 0."
-    ∷ check (0x2D ∷ 0x00 ∷ 0x10 ∷ []) (Valid SETUP)
+    ∷ check (0x2D ∷ 0x00 ∷ 0x10 ∷ []) (Ok SETUP)
     ∷ token (0x2D ∷ 0x00 ∷ 0x10 ∷ []) (record { address = 0; number = 0 })
     -- "`2D 00 11`: Malformed."
-    ∷ check (0x2D ∷ 0x00 ∷ 0x11 ∷ []) (Malformed bad_crc)
+    ∷ check (0x2D ∷ 0x00 ∷ 0x11 ∷ []) (Err BadCrc)
     -- "`4B 00 00`: DATA1, empty payload."
-    ∷ check (0x4B ∷ 0x00 ∷ 0x00 ∷ []) (Valid DATA1)
+    ∷ check (0x4B ∷ 0x00 ∷ 0x00 ∷ []) (Ok DATA1)
     ∷ payload (0x4B ∷ 0x00 ∷ 0x00 ∷ []) []
     -- "`D2` ACK; `D2 00` and `D3` Malformed."
-    ∷ check (0xD2 ∷ []) (Valid ACK)
-    ∷ check (0xD2 ∷ 0x00 ∷ []) (Malformed wrong_length)
-    ∷ check (0xD3 ∷ []) (Malformed bad_pid)
+    ∷ check (0xD2 ∷ []) (Ok ACK)
+    ∷ check (0xD2 ∷ 0x00 ∷ []) (Err WrongLength)
+    ∷ check (0xD3 ∷ []) (Err BadPid)
     -- "SETUP then DATA0 of 11 bytes Continue, of 10 Invalid."
     ∷ data0 SETUP any (only 11) eleven Continue
     ∷ data0 SETUP any (only 10) ten Invalid

@@ -1,39 +1,21 @@
 -- Making a fresh decoder, over plain values: the room that the answer 0 tells, and the contract from its pieces.
-use Prim.Native.Nat.{ℕ, ◌+◌, ◌<◌, ◌≤◌}
+use Prim.Native.Nat.{ℕ, ◌≤◌}
 use native.Mathlib.Omega.{arith}
-use mathlib.Core.Path.{◌≡◌, refl, sym, ap, ◌∙◌}
-use mathlib.Core.Bool.{Bool, true, false}
+use mathlib.Core.Path.{◌≡◌, ap}
+use mathlib.Core.Bool.{Bool}
 use mathlib.Core.List.{List}
-use borrow.Author.Tests.{eqb-true, eqb-false}
-use lib.Dec.{eqb}
-use lib.ListN.{length, get_or, set, length-replicate}
-use lib.Seq.{sets, get_or-set_same, get_or-set_other, ext_get_or}
+use lib.ListN.{length, set}
+use lib.Seq.{sets}
 use Rattle.details.specs.Details as details
 use Rattle.details.specs.declared.Device.{Device}
 use Rattle.rules.specs.Decoder.{fresh}
 use Rattle.rules.specs.Rows.{log}
-use Rattle.record.specs.Fresh.{counts_of, fresh_decoder, clear_table, fresh_table, refused_decoder}
-use Rattle.record.proofs.FreshLaws.{clear-word}
+use Rattle.record.specs.Fresh.{counts_of, fresh_decoder, fresh_table, refused_decoder}
 use Rattle.record.specs.RoomLaws.{within}
 use Rattle.record.specs.declared.Decoder.{Decoder}
 use Rattle.call.specs.State.{Logs, logs, state, room_by, room_of}
 use Rattle.start.specs.Fresh.{fresh_answer, made, unmade, Makes}
 use Rattle.start.proofs.FreshLaws.{fitted}
-
--- ---- the table is cleared
-
--- one word more is 0
-pub cleared-next : (t : List ℕ) (i : ℕ) → i < length t → ((k : ℕ) → k < i → get_or t k 0 ≡ 0) → (k : ℕ) → k < i + 1 → get_or (set t i 0) k 0 ≡ 0
-cleared-next t i h z k l = at (eqb k i) refl
-  where
-    at : (b : Bool) → eqb k i ≡ b → get_or (set t i 0) k 0 ≡ 0
-    at true e = let q = eqb-true k i e in rw q (get_or-set_same t i 0 0 h)
-    at false e = let n = eqb-false k i e in get_or-set_other t i k 0 0 n ∙ z k (omega arith)
-
--- all of them are
-pub cleared-all : (t t₀ : List ℕ) → length t ≡ length t₀ → ((k : ℕ) → k < length t₀ → get_or t k 0 ≡ 0) → t ≡ clear_table t₀
-cleared-all t t₀ e z =
-    ext_get_or 0 t (clear_table t₀) (e ∙ sym (length-replicate (length t₀) 0)) (λ k l. z k (omega arith) ∙ sym (clear-word (length t₀) k))
 
 -- ---- the answer and the rows
 

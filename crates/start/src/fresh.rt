@@ -9,37 +9,32 @@ ghost use Rattle.start.specs.Fresh.{fresh_answer, Makes};
 
 use call::{Called, room_of};
 use details::{Device, EVENT_EP_NUM, FRAMING_EP_NUM, INVALID_EP_NUM, fresh_device};
-use endpoints::entry::{new_endpoint, sized, store};
-use endpoints::{Table, word};
+use endpoints::Table;
+use endpoints::entry::{new_endpoint, store};
 use record::Counts;
 use record::fresh::{fresh_decoder, refused_decoder};
 use record::room::{fits, too_long};
 
 // 1 before 7, else 0.
+// Stays: the answer is a number of 01 that `Called` holds; a Result would be turned into it at once.
 fn fresh_answer(room: Counts) -> u8
     ensures { result ≡ fresh_answer room }
 {
     if too_long(room) {
         return 1;
     }
-    let decoder = fresh_decoder(false);
-    let counts = decoder.counts;
-    if fits(counts, room) {
-        return 0;
+    if fits(fresh_decoder(false).counts, room) {
+        0
+    } else {
+        7
     }
-    7
 }
 
 // Every word 0: of what a caller left in the table no call of a fresh decoder sees anything.
 fn clear_table(table: &mut Table)
     ensures { table.new ≡ clear_table table.old }
 {
-    sized(table);
-    let mut i: usize = 0;
-    while i < word::TABLE {
-        table[i] = 0;
-        i += 1;
-    }
+    table.fill(0);
 }
 
 // The entries of the three special endpoints, in a cleared table.
@@ -60,7 +55,7 @@ fn put_device(device_rows: &mut [u64])
     requires { 1 ≤ length device_rows.old }
     ensures { device_rows.new ≡ sets device_rows.old 0 (log 1 fresh.journal) }
 {
-    rows::put1(device_rows, 0, 0);
+    rows::put(device_rows, 0, &[0]);
 }
 
 // Three endpoint rows, of rows::width::ENDPOINT words each: the device, the number, and direction 0.
@@ -68,9 +63,9 @@ fn put_specials(endpoint_rows: &mut [u64])
     requires { 9 ≤ length endpoint_rows.old }
     ensures { endpoint_rows.new ≡ sets endpoint_rows.old 0 (log 2 fresh.journal) }
 {
-    rows::put3(endpoint_rows, 0, 0, EVENT_EP_NUM as u64, 0);
-    rows::put3(endpoint_rows, 3, 0, INVALID_EP_NUM as u64, 0);
-    rows::put3(endpoint_rows, 6, 0, FRAMING_EP_NUM as u64, 0);
+    rows::put(endpoint_rows, 0, &[0, EVENT_EP_NUM as u64, 0]);
+    rows::put(endpoint_rows, 3, &[0, INVALID_EP_NUM as u64, 0]);
+    rows::put(endpoint_rows, 6, &[0, FRAMING_EP_NUM as u64, 0]);
 }
 
 // A fresh decoder on the lent table and logs, of which it writes the first rows of two; high is the mode for high-bandwidth isochronous data.

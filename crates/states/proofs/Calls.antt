@@ -9,8 +9,7 @@ use lib.ListN.{length}
 use Rattle.usb.specs.Packet.{reason_of}
 use Rattle.transaction.specs.Table.{pick}
 use Rattle.details.specs.Details.{number_of}
-use Rattle.details.specs.declared.Found.{Found}
-use Rattle.details.specs.declared.Found.TheVariants.{At, Nothing}
+use Rattle.std.specs.Prelude.{Option, Some, None as Absent}
 use Rattle.endpoints.specs.declared.Endpoint.{Endpoint}
 use Rattle.endpoints.specs.declared.Phase.{Phase}
 use Rattle.endpoints.specs.declared.Phase.TheVariants.{None, Early, Active, Ended}
@@ -223,9 +222,9 @@ module _ (b : ℕ) where
 
   -- ---- every call
 
-  detail-keeps : (g : Found) (number direction kind max : ℕ) → Keeps (set_detail_on g number direction kind max)
-  detail-keeps (At d) number direction kind max w h = h
-  detail-keeps Nothing number direction kind max w h = h
+  detail-keeps : (g : Option ℕ) (number direction kind max : ℕ) → Keeps (set_detail_on g number direction kind max)
+  detail-keeps (Some d) number direction kind max w h = h
+  detail-keeps Absent number direction kind max w h = h
 
   pub call-keeps : (high : Bool) (k : Call) → Keeps (call high k)
   unfolding handle_detail finish

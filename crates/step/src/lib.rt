@@ -7,7 +7,6 @@ ghost use Rattle.call.specs.Outcome.{accepts};
 ghost use Rattle.step.specs.Step.{went_with, over_with};
 
 use details::Device;
-use endpoints::entry::flag_word;
 use record::Decoder;
 use trace::Cursor;
 use trace::clock::Clock;
@@ -34,7 +33,7 @@ pub fn goes_on(answer: u8) -> bool
 pub fn eight(answer: u8) -> usize
     ensures { result ≡ one (eqb answer 8) }
 {
-    flag_word(answer == 8) as usize
+    usize::from(answer == 8)
 }
 
 // A record that was called.

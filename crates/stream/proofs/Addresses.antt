@@ -11,12 +11,11 @@ use lib.Seq.{get_or-set_same, get_or-set_other}
 use Rattle.details.specs.Search.{blank, last_of}
 use Rattle.details.specs.Lookup.{is_device, found_device}
 use Rattle.details.specs.declared.Device.{Device}
-use Rattle.details.specs.declared.Found.TheVariants.{At}
+use Rattle.std.specs.Prelude.{Option, Some}
 use Rattle.packet.specs.After.{Placed}
 use Rattle.packet.specs.declared.change.Change.{Change}
 use Rattle.usb.specs.Fields.{token_of}
 use Rattle.usb.specs.declared.fields.Token.{Token}
-use Rattle.details.specs.declared.Found.{Found}
 use Rattle.endpoints.specs.Table.{entry_at}
 use Rattle.endpoints.specs.declared.Endpoint.{Endpoint}
 use Rattle.record.specs.declared.Decoder.{Decoder}
@@ -35,7 +34,7 @@ found_same {a} {v} h n x few = by n few
     by (suc m) u =
         let e = h.each m (omega arith) in
         let r = by m (omega arith) in
-        λ i. cond (eqb (e i) x) (At m) (r i)
+        λ i. cond (eqb (e i) x) (Some m) (r i)
 
 -- one row, stored in both
 module _ {n : ℕ} {a : List ℕ} {v : List Device} (h : Addressed n a v) (many : length v ≡ 64) (i : ℕ) (few : i < 64) (d : Device) where
@@ -79,7 +78,7 @@ addressed-made {a} {v} h many c p x r y =
     addressed-set (addressed-set (addressed-set h many c.place p.place x) first c.reading.place p.owner r) second c.at p.at y
 
 -- where a packet's details are looked for, as the code finds it
-pub sight_by : (a : List ℕ) (d : Decoder) (table packet : List ℕ) {t : Token} {f : Found} {p : ℕ} {e : Endpoint}
+pub sight_by : (a : List ℕ) (d : Decoder) (table packet : List ℕ) {t : Token} {f : Option ℕ} {p : ℕ} {e : Endpoint}
     → t ≡ token_of packet → f ≡ found_address a d.counts.devices t.address → p ≡ place_in f → e ≡ entry_at table (old_endpoint d.slot d.transaction)
     → record { found = f; place = p; number = t.number; owner = e.device; address = e.address } ≡ sight_of a d table packet
 sight_by a d table packet {t} {f} {p} {e} q r h k =

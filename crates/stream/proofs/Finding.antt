@@ -76,7 +76,7 @@ part_by Trace b t at c z h = trace_by b t at c (next_at t at) refl h
 part_by (Pcap f) b t at c z h =
     let k = pcap_by f t at b z h in
     let p = pcap_part b f (pcap.next_at f t at) in
-    record { ready = k.ready; finds = (k.timed, refl); short = short_by p.start p.end (ltb p.end p.start) k.short }
+    record { ready = k.ready; finds = (k.timed, k.behind); short = short_by p.start p.end (ltb p.end p.start) k.short }
 
 pub part-is : (r : Reader) (b : Bool) (t : List ℕ) (at : ℕ) (c : Clock) {p : Part} → p ≡ part_at r b c t at → SecondsAt r t at → p.taken ≡ true → IsPart r b t at c p
 part-is r b t at c {p} e z h = subst (λ (x : Part). IsPart r b t at c x) (sym e) (part_by r b t at c z (sym (ap (λ (x : Part). x.taken) e) ∙ h))

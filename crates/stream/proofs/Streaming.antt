@@ -13,7 +13,7 @@ use Rattle.details.specs.Details.{details_of}
 use Rattle.details.specs.Search.{blank}
 use Rattle.details.specs.Lookup.{found_device}
 use Rattle.details.specs.declared.Device.{Device}
-use Rattle.details.specs.declared.Found.{Found}
+use Rattle.std.specs.Prelude.{Option}
 use Rattle.endpoints.specs.Table.{entry_at}
 use Rattle.endpoints.specs.declared.Endpoint.{Endpoint}
 use Rattle.plan.specs.Packet.{old_endpoint}

@@ -1,8 +1,7 @@
 -- Inner (cited by private contracts alone): the addresses of the device rows, kept beside them, so that a search reads these alone.
-use Rattle.std.specs.Prelude.{ℕ, ◌<◌, Bool, List, ◌≡◌, eqb, length, get_or}
+use Rattle.std.specs.Prelude.{ℕ, ◌<◌, Bool, List, ◌≡◌, eqb, length, get_or, Option}
 use Rattle.details.specs.Search.{blank, last_of}
 use Rattle.details.specs.declared.Device.{Device}
-use Rattle.details.specs.declared.Found.{Found}
 use Rattle.usb.specs.Fields.{token_of}
 use Rattle.endpoints.specs.Table.{entry_at}
 use Rattle.record.specs.declared.Decoder.{Decoder}
@@ -20,7 +19,7 @@ abbrev pub is_address : List ℕ → ℕ → ℕ → Bool
 is_address a address i = eqb (get_or a i 0) address
 
 -- the last of the first n rows that has it, as found_device (details, Search) finds it in the devices
-unfoldable pub found_address : List ℕ → ℕ → ℕ → Found
+unfoldable pub found_address : List ℕ → ℕ → ℕ → Option ℕ
 found_address a n address = last_of (is_address a address) n
 
 -- where a packet's details are looked for

@@ -1,5 +1,5 @@
 -- Inner (cited by private contracts alone): which records the loop takes by the inner call.
-use Rattle.std.specs.Prelude.{ℕ, ◌-◌, Bool, true, false, ◌&&◌, cond, List, leb, ltb}
+use Rattle.std.specs.Prelude.{ℕ, ◌-◌, Result, Ok, Err, Bool, true, false, ◌&&◌, cond, List, leb, ltb}
 use Rattle.trace.specs.Clock.{tick_of}
 use Rattle.trace.specs.Trace.{next_at}
 use Rattle.trace.specs.declared.Next.{Next}
@@ -32,9 +32,9 @@ trace_part ready c Cut = no_part
 trace_part ready c End = no_part
 
 -- of a pcap file: likewise, with the packet's own time
-abbrev pub part_by : Bool → Piece → Part
-part_by ready p =
-    record { taken = (ready && p.taken) && is_short p.start p.end; ticks = 0; time = p.time; start = p.start; end = p.end; next = p.end }
+abbrev pub part_by : Bool → Result Piece ℕ → Part
+part_by ready (Ok p) = record { taken = ready && is_short p.start p.end; ticks = 0; time = p.time; start = p.start; end = p.end; next = p.end }
+part_by ready (Err answer) = no_part
 
 abbrev pub pcap_part : Bool → Format → found.Next → Part
 pcap_part ready f n = part_by ready (piece_of f n)

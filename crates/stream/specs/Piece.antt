@@ -1,19 +1,16 @@
 -- Inner (cited by private contracts alone): what stands at a place of a pcap file, as the code takes it.
-use Rattle.std.specs.Prelude.{ℕ, ◌%◌, ◌^◌, ◌<◌, true, false, List, ◌≡◌}
+use Rattle.std.specs.Prelude.{ℕ, ◌%◌, ◌^◌, ◌<◌, Result, Ok, Err, List, ◌≡◌}
 use Rattle.pcap.specs.Pcap.{next_at, answer_of, time_of}
 use Rattle.pcap.specs.declared.Format.{Format}
 use Rattle.pcap.specs.declared.Next.{Next}
 use Rattle.pcap.specs.declared.Next.TheVariants.{Packet, Cut, Fraction, End}
 use Rattle.stream.specs.declared.piece.Piece.{Piece}
 
-abbrev pub no_piece : ℕ → Piece
-no_piece answer = record { taken = false; answer = answer; time = 0; start = 0; end = 0 }
-
-abbrev pub piece_of : Format → Next → Piece
-piece_of f (Packet seconds fraction start end) = record { taken = true; answer = 0; time = time_of f seconds fraction % 2 ^ 64; start = start; end = end }
-piece_of f Cut = no_piece (answer_of Cut)
-piece_of f Fraction = no_piece (answer_of Fraction)
-piece_of f End = no_piece (answer_of End)
+abbrev pub piece_of : Format → Next → Result Piece ℕ
+piece_of f (Packet seconds fraction start end) = Ok (record { time = time_of f seconds fraction % 2 ^ 64; start = start; end = end })
+piece_of f Cut = Err (answer_of Cut)
+piece_of f Fraction = Err (answer_of Fraction)
+piece_of f End = Err (answer_of End)
 
 -- the seconds of a record are a number of four bytes
 abbrev pub Short : Next → Type 0

@@ -19,7 +19,7 @@ use endpoints::Table;
 use packet::change::{added_by, is_change, row_by};
 use quick::quick_in;
 use record::Decoder;
-use shelving::{Shelf, put_request, shelve, sized};
+use shelving::{Shelf, put_request, shelve};
 use step::{eight, goes_on};
 use trace::clock::Clock;
 
@@ -138,7 +138,6 @@ pub fn run_packets(
         // Row by row, as make_change (packet) does it: handed to that, all devices would be copied in and out, and all addresses taken anew (docs/SPEED.md).
         if is_change(c) {
             let t = c.reading;
-            sized(shelf);
             let place = c.place;
             let row = row_by(c, devices[place]);
             devices[place] = row;

@@ -74,23 +74,9 @@ fn trace_part(ready: bool, clock: Clock, found: Next) -> Part
                 next: next.at,
             }
         }
-        Next::Event {
-            ticks: _,
-            kind: _,
-            code: _,
-            next: _,
-        } => no_part(),
-        Next::Detail {
-            address: _,
-            number: _,
-            direction: _,
-            kind: _,
-            max: _,
-            next: _,
-        } => no_part(),
-        Next::Unknown => no_part(),
-        Next::Cut => no_part(),
-        Next::End => no_part(),
+        Next::Event { .. } | Next::Detail { .. } | Next::Unknown | Next::Cut | Next::End => {
+            no_part()
+        }
     }
 }
 
@@ -99,16 +85,16 @@ fn pcap_part(ready: bool, f: Format, found: pcap::Next) -> Part
     ensures value { result ≡ pcap_part ready f found }
     ensures short { Short found }
 {
-    let p = piece_of(f, found);
-    let start = p.start;
-    let end = p.end;
-    Part {
-        taken: ready & p.taken & is_short(start, end),
-        ticks: 0,
-        time: p.time,
-        start,
-        end,
-        next: end,
+    match piece_of(f, found) {
+        Ok(p) => Part {
+            taken: ready & is_short(p.start, p.end),
+            ticks: 0,
+            time: p.time,
+            start: p.start,
+            end: p.end,
+            next: p.end,
+        },
+        Err(_) => no_part(),
     }
 }
 

@@ -7,7 +7,7 @@ ghost use Rattle.stream.specs.Addresses.{sight_of};
 
 use crate::address::find_address;
 use decide::near::{Near, near_of, old_entry, place_in};
-use details::{Device, Found, endpoint_details};
+use details::{Device, endpoint_details};
 use endpoints::Table;
 use record::Decoder;
 use usb::fields::token_of;
@@ -15,7 +15,7 @@ use usb::fields::token_of;
 // The device that stands for the packet's address, its place, and the number in the packet's token; the device and the address of the old transaction's endpoint.
 #[derive(Clone, Copy)]
 pub struct Sight {
-    pub found: Found,
+    pub found: Option<usize>,
     pub place: usize,
     pub number: u8,
     pub owner: usize,

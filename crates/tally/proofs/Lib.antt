@@ -1,4 +1,3 @@
-pub mod Small
 pub mod Added
 pub mod Suited
 pub mod Steps

@@ -25,8 +25,7 @@ use Rattle.details.specs.Details.{details_of}
 use Rattle.details.specs.Kind.{Unknown}
 use Rattle.details.specs.declared.Detail.{Detail}
 use Rattle.endpoints.specs.declared.Endpoint.{Endpoint}
-use Rattle.details.specs.declared.Found.{Found}
-use Rattle.details.specs.declared.Found.TheVariants.{At, Nothing}
+use Rattle.std.specs.Prelude.{Option, Some, None as Absent}
 use Rattle.endpoints.specs.declared.Phase.{Phase}
 use Rattle.endpoints.specs.declared.Phase.TheVariants.{None}
 use Rattle.group.proofs.Laws.{group-keeps}
@@ -110,17 +109,17 @@ module _ (x0 : ℕ) (e0 : Endpoint) (w : World) where
   standing_good : (i : ℕ) → i < w.count → GoodAt (standing x0 e0 i w)
   standing_good i h = inl (record { old = refl; there = h; entry = refl })
 
-  new_good : (f : Found) (owner address : ℕ) → GoodAt (new_on f owner address w)
-  new_good (At d) owner address = inr (record { new = refl; there = refl; entry = refl })
-  new_good Nothing owner address = inr (record { new = refl; there = refl; entry = refl })
+  new_good : (f : Option ℕ) (owner address : ℕ) → GoodAt (new_on f owner address w)
+  new_good (Some d) owner address = inr (record { new = refl; there = refl; entry = refl })
+  new_good Absent owner address = inr (record { new = refl; there = refl; entry = refl })
 
   place_good : (pid : ℕ) (packet : List ℕ) → 2 < w.count → GoodAt (place_of x0 e0 pid packet w)
   unfolding place_of
   place_good pid packet h = by (found pid packet w) (found_within pid packet w (omega arith))
     where
-      by : (f : Found) → Within w.count f → GoodAt (place_at f x0 e0 pid packet w)
-      by (At i) l = standing_good i l
-      by Nothing l = new_good (device_for (token_of packet).address w) (token_of packet).address (address_for pid (token_of packet).number)
+      by : (f : Option ℕ) → Within w.count f → GoodAt (place_at f x0 e0 pid packet w)
+      by (Some i) l = standing_good i l
+      by Absent l = new_good (device_for (token_of packet).address w) (token_of packet).address (address_for pid (token_of packet).number)
 
   phase_at : (p : Place) → StandsAt p → p.entry.phase ≡ (entry_by x0 e0 p.x w).phase
   phase_at p g = ap (λ (e : Endpoint). e.phase) g.entry

@@ -1,13 +1,12 @@
 // The rows of one step added to a tally.
 ghost use Rattle.std.specs.Prelude.{◌≡◌, ◌≤◌, ◌^◌};
-ghost use Rattle.tally.specs.Tally.{Within, none, add_waiting, add_device, add_endpoint, add_packet, add_event, add_transaction, add_link, add_entry, add_item, tally_update, tally_effect};
-ghost use Rattle.update.specs.Update.{when};
+ghost use Rattle.tally.specs.Tally.{Within, none, add_waiting, add_device, add_endpoint, add_packet, add_event, add_transaction, add_link, add_request, add_entry, add_item, tally_update, tally_effect};
 
 use group::Effect;
 use update::Update;
 
 // The rows so far, in the order of the logs.
-#[derive(Clone, Copy)]
+#[derive(Clone, Copy, Default)]
 pub struct Tally {
     // Packet bytes.
     pub bytes: usize,
@@ -31,144 +30,97 @@ pub fn tally_none(waiting: usize) -> Tally
     ensures { result ≡ none waiting }
 {
     Tally {
-        bytes: 0,
-        devices: 0,
-        endpoints: 0,
-        packets: 0,
-        events: 0,
-        transactions: 0,
-        groups: 0,
-        statebytes: 0,
-        states: 0,
-        items: 0,
-        links: 0,
-        requests: 0,
         waiting,
+        ..Tally::default()
     }
 }
 
-// A group ends.
-fn tally_end(on: bool, t: Tally) -> Tally
-    requires { Within (2 ^ 60) t }
-    ensures { result ≡ when on add_waiting t }
-{
-    if on {
-        let mut t = t;
-        t.waiting += 1;
-        t
-    } else {
-        t
+impl Tally {
+    // A group ends: one endpoint more waits.
+    fn add_waiting(&mut self)
+        requires { Within (2 ^ 60) self.old }
+        ensures { self.new ≡ add_waiting self.old }
+    {
+        self.waiting += 1;
     }
-}
 
-// A packet row, with the packet's bytes; an event's has none.
-pub fn tally_packet(len: usize, t: Tally) -> Tally
-    requires len_bound { len ≤ 4096 }
-    requires within { Within (2 ^ 60) t }
-    ensures { result ≡ add_packet len t }
-{
-    let mut t = t;
-    t.bytes += len;
-    t.packets += 1;
-    t
-}
-
-// An event row.
-pub fn tally_event(t: Tally) -> Tally
-    requires { Within (2 ^ 60) t }
-    ensures { result ≡ add_event t }
-{
-    let mut t = t;
-    t.events += 1;
-    t
-}
-
-// A device row.
-pub fn tally_device(on: bool, t: Tally) -> Tally
-    requires { Within (2 ^ 60) t }
-    ensures { result ≡ when on add_device t }
-{
-    if on {
-        let mut t = t;
-        t.devices += 1;
-        t
-    } else {
-        t
+    // A packet row, with the packet's bytes; an event's has none.
+    pub fn add_packet(&mut self, len: usize)
+        requires len_bound { len ≤ 4096 }
+        requires within { Within (2 ^ 60) self.old }
+        ensures { self.new ≡ add_packet len self.old }
+    {
+        self.bytes += len;
+        self.packets += 1;
     }
-}
 
-// An endpoint row.
-pub fn tally_endpoint(on: bool, t: Tally) -> Tally
-    requires { Within (2 ^ 60) t }
-    ensures { result ≡ when on add_endpoint t }
-{
-    if on {
-        let mut t = t;
-        t.endpoints += 1;
-        t
-    } else {
-        t
+    // An event row.
+    pub fn add_event(&mut self)
+        requires { Within (2 ^ 60) self.old }
+        ensures { self.new ≡ add_event self.old }
+    {
+        self.events += 1;
     }
-}
 
-// A transaction row.
-pub fn tally_transaction(on: bool, t: Tally) -> Tally
-    requires { Within (2 ^ 60) t }
-    ensures { result ≡ when on add_transaction t }
-{
-    if on {
-        let mut t = t;
-        t.transactions += 1;
-        t
-    } else {
-        t
+    // A device row.
+    pub fn add_device(&mut self)
+        requires { Within (2 ^ 60) self.old }
+        ensures { self.new ≡ add_device self.old }
+    {
+        self.devices += 1;
     }
-}
 
-// A link row.
-pub fn tally_link(on: bool, t: Tally) -> Tally
-    requires { Within (2 ^ 60) t }
-    ensures { result ≡ when on add_link t }
-{
-    if on {
-        let mut t = t;
-        t.links += 1;
-        t
-    } else {
-        t
+    // An endpoint row.
+    pub fn add_endpoint(&mut self)
+        requires { Within (2 ^ 60) self.old }
+        ensures { self.new ≡ add_endpoint self.old }
+    {
+        self.endpoints += 1;
     }
-}
 
-// A group row, with its state row of a byte for each endpoint.
-pub fn tally_entry(on: bool, endpoints: usize, t: Tally) -> Tally
-    requires endpoints_bound { endpoints ≤ 128 }
-    requires within { Within (2 ^ 60) t }
-    ensures { result ≡ when on (add_entry endpoints) t }
-{
-    if on {
-        let mut t = t;
-        t.groups += 1;
-        t.states += 1;
-        t.statebytes += endpoints;
-        t
-    } else {
-        t
+    // A transaction row.
+    pub fn add_transaction(&mut self)
+        requires { Within (2 ^ 60) self.old }
+        ensures { self.new ≡ add_transaction self.old }
+    {
+        self.transactions += 1;
     }
-}
 
-// An item, which closes all that wait: an E row each.
-pub fn tally_item(on: bool, t: Tally) -> Tally
-    requires { Within (2 ^ 60) t }
-    ensures { result ≡ when on add_item t }
-{
-    if on {
-        let mut t = t;
-        t.items += 1;
-        t.links += t.waiting;
-        t.waiting = 0;
-        t
-    } else {
-        t
+    // A link row.
+    pub fn add_link(&mut self)
+        requires { Within (2 ^ 60) self.old }
+        ensures { self.new ≡ add_link self.old }
+    {
+        self.links += 1;
+    }
+
+    // A request row.
+    fn add_request(&mut self)
+        requires { Within (2 ^ 60) self.old }
+        ensures { self.new ≡ add_request self.old }
+    {
+        self.requests += 1;
+    }
+
+    // A group row, with its state row of a byte for each endpoint.
+    pub fn add_entry(&mut self, endpoints: usize)
+        requires endpoints_bound { endpoints ≤ 128 }
+        requires within { Within (2 ^ 60) self.old }
+        ensures { self.new ≡ add_entry endpoints self.old }
+    {
+        self.groups += 1;
+        self.statebytes += endpoints;
+        self.states += 1;
+    }
+
+    // An item, which closes all that wait: an E row each.
+    pub fn add_item(&mut self)
+        requires { Within (2 ^ 60) self.old }
+        ensures { self.new ≡ add_item self.old }
+    {
+        self.items += 1;
+        self.links += self.waiting;
+        self.waiting = 0;
     }
 }
 
@@ -178,16 +130,30 @@ pub fn tally_update(u: Update, endpoints: usize, t: Tally) -> Tally
     requires within { Within (2 ^ 48) t }
     ensures { result ≡ tally_update u endpoints t }
 {
-    let t = tally_end(u.over, t);
-    let t = tally_end(u.cut, t);
-    let t = tally_entry(u.cut, endpoints, t);
-    let t = tally_link(u.link, t);
-    let t = tally_link(u.start, t);
-    let t = tally_entry(u.start, endpoints, t);
-    let t = tally_item(u.start, t);
-    let t = tally_end(u.end, t);
-    let t = tally_entry(u.end, endpoints, t);
-    tally_item(u.item, t)
+    let mut t = t;
+    if u.over {
+        t.add_waiting();
+    }
+    if u.cut {
+        t.add_waiting();
+        t.add_entry(endpoints);
+    }
+    if u.link {
+        t.add_link();
+    }
+    if u.start {
+        t.add_link();
+        t.add_entry(endpoints);
+        t.add_item();
+    }
+    if u.end {
+        t.add_waiting();
+        t.add_entry(endpoints);
+    }
+    if u.item {
+        t.add_item();
+    }
+    t
 }
 
 // The rows of what group_status has as its effect.
@@ -197,19 +163,10 @@ pub fn tally_effect(effect: Effect, t: Tally) -> Tally
 {
     let mut t = t;
     match effect {
-        Effect::NoEffect => t,
-        Effect::NewDevice(_) => {
-            t.devices += 1;
-            t
-        }
-        Effect::Request(_) => {
-            t.requests += 1;
-            t
-        }
-        Effect::PendingData(_) => t,
-        Effect::IndexData(_, _, _) => {
-            t.links += 1;
-            t
-        }
+        Effect::NoEffect | Effect::PendingData(_) => {}
+        Effect::NewDevice(_) => t.add_device(),
+        Effect::Request(_) => t.add_request(),
+        Effect::IndexData(..) => t.add_link(),
     }
+    t
 }

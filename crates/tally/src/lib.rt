@@ -7,17 +7,13 @@ ghost use Rattle.std.specs.Prelude.{◌≡◌, false, not, ◌+◌, ◌-◌, ◌
 ghost use Rattle.rows.specs.One.{one};
 ghost use Rattle.group.specs.Step.{is_active};
 ghost use Rattle.tally.specs.Tally.{Within, tally_act};
-ghost use Rattle.update.specs.Update.{when};
 ghost use Rattle.event.specs.Event.{act_of};
 ghost use Rattle.record.specs.Room.{most_number, numbered};
 ghost use Rattle.record.specs.RoomLaws.{Numbered};
 ghost use Rattle.tally.specs.Tallies.{Under, endpoints_then, tally_begin, tally_end, tally_plan, tally_ending, waiting_then, tally_rows, tally_keepalive, tally_event, add_counts, room_for, Sums};
 ghost use Rattle.tally.specs.Passes.{plan_passes};
 
-use crate::add::{
-    Tally, tally_device, tally_effect, tally_endpoint, tally_entry, tally_event, tally_item,
-    tally_link, tally_none, tally_packet, tally_transaction, tally_update,
-};
+use crate::add::{Tally, tally_effect, tally_none, tally_update};
 use endpoints::Phase;
 use event::{Act, adds_group, adds_row};
 use group::step::is_active;
@@ -26,33 +22,23 @@ use record::Counts;
 use record::room::{MOST_NUMBER, fits};
 use update::effect::total_passes;
 
-// One more where `on` says so.
-fn more_if(on: bool, n: usize) -> usize
-    requires { n ≤ 16384 }
-    ensures { result ≡ n + one on }
-{
-    if on { n + 1 } else { n }
-}
-
 // The rows of a transaction that begins, is resumed, or goes on.
 pub fn tally_begin(s: Begin, endpoints: usize, t: Tally) -> Tally
     requires endpoints_bound { endpoints_then s endpoints ≤ 128 }
     requires within { Within (2 ^ 40) t }
     ensures { result ≡ tally_begin s endpoints t }
 {
-    let n = more_if(s.endpoint, endpoints);
-    let t = tally_transaction(s.row, t);
-    let t = tally_device(s.device, t);
-    let t = tally_endpoint(s.endpoint, t);
-    tally_update(s.update, n, t)
-}
-
-fn tally_begin_if(on: bool, s: Begin, endpoints: usize, t: Tally) -> Tally
-    requires endpoints_bound { endpoints_then s endpoints ≤ 128 }
-    requires within { Within (2 ^ 40) t }
-    ensures { result ≡ when on (tally_begin s endpoints) t }
-{
-    if on { tally_begin(s, endpoints, t) } else { t }
+    let mut t = t;
+    if s.row {
+        t.add_transaction();
+    }
+    if s.device {
+        t.add_device();
+    }
+    if s.endpoint {
+        t.add_endpoint();
+    }
+    tally_update(s.update, endpoints + usize::from(s.endpoint), t)
 }
 
 // The rows of a transaction that ends.
@@ -61,17 +47,8 @@ pub fn tally_end(s: End, endpoints: usize, t: Tally) -> Tally
     requires within { Within (2 ^ 40) t }
     ensures { result ≡ tally_end s endpoints t }
 {
-    let effect = s.effect;
     let t = tally_update(s.update, endpoints, t);
-    tally_effect(effect, t)
-}
-
-fn tally_end_if(on: bool, s: End, endpoints: usize, t: Tally) -> Tally
-    requires endpoints_bound { endpoints ≤ 128 }
-    requires within { Within (2 ^ 40) t }
-    ensures { result ≡ when on (tally_end s endpoints) t }
-{
-    if on { tally_end(s, endpoints, t) } else { t }
+    tally_effect(s.effect, t)
 }
 
 // The rows of a packet of so many bytes, where so many endpoints stand and wait; a resume adds no endpoint.
@@ -82,14 +59,20 @@ pub fn tally_plan(p: Plan, len: usize, endpoints: usize, waiting: usize) -> Tall
     requires endpoints_bound { endpoints_then p.begin endpoints ≤ 128 }
     ensures { result ≡ tally_plan p len endpoints waiting }
 {
-    let t = tally_none(waiting);
-    let t = tally_packet(len, t);
-    let t = tally_begin_if(p.resumes, p.resume, endpoints, t);
-    let t = tally_end_if(p.ends, p.end, endpoints, t);
-    let t = tally_begin(p.begin, endpoints, t);
-    let begin = p.begin;
-    let n = more_if(begin.endpoint, endpoints);
-    tally_end_if(p.closes, p.close, n, t)
+    let then = endpoints + usize::from(p.begin.endpoint);
+    let mut t = tally_none(waiting);
+    t.add_packet(len);
+    if p.resumes {
+        t = tally_begin(p.resume, endpoints, t);
+    }
+    if p.ends {
+        t = tally_end(p.end, endpoints, t);
+    }
+    t = tally_begin(p.begin, endpoints, t);
+    if p.closes {
+        t = tally_end(p.close, then, t);
+    }
+    t
 }
 
 // The rows of finish, where so many endpoints stand and wait.
@@ -99,7 +82,10 @@ pub fn tally_ending(e: Ending, endpoints: usize, waiting: usize) -> Tally
     ensures { result ≡ tally_ending e endpoints waiting }
 {
     let t = tally_none(waiting);
-    tally_end_if(e.ends, e.end, endpoints, t)
+    if !e.ends {
+        return t;
+    }
+    tally_end(e.end, endpoints, t)
 }
 
 // The rows of an event, behind those of its packet.
@@ -108,13 +94,17 @@ pub fn tally_act(act: Act, keepalive: bool, endpoints: usize, t: Tally) -> Tally
     requires within { Within (2 ^ 48) t }
     ensures { result ≡ tally_act (act_of act) keepalive endpoints t }
 {
-    let row = adds_row(act);
-    let group = adds_group(act, keepalive);
-    let t = tally_transaction(row, t);
-    let t = tally_link(row, t);
-    let t = tally_link(group, t);
-    let t = tally_entry(group, endpoints, t);
-    tally_item(group, t)
+    let mut t = t;
+    if adds_row(act) {
+        t.add_transaction();
+        t.add_link();
+    }
+    if adds_group(act, keepalive) {
+        t.add_link();
+        t.add_entry(endpoints);
+        t.add_item();
+    }
+    t
 }
 
 // The rows of the event itself.
@@ -123,8 +113,9 @@ fn tally_rows(act: Act, keepalive: bool, endpoints: usize, t: Tally) -> Tally
     requires within { Within (2 ^ 40) t }
     ensures { result ≡ tally_rows (act_of act) keepalive endpoints t }
 {
-    let t = tally_packet(0, t);
-    let t = tally_event(t);
+    let mut t = t;
+    t.add_packet(0);
+    t.add_event();
     tally_act(act, keepalive, endpoints, t)
 }
 
@@ -137,14 +128,6 @@ pub fn tally_keepalive(act: Act, keepalive: bool, endpoints: usize, waiting: usi
     let t = tally_none(waiting);
     tally_rows(act, keepalive, endpoints, t)
 }
-
-// One less where `on` says so; 0 stays.
-fn less_if(on: bool, n: usize) -> usize
-    ensures { result ≡ n - one on }
-{
-    if on { if 0 < n { n - 1 } else { n } } else { n }
-}
-
 // How many endpoints wait once every active group has ended, by those that wait after the transaction's end and the groups active before it.
 fn waiting_then(e: Ending, waiting: usize, active: usize) -> usize
     requires waiting_bound { waiting ≤ 8192 }
@@ -152,14 +135,10 @@ fn waiting_then(e: Ending, waiting: usize, active: usize) -> usize
     ensures { result ≡ waiting_then e waiting active }
 {
     let all = waiting + active;
-    let end = e.end;
-    let update = end.update;
-    let entry = end.entry;
-    let phase = entry.phase;
-    let was = is_active(phase);
     if e.ends {
-        let more = more_if(!update.end, all);
-        less_if(was, more)
+        let was = is_active(e.end.entry.phase);
+        let more = all + usize::from(!e.end.update.end);
+        more.saturating_sub(usize::from(was))
     } else {
         all
     }
@@ -173,8 +152,7 @@ pub fn tally_reset(e: Ending, act: Act, endpoints: usize, waiting: usize, active
     ensures { result ≡ tally_event e (act_of act) endpoints waiting active }
 {
     let mut t = tally_ending(e, endpoints, waiting);
-    let then = waiting_then(e, t.waiting, active);
-    t.waiting = then;
+    t.waiting = waiting_then(e, t.waiting, active);
     tally_rows(act, false, endpoints, t)
 }
 
@@ -238,8 +216,5 @@ pub fn has_room_for(held: Counts, n: Counts, t: Tally, room: Counts) -> bool
 pub fn plan_passes(p: Plan) -> bool
     ensures { result ≡ plan_passes p }
 {
-    let close = p.close;
-    let effect = close.effect;
-    let entry = close.entry;
-    p.closes & total_passes(effect, entry.total)
+    p.closes & total_passes(p.close.effect, p.close.entry.total)
 }

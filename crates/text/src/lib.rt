@@ -23,10 +23,8 @@ fn fields(out: &mut [u8], at: usize, ns: &[u64]) -> usize
     ensures { Appended out.old at (lines.fields ns.now) out.new result }
 {
     let mut next = at;
-    let mut i: usize = 0;
-    while i < ns.len() {
-        next = field(out, next, ns[i]);
-        i += 1;
+    for n in ns {
+        next = field(out, next, *n);
     }
     next
 }
@@ -71,12 +69,8 @@ pub fn endpoint_line(
         16 => line(out, at, b"endpoint", &[row, device], b" event\n"),
         17 => line(out, at, b"endpoint", &[row, device], b" invalid\n"),
         18 => line(out, at, b"endpoint", &[row, device], b" framing\n"),
-        _ => {
-            if direction == 1 {
-                return line(out, at, b"endpoint", &[row, device, number], b" in\n");
-            }
-            line(out, at, b"endpoint", &[row, device, number], b" out\n")
-        },
+        _ if direction == 1 => line(out, at, b"endpoint", &[row, device, number], b" in\n"),
+        _ => line(out, at, b"endpoint", &[row, device, number], b" out\n"),
     }
 }
 
@@ -107,9 +101,10 @@ fn group_tail(out: &mut [u8], at: usize, start: u64, packet: u64, time: u64) -> 
     ensures { Appended out.old at (lines.group_tail start packet time) out.new result }
 {
     if start == 1 {
-        return line(out, at, b" start", &[packet, time], b"\n");
+        line(out, at, b" start", &[packet, time], b"\n")
+    } else {
+        line(out, at, b" end", &[packet, time], b"\n")
     }
-    line(out, at, b" end", &[packet, time], b"\n")
 }
 
 pub fn group_line(

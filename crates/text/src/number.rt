@@ -16,7 +16,7 @@ pub fn word(out: &mut [u8], at: usize, w: &[u8]) -> usize
     requires { Room out.old at w.now }
     ensures { Appended out.old at w.now out.new result }
 {
-    rows::put_bytes(out, at, w);
+    rows::put(out, at, w);
     at + w.len()
 }
 
@@ -32,19 +32,15 @@ pub fn decimal(out: &mut [u8], at: usize, n: u64) -> usize
     byte(out, next, b'0' + (n % 10) as u8)
 }
 
-fn hex_digit(d: u64) -> u8
+fn hex_digit(d: u8) -> u8
     requires { d < 16 }
     ensures { result ≡ hex_digit d }
 {
-    if d < 10 {
-        b'0' + d as u8
-    } else {
-        b'a' - 10 + d as u8
-    }
+    b"0123456789abcdef"[d as usize]
 }
 
-fn hex_byte(out: &mut [u8], at: usize, b: u64) -> usize
-    requires { (b < 256) × Room out.old at (hex_byte b) }
+fn hex_byte(out: &mut [u8], at: usize, b: u8) -> usize
+    requires { Room out.old at (hex_byte b) }
     ensures { Appended out.old at (hex_byte b) out.new result }
 {
     let next = byte(out, at, hex_digit(b / 16));
@@ -57,12 +53,8 @@ pub fn hex_setup(out: &mut [u8], at: usize, w: u64) -> usize
     ensures { Appended out.old at (hex_setup w) out.new result }
 {
     let mut next = at;
-    let mut left = w;
-    let mut count: u64 = 8;
-    while 0 < count {
-        next = hex_byte(out, next, left % 256);
-        left /= 256;
-        count -= 1;
+    for b in w.to_le_bytes() {
+        next = hex_byte(out, next, b);
     }
     next
 }

@@ -1,9 +1,10 @@
 -- Document 01's worked example, read record by record, its refusals, and the times of counters: computed.
 -- Assumes nothing.
 use Rattle.std.proofs.Common.{◌≡◌, ℕ, ◌+◌, ◌-◌, ◌^◌, true, List, [], ◌∷◌, map, refl}
+use Rattle.std.specs.Prelude.{Ok, Err}
 use Rattle.trace.specs.Trace.{header_of, header_answer, header_place, little_endian, packet_at, event_at, detail_at, next_at, answer_of}
 use Rattle.trace.specs.Clock.{stopped, tick_of}
-use Rattle.trace.specs.declared.Header.TheVariants.{Fine, Mark, Version}
+use Rattle.trace.specs.declared.HeaderError.TheVariants.{Mark, Version}
 use Rattle.trace.specs.declared.Next.TheVariants.{Packet, Event, Detail, End}
 use Rattle.trace.specs.declared.clock.Clock.{Clock}
 
@@ -25,13 +26,13 @@ headers : map header_of
     ∷ (0x55 ∷ 0x54 ∷ 0x4C ∷ 0x02 ∷ 0x00 ∷ [])
     ∷ example
     ∷ [])
-    ≡ Mark ∷ Mark ∷ Version ∷ Version ∷ Version ∷ Fine ∷ []
+    ≡ Err Mark ∷ Err Mark ∷ Err Version ∷ Err Version ∷ Err Version ∷ Ok tt ∷ []
 headers = refl
 
-header-answers : map header_answer (Mark ∷ Version ∷ []) ≡ 10 ∷ 11 ∷ []
+header-answers : map header_answer (Err Mark ∷ Err Version ∷ []) ≡ 10 ∷ 11 ∷ []
 header-answers = refl
 
-header_places : map header_place (Mark ∷ Version ∷ []) ≡ 0 ∷ 3 ∷ []
+header_places : map header_place (Err Mark ∷ Err Version ∷ []) ≡ 0 ∷ 3 ∷ []
 header_places = refl
 
 -- an unknown tag as the last byte; each tag alone; a packet without its second byte; a detail without its last

@@ -1,5 +1,6 @@
 -- The laws of the pass that counts details: what is left to count at a place, and how one record takes from it.
-use Rattle.std.proofs.Common.{◌≡◌, ℕ, zero, suc, ◌+◌, ◌-◌, ◌<◌, ◌≤◌, Bool, true, false, eqb, ltb, List, length, get_or, sym, refl, ap, ◌∙◌, true≢false, arith, le-ltb}
+use Rattle.std.proofs.Common.{◌≡◌, ℕ, zero, suc, ◌+◌, ◌<◌, ◌≤◌, Bool, eqb, List, length, get_or, Option, MatchOption, sym, refl, ap, subst, ◌∙◌, arith, le-ltb}
+use Rattle.std.specs.Prelude.{⊤, Some, None}
 use Rattle.usb.specs.Packet.{pick}
 use Rattle.trace.specs.Details.{count_by, count_from, details_of}
 use Rattle.trace.proofs.Laws.{Grown, grown}
@@ -35,52 +36,53 @@ module _ (t : List ℕ) where
   abbrev pub rest : ℕ → ℕ
   rest at = count_from t (length t) at
 
-  -- a whole record ends behind its start and within the trace
-  inside_by : (at : ℕ) (n : Next) → Grown t at n → (passed_by n).whole ≡ true → (at < (passed_by n).next) × ((passed_by n).next ≤ length t)
-  inside_by at (Packet ticks start end next) g w = (g.whole.grows, g.whole.stays)
-  inside_by at (Event ticks kind code next) g w = (g.grows, g.stays)
-  inside_by at (Detail address number direction kind max next) g w = (g.grows, g.stays)
-  inside_by at Unknown g w = absurd (true≢false (sym w))
-  inside_by at Cut g w = absurd (true≢false (sym w))
-  inside_by at End g w = absurd (true≢false (sym w))
+  -- a whole record ends behind its start and within the trace, and is one detail at most
+  abbrev Onward : ℕ → Passed → Type 0
+  Onward at p = (at < p.next) × (p.next ≤ length t) × (p.details ≤ 1)
 
-  pub passed_inside : (at : ℕ) → (passed_by (next_at t at)).whole ≡ true → (at < (passed_by (next_at t at)).next) × ((passed_by (next_at t at)).next ≤ length t)
-  passed_inside at w = inside_by at (next_at t at) (grown t at) w
+  inside_by : (at : ℕ) (n : Next) → Grown t at n → MatchOption (passed_by n) ⊤ (Onward at)
+  inside_by at (Packet ticks start end next) g = (g.whole.grows, g.whole.stays, omega arith)
+  inside_by at (Event ticks kind code next) g = (g.grows, g.stays, omega arith)
+  inside_by at (Detail address number direction kind max next) g = (g.grows, g.stays, omega arith)
+  inside_by at Unknown g = tt
+  inside_by at Cut g = tt
+  inside_by at End g = tt
 
-  over_by : (n : Next) (more : ℕ → ℕ) → (passed_by n).whole ≡ false → count_by n more ≡ 0
-  over_by (Packet ticks start end next) more w = absurd (true≢false w)
-  over_by (Event ticks kind code next) more w = absurd (true≢false w)
-  over_by (Detail address number direction kind max next) more w = absurd (true≢false w)
-  over_by Unknown more w = refl
-  over_by Cut more w = refl
-  over_by End more w = refl
+  pub passed_inside : (at : ℕ) {p : Passed} → Some p ≡ passed_by (next_at t at) → Onward at p
+  passed_inside at e = subst (λ (o : Option Passed). MatchOption o ⊤ (Onward at)) (sym e) (inside_by at (next_at t at) (grown t at))
 
-  whole_by : (n : Next) (more : ℕ → ℕ) → (passed_by n).whole ≡ true → count_by n more ≡ (passed_by n).details + more (passed_by n).next
-  whole_by (Packet ticks start end next) more w = omega arith
-  whole_by (Event ticks kind code next) more w = omega arith
-  whole_by (Detail address number direction kind max next) more w = omega arith
-  whole_by Unknown more w = absurd (true≢false (sym w))
-  whole_by Cut more w = absurd (true≢false (sym w))
-  whole_by End more w = absurd (true≢false (sym w))
+  -- what counts a record: none where it is no whole one, else it and those behind it
+  abbrev Counted : (ℕ → ℕ) → ℕ → Option Passed → Type 0
+  Counted more n o = MatchOption o (n ≡ 0) (λ p. n ≡ p.details + more p.next)
+
+  whole_by : (n : Next) (more : ℕ → ℕ) → Counted more (count_by n more) (passed_by n)
+  whole_by (Packet ticks start end next) more = omega arith
+  whole_by (Event ticks kind code next) more = omega arith
+  whole_by (Detail address number direction kind max next) more = omega arith
+  whole_by Unknown more = refl
+  whole_by Cut more = refl
+  whole_by End more = refl
+
+  counted : (at : ℕ) {o : Option Passed} (more : ℕ → ℕ) → o ≡ passed_by (next_at t at) → Counted more (count_by (next_at t at) more) o
+  counted at more e = subst (Counted more (count_by (next_at t at) more)) (sym e) (whole_by (next_at t at) more)
 
   -- what is no whole record ends the count
-  pub rest_over : (at : ℕ) → (passed_by (next_at t at)).whole ≡ false → rest at ≡ 0
-  rest_over at w = by (length t)
+  pub rest_over : (at : ℕ) → None ≡ passed_by (next_at t at) → rest at ≡ 0
+  rest_over at e = by (length t)
     where
       by : (l : ℕ) → count_from t l at ≡ 0
       by zero = refl
-      by (suc m) = over_by (next_at t at) (count_from t m) w
+      by (suc m) = counted at (count_from t m) e
 
   -- a whole one is counted, and the count goes on behind it
-  pub rest-step : (at : ℕ) → (passed_by (next_at t at)).whole ≡ true → rest at ≡ (passed_by (next_at t at)).details + rest (passed_by (next_at t at)).next
-  rest-step at w = by (length t) refl
+  pub rest-step : (at : ℕ) {p : Passed} → Some p ≡ passed_by (next_at t at) → rest at ≡ p.details + rest p.next
+  rest-step at {p} e = by (length t) refl
     where
-      by : (l : ℕ) → length t ≡ l → count_from t l at ≡ (passed_by (next_at t at)).details + count_from t l (passed_by (next_at t at)).next
-      by zero e = let i = passed_inside at w in absurd (omega (arith, i.0, i.1))
-      by (suc m) e =
-          let i = passed_inside at w in
-          whole_by (next_at t at) (count_from t m) w
-          ∙ ap (λ (x : ℕ). (passed_by (next_at t at)).details + x) (enough m (suc m) (passed_by (next_at t at)).next (omega arith) (omega (arith, i.0)))
+      by : (l : ℕ) → length t ≡ l → count_from t l at ≡ p.details + count_from t l p.next
+      by zero z = let i = passed_inside at e in absurd (omega (arith, i.0, i.1))
+      by (suc m) z =
+          let i = passed_inside at e in
+          counted at (count_from t m) e ∙ ap (λ (x : ℕ). p.details + x) (enough m (suc m) p.next (omega arith) (omega (arith, i.0)))
 
   -- ---- the loop
 
@@ -93,32 +95,21 @@ module _ (t : List ℕ) where
   unfolding details_of
   counting-start = record { all = omega arith; few = omega arith }
 
-  module _ {at n : ℕ} {p : Passed} (k : Counting at n) (e : p ≡ passed_by (next_at t at)) where
-    pub counting-over : p.whole ≡ false → n ≡ details_of t
-    counting-over w =
-        let z = rest_over at (sym (ap (λ (q : Passed). q.whole) e) ∙ w) in
+  module _ {at n : ℕ} (k : Counting at n) where
+    pub counting-over : None ≡ passed_by (next_at t at) → n ≡ details_of t
+    counting-over e =
+        let z = rest_over at e in
         let a = k.all in
         omega arith
 
-    pub counting-place : p.whole ≡ true → (at < p.next) × (p.next ≤ length t)
-    counting-place w = rw e (passed_inside at (sym (ap (λ (q : Passed). q.whole) e) ∙ w))
+    module _ {p : Passed} (e : Some p ≡ passed_by (next_at t at)) where
+      pub counting_few : n + p.details ≤ p.next
+      counting_few =
+          let i = passed_inside at e in
+          omega (arith, i.0, i.2, k.few)
 
-    few_by : (m : Next) → (passed_by m).details ≤ 1
-    few_by (Packet ticks start end next) = omega arith
-    few_by (Event ticks kind code next) = omega arith
-    few_by (Detail address number direction kind max next) = omega arith
-    few_by Unknown = omega arith
-    few_by Cut = omega arith
-    few_by End = omega arith
-
-    pub counting_few : p.whole ≡ true → n + p.details ≤ p.next
-    counting_few w =
-        let i = counting-place w in
-        let d : p.details ≤ 1 = rw e (few_by (next_at t at)) in
-        omega (arith, i.0, k.few)
-
-    pub counting_more : p.whole ≡ true → Counting p.next (n + p.details)
-    counting_more w =
-        let z : rest at ≡ p.details + rest p.next = rw e (rest-step at (sym (ap (λ (q : Passed). q.whole) e) ∙ w)) in
-        let a = k.all in
-        record { all = omega arith; few = counting_few w }
+      pub counting_more : Counting p.next (n + p.details)
+      counting_more =
+          let z = rest-step at e in
+          let a = k.all in
+          record { all = omega arith; few = counting_few }

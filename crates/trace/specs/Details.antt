@@ -1,7 +1,7 @@
 -- To be believed: the detail records of a trace (02, change request 13).
 -- Assumes nothing.
 -- Hold it to: 02, "Retire typed-in details": "N the number of such records"
-use Rattle.std.specs.Prelude.{ℕ, zero, suc, ◌+◌, List, length}
+use Rattle.std.specs.Prelude.{ℕ, zero, suc, List, length}
 use Rattle.trace.specs.Trace.{next_at}
 use Rattle.trace.specs.declared.Next.{Next}
 use Rattle.trace.specs.declared.Next.TheVariants.{Packet, Event, Detail, Unknown, Cut, End}

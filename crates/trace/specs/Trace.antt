@@ -1,11 +1,11 @@
 -- To be believed: Document 01, "Trace and listing": the UTL trace, its header and its records.
 -- Assumes nothing.
 -- Hold it to: 01, "Trace and listing": "Trace: `UTL`, u16 version 1, then records .."
-use Rattle.std.specs.Prelude.{ℕ, ◌+◌, Bool, true, false, List, [], ◌∷◌, length, take, drop, ◌==◌, nat_le, nat_lt, slice_index}
+use Rattle.std.specs.Prelude.{ℕ, ◌+◌, Result, Ok, Err, Bool, true, false, List, [], ◌∷◌, length, take, drop, ◌==◌, nat_le, nat_lt, slice_index}
 use Rattle.usb.specs.Bits.{number}
 use Rattle.usb.specs.Packet.{pick, both}
-use Rattle.trace.specs.declared.Header.{Header}
-use Rattle.trace.specs.declared.Header.TheVariants.{Fine, Mark, Version}
+use Rattle.trace.specs.declared.HeaderError.{HeaderError}
+use Rattle.trace.specs.declared.HeaderError.TheVariants.{Mark, Version}
 use Rattle.trace.specs.declared.Next.{Next}
 use Rattle.trace.specs.declared.Next.TheVariants.{Packet, Event, Detail, Unknown, Cut, End}
 
@@ -16,22 +16,22 @@ starts (x ∷ xs) [] = false
 starts (x ∷ xs) (y ∷ t) = both (y == x) (starts xs t)
 
 -- `UTL`, then u16 version 1, little-endian
-abbrev pub header_of : List ℕ → Header
+abbrev pub header_of : List ℕ → Result (Unit {0}) HeaderError
 header_of t =
     pick (starts (0x55 ∷ 0x54 ∷ 0x4C ∷ []) t)
-    (pick (starts (0x01 ∷ 0x00 ∷ []) (drop 3 t)) Fine Version)
-    Mark
+    (pick (starts (0x01 ∷ 0x00 ∷ []) (drop 3 t)) (Ok tt) (Err Version))
+    (Err Mark)
 
 -- wrong or missing mark 10, at 0; version 11, at 3; records start at 5
-abbrev pub header_answer : Header → ℕ
-header_answer Fine = 0
-header_answer Mark = 10
-header_answer Version = 11
+abbrev pub header_answer : Result (Unit {0}) HeaderError → ℕ
+header_answer (Ok u) = 0
+header_answer (Err Mark) = 10
+header_answer (Err Version) = 11
 
-abbrev pub header_place : Header → ℕ
-header_place Fine = 5
-header_place Mark = 0
-header_place Version = 3
+abbrev pub header_place : Result (Unit {0}) HeaderError → ℕ
+header_place (Ok u) = 5
+header_place (Err Mark) = 0
+header_place (Err Version) = 3
 
 -- the n bytes from `at` on as one number, little-endian
 unfoldable pub little_endian : ℕ → ℕ → List ℕ → ℕ

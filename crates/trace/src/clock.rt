@@ -3,6 +3,7 @@ ghost use Rattle.std.specs.Prelude.{◌≡◌};
 ghost use Rattle.trace.specs.Clock.{stopped, tick_of};
 
 // Whether there was a tick, the last counter, and its time. A record without ticks leaves it as it is.
+// Stays: no `Option` of a tick, since C programs keep the three as words (`Ticks`), and get all of them back as they were where none is started.
 #[derive(Clone, Copy)]
 pub struct Clock {
     pub started: bool,
@@ -24,17 +25,14 @@ pub fn fresh() -> Clock
 pub fn tick(c: Clock, ticks: u32) -> Clock
     ensures { result ≡ tick_of c ticks }
 {
-    if !c.started {
-        return Clock {
-            started: true,
-            last: ticks,
-            time: ticks as u64,
-        };
-    }
-    let more = std::num::wrapping_sub_u32(ticks, c.last) as u64;
+    let time = if c.started {
+        c.time.wrapping_add(u64::from(ticks.wrapping_sub(c.last)))
+    } else {
+        u64::from(ticks)
+    };
     Clock {
         started: true,
         last: ticks,
-        time: std::num::wrapping_add_u64(c.time, more),
+        time,
     }
 }

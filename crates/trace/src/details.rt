@@ -6,65 +6,27 @@ ghost use Rattle.trace.specs.Pass.{passed_by};
 use crate::reader::record_at;
 use crate::{HEADER, Next};
 
-// A record that is passed: whether it is whole, where the next one starts, and 1 for a detail.
+// A whole record that is passed: where the next one starts, and 1 for a detail.
 #[derive(Clone, Copy)]
 struct Passed {
-    whole: bool,
     next: usize,
     details: usize,
 }
 
-fn pass(found: Next) -> Passed
+// None where no whole record stands.
+fn pass(found: Next) -> Option<Passed>
     ensures { result ≡ passed_by found }
 {
     match found {
-        Next::Packet {
-            ticks: _,
-            start: _,
-            end: _,
-            next,
-        } => Passed {
-            whole: true,
+        Next::Packet { next, .. } | Next::Event { next, .. } => Some(Passed {
             next: next.at,
             details: 0,
-        },
-        Next::Event {
-            ticks: _,
-            kind: _,
-            code: _,
-            next,
-        } => Passed {
-            whole: true,
-            next: next.at,
-            details: 0,
-        },
-        Next::Detail {
-            address: _,
-            number: _,
-            direction: _,
-            kind: _,
-            max: _,
-            next,
-        } => Passed {
-            whole: true,
+        }),
+        Next::Detail { next, .. } => Some(Passed {
             next: next.at,
             details: 1,
-        },
-        Next::Unknown => Passed {
-            whole: false,
-            next: 0,
-            details: 0,
-        },
-        Next::Cut => Passed {
-            whole: false,
-            next: 0,
-            details: 0,
-        },
-        Next::End => Passed {
-            whole: false,
-            next: 0,
-            details: 0,
-        },
+        }),
+        Next::Unknown | Next::Cut | Next::End => None,
     }
 }
 
@@ -73,12 +35,9 @@ pub fn count_details(trace: &[u8]) -> usize
 {
     let mut at: usize = HEADER;
     let mut n: usize = 0;
-    loop {
-        let p = pass(record_at(trace, at));
-        if !p.whole {
-            return n;
-        }
+    while let Some(p) = pass(record_at(trace, at)) {
         n += p.details;
         at = p.next;
     }
+    n
 }

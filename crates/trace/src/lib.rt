@@ -5,13 +5,12 @@ pub mod clock;
 pub mod details;
 pub mod reader;
 
-ghost use Rattle.std.specs.Prelude.{◌≡◌, ◌+◌, ◌<◌, ◌≤◌, length, drop};
-ghost use Rattle.trace.specs.Trace.{starts, little_endian, header_of, header_answer, header_place, packet_at, event_at, detail_at, next_at, answer_of};
+ghost use Rattle.std.specs.Prelude.{◌≡◌, ◌+◌, ◌<◌, ◌≤◌, length};
+ghost use Rattle.trace.specs.Trace.{little_endian, header_of, header_answer, header_place, packet_at, event_at, detail_at, next_at, answer_of};
 
-// What the header says: all is well, or which part of it is wrong or missing.
-#[derive(Clone, Copy)]
-pub enum Header {
-    Fine,
+// Which part of the header is wrong or missing.
+#[derive(Clone, Copy, PartialEq, Eq)]
+pub enum HeaderError {
     Mark,
     Version,
 }
@@ -55,54 +54,36 @@ const HEADER: usize = 5;
 // A tag and six bytes: a whole record, but for a packet's bytes.
 const HEAD: usize = 7;
 
-// Whether the bytes from `at` on begin with `what`.
-fn starts_with(trace: &[u8], at: usize, what: &[u8]) -> bool
-    ensures { result ≡ starts what.now (drop at trace.now) }
-{
-    let mut p = at;
-    let mut i: usize = 0;
-    while i < what.len() {
-        if trace.len() <= p {
-            return false;
-        }
-        if trace[p] != what[i] {
-            return false;
-        }
-        p += 1;
-        i += 1;
-    }
-    true
-}
-
-pub fn check_header(trace: &[u8]) -> Header
+pub fn check_header(trace: &[u8]) -> Result<(), HeaderError>
     ensures { result ≡ header_of trace.now }
 {
-    if !starts_with(trace, 0, b"UTL") {
-        return Header::Mark;
+    if !trace.starts_with(b"UTL") {
+        return Err(HeaderError::Mark);
     }
-    if !starts_with(trace, 3, &[1, 0]) {
-        return Header::Version;
+    if !trace[3..].starts_with(&[1, 0]) {
+        return Err(HeaderError::Version);
     }
-    Header::Fine
+    Ok(())
 }
 
-pub fn header_answer(h: Header) -> u8
+pub fn header_answer(h: Result<(), HeaderError>) -> u8
     ensures { result ≡ header_answer h }
 {
     match h {
-        Header::Fine => 0,
-        Header::Mark => 10,
-        Header::Version => 11,
+        Ok(()) => 0,
+        Err(HeaderError::Mark) => 10,
+        Err(HeaderError::Version) => 11,
     }
 }
 
-pub fn header_place(h: Header) -> usize
+// The first record's place, or that of what is wrong.
+pub fn header_place(h: Result<(), HeaderError>) -> usize
     ensures { result ≡ header_place h }
 {
     match h {
-        Header::Fine => HEADER,
-        Header::Mark => 0,
-        Header::Version => 3,
+        Ok(()) => HEADER,
+        Err(HeaderError::Mark) => 0,
+        Err(HeaderError::Version) => 3,
     }
 }
 
@@ -117,14 +98,14 @@ fn u16_at(trace: &[u8], at: usize) -> u16
     requires { at + 2 ≤ length trace.now }
     ensures { result ≡ little_endian 2 at trace.now }
 {
-    usb::fields::pair(trace[at], trace[at + 1])
+    u16::from_le_bytes([trace[at], trace[at + 1]])
 }
 
 fn u32_at(trace: &[u8], at: usize) -> u32
     requires { at + 4 ≤ length trace.now }
     ensures { result ≡ little_endian 4 at trace.now }
 {
-    u16_at(trace, at) as u32 + u16_at(trace, at + 2) as u32 * 65536
+    u32::from_le_bytes([trace[at], trace[at + 1], trace[at + 2], trace[at + 3]])
 }
 
 fn packet_at(trace: &[u8], at: usize) -> Next
@@ -192,15 +173,12 @@ pub fn next_record(trace: &[u8], c: Cursor) -> Next
     ensures { result ≡ next_at trace.now c.at }
 {
     let at = c.at;
-    if trace.len() <= at {
-        return Next::End;
-    }
-    let tag = trace[at];
-    match tag {
-        0 => packet_at(trace, at),
-        1 => event_at(trace, at),
-        2 => detail_at(trace, at),
-        _ => Next::Unknown,
+    match trace.get(at) {
+        Some(0) => packet_at(trace, at),
+        Some(1) => event_at(trace, at),
+        Some(2) => detail_at(trace, at),
+        Some(_) => Next::Unknown,
+        None => Next::End,
     }
 }
 
@@ -210,26 +188,6 @@ pub fn answer(n: Next) -> u8
     match n {
         Next::Unknown => 12,
         Next::Cut => 13,
-        Next::Packet {
-            ticks: _,
-            start: _,
-            end: _,
-            next: _,
-        } => 0,
-        Next::Event {
-            ticks: _,
-            kind: _,
-            code: _,
-            next: _,
-        } => 0,
-        Next::Detail {
-            address: _,
-            number: _,
-            direction: _,
-            kind: _,
-            max: _,
-            next: _,
-        } => 0,
-        Next::End => 0,
+        Next::Packet { .. } | Next::Event { .. } | Next::Detail { .. } | Next::End => 0,
     }
 }

@@ -1,5 +1,6 @@
 -- Laws (proved): what the mode of change request 6 changes, and that nothing changes without it.
 use Rattle.std.specs.Prelude.{Bool, true, false, ◌&&◌, ◌||◌, ◌≡◌, refl, ℕ, eqb}
+use Rattle.std.proofs.Common.{sym, ap, ◌∙◌}
 use Rattle.std.proofs.lemmas.Bool.{false≢true}
 use Rattle.usb.specs.Pid.{IN, OUT, DATA0, DATA1, DATA2, MDATA}
 use Rattle.usb.specs.Types.{Isochronous}
@@ -47,3 +48,8 @@ pub status-in : (high : Bool) (first last next kind len : ℕ) → simple_status
 status-in true first last next kind len =
     by_cells (eqb last IN) (eqb last OUT) (eqb next DATA2) (eqb next MDATA) (eqb kind Isochronous) Done (simple_status first last next kind len)
 status-in false first last next kind len = refl
+
+-- where it adds nothing
+pub not-high : (high : Bool) (first last next kind len : ℕ) → (high && is_high last next kind) ≡ false → simple_status first last next kind len ≡ simple_status_in high first last next kind len
+not-high high first last next kind len h =
+    sym (status-in high first last next kind len ∙ ap (λ (b : Bool). pick b Done (simple_status first last next kind len)) h)

@@ -1,10 +1,9 @@
 -- Laws (proved): what transaction_status says of a packet's reason.
-use Rattle.std.specs.Prelude.{Bool, List, ◌≡◌, refl, ℕ, length}
-use Rattle.std.proofs.Common.{sym, ap, subst, ◌∙◌}
+use Rattle.std.specs.Prelude.{Bool, List, ◌≡◌, refl, ℕ, length, Result, Ok, Err}
+use Rattle.std.proofs.Common.{sym, subst, ◌∙◌}
 use Rattle.usb.specs.Packet.{reason_of, checked_of}
 use Rattle.usb.proofs.Laws.{why_of, why-is}
-use Rattle.usb.specs.declared.Checked.{Checked}
-use Rattle.usb.specs.declared.Checked.TheVariants.{Valid, Malformed}
+use Rattle.usb.specs.declared.reason.Reason.{Reason}
 use Rattle.transaction.specs.declared.Status.{Status}
 use Rattle.transaction.specs.declared.Status.TheVariants.{New, Continue, Retry, Done, Fail, Ambiguous, Invalid}
 use Rattle.transaction.specs.declared.Transaction.{Transaction}
@@ -16,9 +15,9 @@ pub status-reason : (high : Bool) (t : Transaction) (packet : List ℕ) → (tra
 unfolding transaction_status
 status-reason high t packet = by (checked_of packet) ∙ why-is packet
   where
-    by : (c : Checked) → (judged_of high t c (length packet)).reason ≡ why_of c
-    by (Valid next) = refl
-    by (Malformed reason) = refl
+    by : (c : Result ℕ Reason) → (judged_of high t c (length packet)).reason ≡ why_of c
+    by (Ok next) = refl
+    by (Err reason) = refl
 
 -- a packet that is not Invalid has none
 abbrev pub Taken : Status → Type 0
@@ -34,9 +33,9 @@ taken-judged : (high : Bool) (t : Transaction) (packet : List ℕ) → Taken (tr
 unfolding transaction_status
 taken-judged high t packet = by (checked_of packet)
   where
-    by : (c : Checked) → Taken (judged_of high t c (length packet)).status → judged_of high t c (length packet) ≡ judged (judged_of high t c (length packet)).pid (judged_of high t c (length packet)).status
-    by (Valid next) h = refl
-    by (Malformed reason) h = absurd h
+    by : (c : Result ℕ Reason) → Taken (judged_of high t c (length packet)).status → judged_of high t c (length packet) ≡ judged (judged_of high t c (length packet)).pid (judged_of high t c (length packet)).status
+    by (Ok next) h = refl
+    by (Err reason) h = absurd h
 
 pub judged-is : (high : Bool) (t : Transaction) (packet : List ℕ) {j : Judged} → j ≡ transaction_status high t packet → Taken j.status → j ≡ judged j.pid j.status
 judged-is high t packet e = subst (λ (x : Judged). Taken x.status → x ≡ judged x.pid x.status) (sym e) (taken-judged high t packet)

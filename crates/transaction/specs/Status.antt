@@ -1,10 +1,9 @@
 -- To be believed: Document 000, transaction_status: what a packet is to a transaction.
 -- Hold it to: transaction_status of decoder.rs: its first lines; high is the mode of 02, 6
-use Rattle.std.specs.Prelude.{Bool, List, ℕ, length}
+use Rattle.std.specs.Prelude.{Bool, List, ℕ, length, Result, Ok, Err}
 use Rattle.usb.specs.Pid.{MALFORMED}
-use Rattle.usb.specs.Packet.{no_reason, checked_of}
-use Rattle.usb.specs.declared.Checked.{Checked}
-use Rattle.usb.specs.declared.Checked.TheVariants.{Valid, Malformed}
+use Rattle.usb.specs.Packet.{no_reason, reason_number, checked_of}
+use Rattle.usb.specs.declared.reason.Reason.{Reason}
 use Rattle.transaction.specs.declared.Status.{Status}
 use Rattle.transaction.specs.declared.Status.TheVariants.{Invalid}
 use Rattle.transaction.specs.declared.Style.{Style}
@@ -28,9 +27,9 @@ abbrev pub malformed : ℕ → Judged
 malformed reason = record { pid = MALFORMED; status = Invalid; reason = reason }
 
 -- a malformed packet is Invalid whatever the transaction is
-abbrev pub judged_of : Bool → Transaction → Checked → ℕ → Judged
-judged_of high t (Malformed reason) len = malformed reason
-judged_of high t (Valid next) len = judged next (status_of high t.style t next len)
+abbrev pub judged_of : Bool → Transaction → Result ℕ Reason → ℕ → Judged
+judged_of high t (Err reason) len = malformed (reason_number reason)
+judged_of high t (Ok next) len = judged next (status_of high t.style t next len)
 
 unfoldable pub transaction_status : Bool → Transaction → List ℕ → Judged
 transaction_status high t packet = judged_of high t (checked_of packet) (length packet)

@@ -8,9 +8,8 @@ mod split;
 ghost use Rattle.std.specs.Prelude.{◌≡◌};
 ghost use Rattle.transaction.specs.Status.{status_of, judged_of, transaction_status};
 
-use usb::Checked;
 use usb::pid::MALFORMED;
-use usb::reason::NONE;
+use usb::reason::{self, NONE, Reason};
 
 // TransactionStatus of the Rust.
 #[derive(Clone, Copy)]
@@ -25,6 +24,7 @@ pub enum Status {
 }
 
 // TransactionStyle of the Rust, with its None for "no transaction".
+// Stays: 01 fixes this enum in the transaction; an Option of it would be a second tag to test for each packet.
 #[derive(Clone, Copy)]
 pub enum Style {
     Nothing,
@@ -73,34 +73,30 @@ pub struct Judged {
 fn status_of(high: bool, t: Transaction, next: u8, len: usize) -> Status
     ensures { result ≡ status_of high t.style t next len }
 {
-    let style = t.style;
-    let last = t.last;
-    match style {
+    match t.style {
         Style::Nothing => simple::start_status(next),
-        Style::Simple(first) => simple::status_in(high, first, last, next, t.kind, len),
-        Style::Split(sc, kind) => split::split_status(kind, sc, last, next, len),
-        Style::Token(sc, kind, _) => split::split_status(kind, sc, last, next, len),
+        Style::Simple(first) => simple::status_in(high, first, t.last, next, t.kind, len),
+        Style::Split(sc, kind) | Style::Token(sc, kind, _) => {
+            split::split_status(kind, sc, t.last, next, len)
+        }
     }
 }
 
 // The status of the next packet, which was checked and has len bytes.
-pub fn status_by(high: bool, t: Transaction, checked: Checked, len: usize) -> Judged
+pub fn status_by(high: bool, t: Transaction, checked: Result<u8, Reason>, len: usize) -> Judged
     ensures { result ≡ judged_of high t checked len }
 {
-    match checked {
-        Checked::Valid(next) => {
-            let status = status_of(high, t, next, len);
-            Judged {
-                pid: next,
-                status,
-                reason: NONE,
-            }
-        }
-        Checked::Malformed(reason) => Judged {
+    let Ok(next) = checked else {
+        return Judged {
             pid: MALFORMED,
             status: Status::Invalid,
-            reason,
-        },
+            reason: reason::number(checked),
+        };
+    };
+    Judged {
+        pid: next,
+        status: status_of(high, t, next, len),
+        reason: NONE,
     }
 }
 

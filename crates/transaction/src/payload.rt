@@ -11,22 +11,15 @@ pub fn start_pid(style: Style) -> u8
     ensures { result ≡ start_pid style }
 {
     match style {
-        Style::Nothing => 0,
-        Style::Simple(pid) => pid,
-        Style::Split(_, _) => 0,
-        Style::Token(_, _, pid) => pid,
+        Style::Simple(pid) | Style::Token(.., pid) => pid,
+        Style::Nothing | Style::Split(..) => 0,
     }
 }
 
 fn split_setup(sc: u8, kind: u8, pid: u8) -> bool
     ensures { result ≡ split_setup sc kind pid }
 {
-    if sc == START {
-        if kind == CONTROL {
-            return pid == SETUP;
-        }
-    }
-    false
+    sc == START && kind == CONTROL && pid == SETUP
 }
 
 // Whether a DATA0 brings setup bytes.
@@ -34,10 +27,9 @@ pub fn takes_setup(style: Style) -> bool
     ensures { result ≡ takes_setup style }
 {
     match style {
-        Style::Nothing => false,
         Style::Simple(first) => first == SETUP,
-        Style::Split(_, _) => false,
         Style::Token(sc, kind, pid) => split_setup(sc, kind, pid),
+        Style::Nothing | Style::Split(..) => false,
     }
 }
 
@@ -45,29 +37,31 @@ pub fn takes_setup(style: Style) -> bool
 fn payload_len(len: usize) -> u64
     ensures { result ≡ len - 3 }
 {
-    if len < 3 {
-        return 0;
-    }
-    (len - 3) as u64
+    len.saturating_sub(3) as u64
 }
 
 // Whether a packet with this PID brings a payload: DATA2 and MDATA do in the mode alone.
 pub fn yields(high: bool, pid: u8) -> bool
     ensures { result ≡ yields high pid }
 {
-    if high {
-        return (pid == DATA0) | (pid == DATA1) | (pid == DATA2) | (pid == MDATA);
+    match pid {
+        DATA0 | DATA1 => true,
+        DATA2 | MDATA => high,
+        _ => false,
     }
-    (pid == DATA0) | (pid == DATA1)
 }
 
 // The transaction after a packet with this PID and of len bytes; setup is what the packet holds as setup bytes.
-pub fn extract_payload(high: bool, t: Transaction, pid: u8, len: usize, setup: u64) -> Transaction
+pub fn extract_payload(
+    high: bool,
+    mut t: Transaction,
+    pid: u8,
+    len: usize,
+    setup: u64,
+) -> Transaction
     ensures { result ≡ extract_payload high t pid len setup }
 {
-    let mut t = t;
-    let style = t.style;
-    if (pid == DATA0) & takes_setup(style) {
+    if pid == DATA0 && takes_setup(t.style) {
         t.ready = true;
         t.setup = setup;
         return t;
@@ -75,7 +69,6 @@ pub fn extract_payload(high: bool, t: Transaction, pid: u8, len: usize, setup: u
     if yields(high, pid) {
         t.filled = true;
         t.payload = payload_len(len);
-        return t;
     }
     t
 }

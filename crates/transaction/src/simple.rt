@@ -25,9 +25,7 @@ fn by_kind(kind: u8) -> Status
 {
     match kind {
         ISOCHRONOUS => Status::Done,
-        CONTROL => Status::Continue,
-        BULK => Status::Continue,
-        INTERRUPT => Status::Continue,
+        CONTROL | BULK | INTERRUPT => Status::Continue,
         _ => Status::Ambiguous,
     }
 }
@@ -37,13 +35,7 @@ fn after_data0(last: u8, kind: u8, len: usize) -> Status
     ensures { result ≡ simple_status 0 last DATA0 kind len }
 {
     match last {
-        SETUP => {
-            if len == 11 {
-                Status::Continue
-            } else {
-                Status::Invalid
-            }
-        }
+        SETUP if len == 11 => Status::Continue,
         IN | OUT => by_kind(kind),
         _ => Status::Invalid,
     }
@@ -127,15 +119,14 @@ fn simple_status(first: u8, last: u8, next: u8, kind: u8, len: usize) -> Status
 fn is_high(last: u8, next: u8, kind: u8) -> bool
     ensures { result ≡ is_high last next kind }
 {
-    (((last == IN) & (next == DATA2)) | ((last == OUT) & ((next == DATA2) | (next == MDATA))))
-        & (kind == ISOCHRONOUS)
+    matches!((last, next), (IN, DATA2) | (OUT, DATA2 | MDATA)) && kind == ISOCHRONOUS
 }
 
 // The same in either mode.
 pub fn status_in(high: bool, first: u8, last: u8, next: u8, kind: u8, len: usize) -> Status
     ensures { result ≡ simple_status_in high first last next kind len }
 {
-    if high & is_high(last, next, kind) {
+    if high && is_high(last, next, kind) {
         return Status::Done;
     }
     simple_status(first, last, next, kind, len)

@@ -16,13 +16,7 @@ fn control_start(last: u8, next: u8, len: usize) -> Status
             _ => Status::Invalid,
         },
         SETUP => match next {
-            DATA0 => {
-                if len == 11 {
-                    Status::Continue
-                } else {
-                    Status::Invalid
-                }
-            }
+            DATA0 if len == 11 => Status::Continue,
             _ => Status::Invalid,
         },
         OUT => match next {

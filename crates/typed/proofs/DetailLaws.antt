@@ -1,6 +1,6 @@
 -- Laws (proved): the detail call, over plain values: its outcome from the tests in their order, that any two outcomes coincide, and that none spoils the
 -- record.
-use Rattle.std.specs.Prelude.{ℕ, zero, suc, ◌+◌, ◌<◌, ◌≡◌, Bool, cond, ◌&&◌, ◌||◌, List, [], ◌∷◌, eqb, ltb, get_or, set}
+use Rattle.std.specs.Prelude.{ℕ, zero, suc, ◌+◌, ◌<◌, ◌≡◌, Bool, cond, ◌&&◌, ◌||◌, List, [], ◌∷◌, eqb, ltb, get_or, set, Option, Some, None}
 use Rattle.std.proofs.Common.{arith, sym, ◌∙◌, ltb-false, eqb-true}
 use Rattle.std.proofs.Math.Path.{refl, ap}
 use Rattle.std.proofs.Math.Bool.{true, false, not}
@@ -15,8 +15,6 @@ use Rattle.details.proofs.DetailsLaws.{detail-kept}
 use Rattle.details.specs.Search.{blank}
 use Rattle.details.proofs.SearchLaws.{last-is}
 use Rattle.details.specs.declared.Device.{Device}
-use Rattle.details.specs.declared.Found.{Found}
-use Rattle.details.specs.declared.Found.TheVariants.{At, Nothing}
 use Rattle.rules.specs.Decoder.{handle_detail}
 use Rattle.rules.specs.Endpoints.{device_for, detailed}
 use Rattle.rules.specs.World.{with_devices, change_device}
@@ -28,8 +26,9 @@ use Rattle.record.proofs.FormedLaws.{well-formed}
 use Rattle.record.specs.Room.{long}
 use Rattle.record.specs.RoomLaws.{long-short}
 use Rattle.record.specs.declared.Counts.{Counts}
+use Rattle.record.specs.declared.Decoder.{Decoder}
 use Rattle.call.specs.Outcome.{is_ill, counts_after, decoder_of, TableOf, Left, accepts, world_at}
-use Rattle.call.proofs.OutcomeLaws.{unique, same_left, refused, accepted, sound, ill_by, waiting-entries}
+use Rattle.call.proofs.OutcomeLaws.{unique, same_left, refused, accepted, sound, sound_by, ill_by, waiting-entries}
 use Rattle.call.specs.State.{State, state, room_of}
 use Rattle.typed.specs.Detail.{Details}
 use Rattle.typed.specs.Judges.{Judges}
@@ -118,12 +117,16 @@ pub judged_at : (s : State) (address number direction kind : ℕ) (room : Counts
 judged_at s address number direction kind room e a at j = rw (ill_by s room e, device-found s address) at j
 
 -- a device that was found is one of those that there are
-pub found_below : (s : State) (address at : ℕ) → device_for address (world_at s) ≡ At at → at < s.decoder.counts.devices
-found_below s address at e = (rw e at (last-is (is_device s.devices address) s.decoder.counts.devices)).0
+found_in : (devices : List Device) (n address at : ℕ) → found_device devices n address ≡ Some at → at < n
+unfolding found_device
+found_in devices n address at e = (rw e at (last-is (is_device devices address) n)).0
+
+pub found_below : (s : State) (address at : ℕ) → device_for address (world_at s) ≡ Some at → at < s.decoder.counts.devices
+found_below s address at e = found_in s.devices s.decoder.counts.devices address at (device-found s address ∙ e)
 
 -- ---- the verdict
 
-module _ (ill finished : Bool) (number direction kind : ℕ) (device : Found) where
+module _ (ill finished : Bool) (number direction kind : ℕ) (device : Option ℕ) where
   pub judged-ill : ill ≡ true → Judges ill finished number direction kind device 1 0
   unfolding first_of
   judged-ill h = record { answer = rw h; place = λ z. absurd (omega arith) }
@@ -133,7 +136,7 @@ module _ (ill finished : Bool) (number direction kind : ℕ) (device : Found) wh
   judged-finished h g = record { answer = rw (h, g); place = λ z. absurd (omega arith) }
 
   -- 5, 6 and 0 are those of `detail_answer`
-  pub judged-detail : ill ≡ false → finished ≡ false → (a at : ℕ) → a ≡ detail_answer number direction kind device → (a ≡ 0 → device ≡ At at) → Judges ill finished number direction kind device a at
+  pub judged-detail : ill ≡ false → finished ≡ false → (a at : ℕ) → a ≡ detail_answer number direction kind device → (a ≡ 0 → device ≡ Some at) → Judges ill finished number direction kind device a at
   unfolding first_of
   judged-detail h g a at e p = record { answer = e ∙ rw (h, g) (detail-tests number direction kind device); place = p }
 
@@ -150,7 +153,7 @@ module _ (ill finished : Bool) (number direction kind : ℕ) (device : Found) wh
       each false false false false n = absurd (n refl)
 
 -- answer 0: the record is well formed, and the detail has an entry
-pub passed : {ill finished : Bool} {number direction kind : ℕ} {device : Found} {a at : ℕ} → Judges ill finished number direction kind device a at → a ≡ 0
+pub passed : {ill finished : Bool} {number direction kind : ℕ} {device : Option ℕ} {a at : ℕ} → Judges ill finished number direction kind device a at → a ≡ 0
     → (ill ≡ false) × ((number < 16) × (direction < 2))
 passed {ill} {finished} {number} {direction} {kind} {device} j z =
     let p = (first-accepted (detail_tests ill finished number direction kind device) (sym j.answer ∙ z)).0 in
@@ -162,13 +165,21 @@ passed {ill} {finished} {number} {direction} {kind} {device} j z =
     (p.ill, (omega arith, omega arith))
 
 -- an address with no device is never answered 0
-pub no-device : (number direction kind : ℕ) → detail_answer number direction kind Nothing ≡ 0 → ⊥
+pub no-device : (number direction kind : ℕ) → detail_answer number direction kind None ≡ 0 → ⊥
 unfolding detail_answer
 no-device number direction kind h = never (wrong number direction kind) h
   where
     never : (b : Bool) → ◌≡◌ {A = ℕ} (cond b 5 6) 0 → ⊥
     never true e = omega arith
     never false e = omega arith
+
+-- so its row is one of the 64
+pub row_below : (d : Decoder) (devices : List Device) (table : List ℕ) (room : Counts) (address : ℕ) {number direction kind at : ℕ}
+    → Judges (long room || not (well_formed d devices table room)) d.finished number direction kind (found_device devices d.counts.devices address) 0 at → at < 64
+row_below d devices table room address {at = at} j =
+    let n = (sound_by d devices table room (passed j refl).0).0.counts.few_devices in
+    let b = found_in devices d.counts.devices address at (j.place refl) in
+    omega arith
 
 -- ---- the outcome, by the verdict
 
@@ -179,7 +190,7 @@ module _ (address number direction kind max : ℕ) (s : State) where
       refused a j.answer (ap accepts j.answer ∙ refuses (is_ill s) s.decoder.finished number direction kind (device_for address (world_at s)) (λ z. n (j.answer ∙ z)))
 
   -- 0, for the device at a place
-  module _ (at : ℕ) (f : device_for address (world_at s) ≡ At at) where
+  module _ (at : ℕ) (f : device_for address (world_at s) ≡ Some at) where
     -- the state then
     abbrev pub after : State
     after = state s.decoder (changed number direction kind max s.devices at) s.table s.logs
@@ -237,7 +248,7 @@ module _ (address number direction kind max : ℕ) (s : State) where
         })))
 
   -- with no device the rules leave all as it is
-  left-none : device_for address (world_at s) ≡ Nothing → is_ill s ≡ false → Left (handle_detail address number direction kind max (world_at s)) s.decoder.finished s s
+  left-none : device_for address (world_at s) ≡ None → is_ill s ≡ false → Left (handle_detail address number direction kind max (world_at s)) s.decoder.finished s s
   unfolding handle_detail
   left-none f h = rw f one
     where
@@ -255,9 +266,9 @@ module _ (address number direction kind max : ℕ) (s : State) where
   unfolding Details
   detail-well a s' x h = by (accepts (first_of (detail_tests (is_ill s) s.decoder.finished number direction kind (device_for address (world_at s))))) refl
     where
-      on : (found : Found) → device_for address (world_at s) ≡ found → Left (handle_detail address number direction kind max (world_at s)) s.decoder.finished s s' → is_ill s' ≡ false
-      on (At at) f l = ap is_ill (same_left l (left at f h)) ∙ after-well at f h
-      on Nothing f l = ap is_ill (same_left l (left-none f h)) ∙ h
+      on : (found : Option ℕ) → device_for address (world_at s) ≡ found → Left (handle_detail address number direction kind max (world_at s)) s.decoder.finished s s' → is_ill s' ≡ false
+      on (Some at) f l = ap is_ill (same_left l (left at f h)) ∙ after-well at f h
+      on None f l = ap is_ill (same_left l (left-none f h)) ∙ h
 
       by : (b : Bool) → accepts (first_of (detail_tests (is_ill s) s.decoder.finished number direction kind (device_for address (world_at s)))) ≡ b → is_ill s' ≡ false
       by true e = on (device_for address (world_at s)) refl (x.left e)

@@ -8,22 +8,15 @@ ghost use Rattle.record.specs.Formed.{well_formed};
 ghost use Rattle.record.specs.Room.{long};
 ghost use Rattle.call.specs.State.{logs, state};
 ghost use Rattle.typed.specs.Detail.{Details};
-ghost use Rattle.typed.specs.Judges.{Judges};
+ghost use Rattle.typed.specs.Judges.{Judged};
 
 use call::{Called, is_ill, room_of};
 use details::find::find_device;
-use details::{Device, Found, detail_answer, set_detail};
+use details::{Device, detail_answer, set_detail};
 use endpoints::Table;
 use record::{Counts, Decoder};
 
-// The answer and, where that is 0, the row of the device.
-#[derive(Clone, Copy)]
-struct Verdict {
-    answer: u8,
-    at: usize,
-}
-
-// The tests in their order: 1, 2, then 5 and 6.
+// The tests in their order: 1, 2, then 5 and 6. The row of the device, or the answer that refuses.
 fn judged(
     d: Decoder,
     devices: [Device; 64],
@@ -33,22 +26,22 @@ fn judged(
     kind: u8,
     table: &Table,
     room: Counts,
-) -> Verdict
-    ensures { Judges (long room || not (well_formed d devices table.now room)) d.finished number direction kind (found_device devices d.counts.devices address) result.answer result.at }
+) -> Result<usize, u8>
+    ensures { Judged (long room || not (well_formed d devices table.now room)) d.finished number direction kind (found_device devices d.counts.devices address) result }
 {
     if is_ill(d, devices, table, room) {
-        return Verdict { answer: 1, at: 0 };
+        return Err(1);
     }
     if d.finished {
-        return Verdict { answer: 2, at: 0 };
+        return Err(2);
     }
     let counts = d.counts;
     let found = find_device(devices, counts.devices, address);
     let answer = detail_answer(number, direction, kind, found);
-    let Found::At(at) = found else {
-        return Verdict { answer, at: 0 };
-    };
-    Verdict { answer, at }
+    match found {
+        Some(at) if answer == 0 => Ok(at),
+        _ => Err(answer),
+    }
 }
 
 // It appends nothing: the logs are lent for their lengths, and one entry of one device is stored.
@@ -90,21 +83,21 @@ pub fn detail(
         links.len(),
         requests.len(),
     );
-    let verdict = judged(d, devices, address, number, direction, kind, table, room);
-    let answer = verdict.answer;
-    if answer != 0 {
-        return Called {
-            answer,
-            decoder: d,
-            devices,
-        };
-    }
-    let at = verdict.at;
+    let at = match judged(d, devices, address, number, direction, kind, table, room) {
+        Ok(at) => at,
+        Err(answer) => {
+            return Called {
+                answer,
+                decoder: d,
+                devices,
+            };
+        },
+    };
     let device = devices[at];
     let mut changed = devices;
     changed[at] = set_detail(device, number, direction, kind, max);
     Called {
-        answer,
+        answer: 0,
         decoder: d,
         devices: changed,
     }

@@ -10,8 +10,7 @@ use Rattle.transaction.specs.Table.{pick, only, ◌or◌}
 use Rattle.transaction.specs.declared.Style.{Style}
 use Rattle.transaction.specs.declared.Style.TheVariants.{Nothing as NoStyle, Simple, Split, Token}
 use Rattle.details.specs.Kind.{Unknown}
-use Rattle.details.specs.declared.Found.{Found}
-use Rattle.details.specs.declared.Found.TheVariants.{At, Nothing}
+use Rattle.std.specs.Prelude.{Option, Some, None}
 use Rattle.rules.specs.World.{World, with_shelf, with_transaction, phase, with_id, with_pid, with_token, new_transaction}
 use Rattle.rules.specs.Endpoints.{device_for, add_endpoint_on, address_for, endpoint_lookup, found, number_at, packet_endpoint_at, packet_endpoint, endpoint_of, set_endpoint_type}
 use Rattle.rules.specs.Groups.{group_early_start, group_early_append}
@@ -62,32 +61,32 @@ early-append_blind g w =
 
 -- ---- the endpoint of a packet
 
-add_blind : (f : Found) (d a : ℕ) → Blind (add_endpoint_on f d a)
-add_blind (At i) d a g w = refl
-add_blind Nothing d a g w = refl
+add_blind : (f : Option ℕ) (d a : ℕ) → Blind (add_endpoint_on f d a)
+add_blind (Some i) d a g w = refl
+add_blind None d a g w = refl
 
-place_blind : (f : Found) (pid : ℕ) (p : List ℕ) (g : List ℕ) (w : World) → packet_endpoint_at f pid p (with_shelf g w) ≡ with_shelf g (packet_endpoint_at f pid p w)
-place_blind (At i) pid p g w = refl
-place_blind Nothing pid p g w = add_blind (device_for (token_of p).address w) (token_of p).address (address_for pid (token_of p).number) g w
+place_blind : (f : Option ℕ) (pid : ℕ) (p : List ℕ) (g : List ℕ) (w : World) → packet_endpoint_at f pid p (with_shelf g w) ≡ with_shelf g (packet_endpoint_at f pid p w)
+place_blind (Some i) pid p g w = refl
+place_blind None pid p g w = add_blind (device_for (token_of p).address w) (token_of p).address (address_for pid (token_of p).number) g w
 
-lookup_blind : (f : Found) (a : ℕ) (g : List ℕ) (w : World) → endpoint_lookup f a (with_shelf g w) ≡ endpoint_lookup f a w
-lookup_blind (At i) a g w = refl
-lookup_blind Nothing a g w = refl
+lookup_blind : (f : Option ℕ) (a : ℕ) (g : List ℕ) (w : World) → endpoint_lookup f a (with_shelf g w) ≡ endpoint_lookup f a w
+lookup_blind (Some i) a g w = refl
+lookup_blind None a g w = refl
 
 found_blind : (pid : ℕ) (p g : List ℕ) (w : World) → found pid p (with_shelf g w) ≡ found pid p w
 found_blind pid p g w =
-    ap (λ (f : Found). pick (eqb pid SOF) (At 2) (pick ((SETUP or IN or OUT or only PING) pid) f (At 1)))
+    ap (λ (f : Option ℕ). pick (eqb pid SOF) (Some 2) (pick ((SETUP or IN or OUT or only PING) pid) f (Some 1)))
     (lookup_blind (device_for (token_of p).address w) (address_for pid (token_of p).number) g w)
 
-number_blind : (f : Found) (g : List ℕ) (w : World) → number_at f (with_shelf g w) ≡ number_at f w
-number_blind (At i) g w = refl
-number_blind Nothing g w = refl
+number_blind : (f : Option ℕ) (g : List ℕ) (w : World) → number_at f (with_shelf g w) ≡ number_at f w
+number_blind (Some i) g w = refl
+number_blind None g w = refl
 
 endpoint_blind : (pid : ℕ) (p g : List ℕ) (w : World) → endpoint_of pid p (with_shelf g w) ≡ endpoint_of pid p w
-endpoint_blind pid p g w = ap (λ (f : Found). number_at f (with_shelf g w)) (found_blind pid p g w) ∙ number_blind (found pid p w) g w
+endpoint_blind pid p g w = ap (λ (f : Option ℕ). number_at f (with_shelf g w)) (found_blind pid p g w) ∙ number_blind (found pid p w) g w
 
 packet_blind : (pid : ℕ) (p : List ℕ) → Blind (packet_endpoint pid p)
-packet_blind pid p g w = ap (λ (f : Found). packet_endpoint_at f pid p (with_shelf g w)) (found_blind pid p g w) ∙ place_blind (found pid p w) pid p g w
+packet_blind pid p g w = ap (λ (f : Option ℕ). packet_endpoint_at f pid p (with_shelf g w)) (found_blind pid p g w) ∙ place_blind (found pid p w) pid p g w
 
 -- ---- transaction_append
 

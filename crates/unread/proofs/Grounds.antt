@@ -17,8 +17,7 @@ use Rattle.details.proofs.DetailsLaws.{type-kept}
 use Rattle.details.proofs.SearchLaws.{First, Last, first-is, last-is}
 use Rattle.details.specs.Search.{first_from}
 use Rattle.details.specs.declared.Device.{Device}
-use Rattle.details.specs.declared.Found.{Found}
-use Rattle.details.specs.declared.Found.TheVariants.{At, Nothing}
+use Rattle.std.specs.Prelude.{Option, Some, None}
 use Rattle.endpoints.specs.Table.{new_endpoint}
 use Rattle.endpoints.specs.declared.Endpoint.{Endpoint}
 use Rattle.descriptors.specs.Kind.{kind_of}
@@ -156,31 +155,31 @@ module _ (h g : List ℕ) where
           aims = subst (Aims pid) (sym (ap (λ (b : Bool). (pick b (new_endpoint d address) (v.endpoints v.count)).address) (eq-eqb v.count v.count refl))) (address_aims pid number (small p));
         }
 
-    new-placed : (f : Found) → Last (λ i. eqb (w.devices i).address (token_of p).address) w.device_count f → Placed pid w.count (add_endpoint_on f (token_of p).address address w)
-    new-placed (At d) l = new_at d w l.0 s
-    new-placed Nothing l = new_at w.device_count (add_device (token_of p).address w) (omega arith) (device_still (token_of p).address w s)
+    new-placed : (f : Option ℕ) → Last (λ i. eqb (w.devices i).address (token_of p).address) w.device_count f → Placed pid w.count (add_endpoint_on f (token_of p).address address w)
+    new-placed (Some d) l = new_at d w l.0 s
+    new-placed None l = new_at w.device_count (add_device (token_of p).address w) (omega arith) (device_still (token_of p).address w s)
 
-    missing : Placed pid w.count (packet_endpoint_at Nothing pid p w)
+    missing : Placed pid w.count (packet_endpoint_at None pid p w)
     missing = new-placed (device_for (token_of p).address w) (last-is (λ i. eqb (w.devices i).address (token_of p).address) w.device_count)
 
-    looked : (f : Found) → Placed pid (number_at (endpoint_lookup f address w) w) (packet_endpoint_at (endpoint_lookup f address w) pid p w)
-    looked Nothing = missing
-    looked (At d) = by (first_from test 0 w.count) (first-is test w.count 0)
+    looked : (f : Option ℕ) → Placed pid (number_at (endpoint_lookup f address w) w) (packet_endpoint_at (endpoint_lookup f address w) pid p w)
+    looked None = missing
+    looked (Some d) = by (first_from test 0 w.count) (first-is test w.count 0)
       where
         test : ℕ → Bool
         test i = eqb (w.endpoints i).device d && eqb (w.endpoints i).address address
 
-        by : (f : Found) → First test 0 w.count f → Placed pid (number_at f w) (packet_endpoint_at f pid p w)
-        by (At i) r =
+        by : (f : Option ℕ) → First test 0 w.count f → Placed pid (number_at f w) (packet_endpoint_at f pid p w)
+        by (Some i) r =
             let a = both (eqb (w.endpoints i).device d) (eqb (w.endpoints i).address address) r.1.1.0 in
             record { still = s; there = omega (arith, r.1.0); aims = subst (Aims pid) (sym (eqb-true (w.endpoints i).address address a.1)) (address_aims pid number (small p)) }
-        by Nothing r = missing
+        by None r = missing
 
     pub placed : Placed pid (endpoint_of pid p w) (packet_endpoint pid p w)
     placed = by (eqb pid SOF) ((SETUP or IN or OUT or only PING) pid) refl refl
       where
         by : (a b : Bool) → eqb pid SOF ≡ a → (SETUP or IN or OUT or only PING) pid ≡ b
-            → (let f = pick a (At 2) (pick b (endpoint_lookup (device_for (token_of p).address w) address w) (At 1)) in Placed pid (number_at f w) (packet_endpoint_at f pid p w))
+            → (let f = pick a (Some 2) (pick b (endpoint_lookup (device_for (token_of p).address w) address w) (Some 1)) in Placed pid (number_at f w) (packet_endpoint_at f pid p w))
         by true b q r =
             let z = eqb-true pid SOF q in
             record { still = s; there = omega (arith, s.three); aims = no_aims pid _ (λ i. omega arith) (λ o. omega arith) }

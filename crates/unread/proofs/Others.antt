@@ -9,8 +9,7 @@ use lib.Dec.{eqb}
 use Rattle.transaction.specs.Table.{pick}
 use Rattle.details.proofs.DetailsLaws.{detail-kept}
 use Rattle.details.specs.declared.Device.{Device}
-use Rattle.details.specs.declared.Found.{Found}
-use Rattle.details.specs.declared.Found.TheVariants.{At, Nothing}
+use Rattle.std.specs.Prelude.{Option, Some, None as Absent}
 use Rattle.endpoints.specs.Table.{with_phase}
 use Rattle.endpoints.specs.declared.Endpoint.{Endpoint}
 use Rattle.endpoints.specs.declared.Phase.{Phase}
@@ -137,9 +136,9 @@ module _ (h g : List ℕ) where
   unfolding handle_detail
   detail_kin address number direction kind max w k = by (device_for address w)
     where
-      by : (f : Found) → Kin h g (view (set_detail_on f number direction kind max w))
-      by (At d) = kin_tame h g (row_tame d (detailed number direction kind max) (λ v. (detail-kept v number direction kind max).kept) w) k
-      by Nothing = k
+      by : (f : Option ℕ) → Kin h g (view (set_detail_on f number direction kind max w))
+      by (Some d) = kin_tame h g (row_tame d (detailed number direction kind max) (λ v. (detail-kept v number direction kind max).kept) w) k
+      by Absent = k
 
   pub finish_kin : (w : World) → Kin h g (view w) → Kin h g (view (finish w))
   unfolding finish

@@ -2,6 +2,8 @@
 use Prim.Native.Nat.{ℕ, zero, suc, ◌+◌, ◌-◌, ◌*◌, ◌≤◌, ◌<◌, min}
 use native.Mathlib.Nat.{le_refl}
 use native.Mathlib.Omega.{arith}
+use Rattle.std.specs.Prelude.{Option, Some, None, is_some}
+use Rattle.std.specs.Option.{option_map_or}
 use mathlib.Core.Path.{◌≡◌, refl, sym, ap, subst, ◌∙◌}
 use mathlib.Core.Bool.{Bool, true, false, cond}
 use mathlib.Core.List.{List, [], ◌∷◌}
@@ -32,11 +34,11 @@ use Rattle.unread.proofs.Stores.{sets_more, whole_agree}
 
 kept_seven : (p : List ℕ) (es : List (List ℕ)) → All Seven es → All Seven (kept_after p es)
 unfolding left_by added_by
-kept_seven p es s = all_append Seven (left_by p es) (added_by p es) (by (value_of p).taken) (fitting_seven (length (left_by p es)) (entries_of p) (entries_seven p))
+kept_seven p es s = all_append Seven (left_by p es) (added_by p es) (by (value_of p)) (fitting_seven (length (left_by p es)) (entries_of p) (entries_seven p))
   where
-    by : (b : Bool) → All Seven (cond b (without (value_of p).number es) es)
-    by true = without_seven (value_of p).number es s
-    by false = s
+    by : (r : Option ℕ) → All Seven (option_map_or (λ v. without v es) r es)
+    by (Some v) = without_seven v es s
+    by None = s
 
 -- what is stored, by the payload and the entries that were read
 module _ (start : ℕ) (p : List ℕ) (es : List (List ℕ)) (h g : List ℕ) (l : length h ≡ length g) where
@@ -51,7 +53,7 @@ module _ (start : ℕ) (p : List ℕ) (es : List (List ℕ)) (h g : List ℕ) (l
   after-agree : (k : Kind) (at n : ℕ) → Agree at n h g → Agree at n (shelf_after k start p es h) (shelf_after k start p es g)
   unfolding shelf_after
   after-agree DeviceRead at n e = e
-  after-agree ConfigurationRead at n e = stored-agree (value_of p).taken (joined (kept_after p es)) (start + 4096) at n e
+  after-agree ConfigurationRead at n e = stored-agree (is_some (value_of p)) (joined (kept_after p es)) (start + 4096) at n e
   after-agree SetConfiguration at n e = e
   after-agree SetInterface at n e = e
   after-agree Other at n e = e
@@ -59,7 +61,7 @@ module _ (start : ℕ) (p : List ℕ) (es : List (List ℕ)) (h g : List ℕ) (l
   after-long : (k : Kind) → length (shelf_after k start p es h) ≡ length (shelf_after k start p es g)
   unfolding shelf_after
   after-long DeviceRead = l
-  after-long ConfigurationRead = stored-long (value_of p).taken (joined (kept_after p es)) (start + 4096)
+  after-long ConfigurationRead = stored-long (is_some (value_of p)) (joined (kept_after p es)) (start + 4096)
   after-long SetConfiguration = l
   after-long SetInterface = l
   after-long Other = l
@@ -93,7 +95,7 @@ module _ (start : ℕ) (p : List ℕ) (es : List (List ℕ)) (h g : List ℕ) (l
     after_more : (k : Kind) → Agree (start + 4096) (min (count_after k p es kept) 585 * 7) (shelf_after k start p es h) (shelf_after k start p es g)
     unfolding shelf_after count_after
     after_more DeviceRead = e
-    after_more ConfigurationRead = read_more (value_of p).taken
+    after_more ConfigurationRead = read_more (is_some (value_of p))
     after_more SetConfiguration = e
     after_more SetInterface = e
     after_more Other = e

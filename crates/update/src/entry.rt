@@ -20,10 +20,8 @@ fn close(phase: Phase) -> Phase
     ensures { result ≡ close_phase phase }
 {
     match phase {
-        Phase::None => phase,
-        Phase::Early => phase,
-        Phase::Active => phase,
         Phase::Ended => Phase::None,
+        _ => phase,
     }
 }
 
@@ -32,9 +30,10 @@ pub fn link_entry(on: bool, e: Endpoint) -> Endpoint
     ensures { result ≡ link_words on e }
 {
     if on {
-        let mut e = e;
-        e.transactions = std::num::wrapping_add_u64(e.transactions, 1);
-        e
+        Endpoint {
+            transactions: e.transactions.wrapping_add(1),
+            ..e
+        }
     } else {
         e
     }
@@ -50,9 +49,7 @@ fn end_entry(on: bool, e: Endpoint) -> Endpoint
     ensures { result ≡ when on end_entry e }
 {
     if on {
-        let mut e = e;
-        e.state = ENDING;
-        with_phase(e, Phase::Ended)
+        with_phase(Endpoint { state: ENDING, ..e }, Phase::Ended)
     } else {
         e
     }
@@ -61,12 +58,7 @@ fn end_entry(on: bool, e: Endpoint) -> Endpoint
 fn close_entry(on: bool, e: Endpoint) -> Endpoint
     ensures { result ≡ when on close_entry e }
 {
-    if on {
-        let phase = e.phase;
-        with_phase(e, close(phase))
-    } else {
-        e
-    }
+    if on { with_phase(e, close(e.phase)) } else { e }
 }
 
 // A G row, a start row and an item.
@@ -74,10 +66,12 @@ fn start_entry(on: bool, e: Endpoint) -> Endpoint
     ensures { result ≡ start_words on e }
 {
     if on {
-        let mut e = e;
-        e.groups = std::num::wrapping_add_u64(e.groups, 1);
-        e.state = STARTING;
-        close_entry(true, e)
+        let started = Endpoint {
+            groups: e.groups.wrapping_add(1),
+            state: STARTING,
+            ..e
+        };
+        close_entry(true, started)
     } else {
         e
     }
@@ -87,12 +81,14 @@ fn start_entry(on: bool, e: Endpoint) -> Endpoint
 fn begin(done: bool, pid: u8, e: Endpoint) -> Endpoint
     ensures { result ≡ activated done pid e }
 {
-    let mut e = e;
-    e.first = pid;
-    e.done = done;
-    e.last = pid;
-    e.payload = 0;
-    with_phase(e, Phase::Active)
+    let begun = Endpoint {
+        first: pid,
+        done,
+        last: pid,
+        payload: 0,
+        ..e
+    };
+    with_phase(begun, Phase::Active)
 }
 
 fn become_entry(group: Then, pid: u8, e: Endpoint) -> Endpoint
@@ -102,12 +98,11 @@ fn become_entry(group: Then, pid: u8, e: Endpoint) -> Endpoint
         Then::Keep => e,
         Then::Begin => begin(true, pid, e),
         Then::BeginFailed => begin(false, pid, e),
-        Then::Last => {
-            let mut e = e;
-            e.done = true;
-            e.last = pid;
-            e
-        }
+        Then::Last => Endpoint {
+            done: true,
+            last: pid,
+            ..e
+        },
         Then::BeginEarly => with_phase(e, Phase::Early),
     }
 }
@@ -117,9 +112,7 @@ fn ended_entry(on: bool, e: Endpoint) -> Endpoint
     ensures { result ≡ when on ended_entry e }
 {
     if on {
-        let mut e = e;
-        e.payload = 0;
-        end_entry(true, e)
+        end_entry(true, Endpoint { payload: 0, ..e })
     } else {
         e
     }
@@ -129,12 +122,11 @@ fn ended_entry(on: bool, e: Endpoint) -> Endpoint
 pub fn entry_update(u: Update, pid: u8, e: Endpoint) -> Endpoint
     ensures { result ≡ words_after u pid e }
 {
-    let group = u.group;
     let e = over_entry(u.over, e);
     let e = end_entry(u.cut, e);
     let e = link_entry(u.link, e);
     let e = start_entry(u.start, e);
-    let e = become_entry(group, pid, e);
+    let e = become_entry(u.group, pid, e);
     let e = ended_entry(u.end, e);
     close_entry(u.item, e)
 }
@@ -144,10 +136,11 @@ pub fn transaction_update(u: Update, t: Transaction, next: u64) -> Transaction
     ensures { result ≡ transaction_after u next t }
 {
     if u.link {
-        let mut t = t;
-        t.linked = true;
-        t.link = next;
-        t
+        Transaction {
+            linked: true,
+            link: next,
+            ..t
+        }
     } else {
         t
     }

@@ -49,18 +49,25 @@ pub struct Update {
     pub item: bool,
 }
 
+// Nothing is done.
+pub const NO_UPDATE: Update = Update {
+    over: false,
+    cut: false,
+    link: false,
+    start: false,
+    group: Then::Keep,
+    end: false,
+    item: false,
+};
+
 // No row but perhaps a T row.
 fn linking(link: bool, group: Then) -> Update
     ensures { result ≡ links link group }
 {
     Update {
-        over: false,
-        cut: false,
         link,
-        start: false,
         group,
-        end: false,
-        item: false,
+        ..NO_UPDATE
     }
 }
 
@@ -74,8 +81,7 @@ fn adding(over: bool, cut: bool, linked: bool, group: Then) -> Update
         link: !linked,
         start: true,
         group,
-        end: false,
-        item: false,
+        ..NO_UPDATE
     }
 }
 
@@ -84,10 +90,9 @@ fn starts(group: Then, phase: Phase, linked: bool) -> Update
     ensures { result ≡ startsUpdate group phase linked }
 {
     match phase {
-        Phase::None => adding(false, false, linked, group),
+        Phase::None | Phase::Ended => adding(false, false, linked, group),
         Phase::Early => linking(false, group),
         Phase::Active => adding(false, true, linked, group),
-        Phase::Ended => adding(false, false, linked, group),
     }
 }
 
@@ -96,10 +101,8 @@ fn appends(group: Then, onward: Then, phase: Phase, linked: bool) -> Update
     ensures { result ≡ appendsUpdate group onward phase linked }
 {
     match phase {
-        Phase::None => starts(group, phase, linked),
-        Phase::Early => starts(group, phase, linked),
         Phase::Active => linking(!linked, onward),
-        Phase::Ended => starts(group, phase, linked),
+        _ => starts(group, phase, linked),
     }
 }
 
@@ -107,10 +110,11 @@ fn appends(group: Then, onward: Then, phase: Phase, linked: bool) -> Update
 fn ends(same: bool, u: Update) -> Update
     ensures { result ≡ endsUpdate same u }
 {
-    let mut u = u;
-    u.end = true;
-    u.item = !u.start && !same;
-    u
+    Update {
+        end: true,
+        item: !u.start && !same,
+        ..u
+    }
 }
 
 // group_update, by what group_status says, the endpoint's phase, whether the transaction has its T row and whether the last item was this endpoint's.
@@ -133,10 +137,7 @@ fn starts_early(pid: u8, phase: Phase) -> bool
 {
     match pid {
         SETUP => true,
-        IN => !is_active(phase),
-        OUT => !is_active(phase),
-        SOF => !is_active(phase),
-        MALFORMED => !is_active(phase),
+        IN | OUT | SOF | MALFORMED => !is_active(phase),
         _ => false,
     }
 }
@@ -146,10 +147,9 @@ fn early(phase: Phase, linked: bool) -> Update
     ensures { result ≡ earlyUpdate phase linked }
 {
     match phase {
-        Phase::None => adding(false, false, linked, Then::BeginEarly),
+        Phase::None | Phase::Ended => adding(false, false, linked, Then::BeginEarly),
         Phase::Early => adding(true, false, linked, Then::BeginEarly),
         Phase::Active => adding(false, true, linked, Then::BeginEarly),
-        Phase::Ended => adding(false, false, linked, Then::BeginEarly),
     }
 }
 
@@ -168,27 +168,14 @@ pub fn decide_early_start(pid: u8, phase: Phase, linked: bool) -> Update
 fn is_undecided(e: Endpoint) -> bool
     ensures { result ≡ undecided e }
 {
-    let phase = e.phase;
-    let first = e.first;
-    let active = is_active(phase);
-    match first {
-        IN => active,
-        OUT => active,
-        _ => false,
-    }
+    matches!(e.first, IN | OUT) && is_active(e.phase)
 }
 
 // group_early_append, of the transaction and its endpoint's entry; a split without its token has no endpoint yet.
 pub fn decide_early_append(t: Transaction, e: Endpoint) -> Update
     ensures { result ≡ decide_early_append t e }
 {
-    if t.endpoint == 0 {
-        return linking(false, Then::Keep);
-    }
-    if is_undecided(e) {
-        return linking(false, Then::Keep);
-    }
-    linking(!t.linked, Then::Keep)
+    linking(t.endpoint != 0 && !is_undecided(e) && !t.linked, Then::Keep)
 }
 
 // A suspended transaction that is resumed gets a T row, also if it had one (transaction_update, 721).

@@ -2,14 +2,17 @@
 -- Assumes nothing.
 use Prim.Native.Nat.{ℕ, zero, suc, ◌-◌, ◌/◌, ◌%◌, ◌<◌}
 use native.Mathlib.Omega.{arith}
-use mathlib.Core.Path.{◌≡◌, refl, sym, subst}
+use mathlib.Core.Path.{◌≡◌, refl, sym, ap, subst, ◌∙◌}
 use mathlib.Core.Bool.{Bool, true, false}
 use mathlib.Core.List.{List, [], ◌∷◌}
 use lib.Dec.{eqb}
 use lib.ListN.{get_or}
+use Rattle.std.specs.Prelude.{Option, Some, None}
 use borrow.Author.Tests.{eqb-true, eqb-false}
 use Rattle.usb.proofs.Laws.{both_left, both_right}
-use Rattle.usb.specs.Packet.{pick, both, no_format, token_format, handshake_format, data_format, split_format, format_of}
+use Rattle.usb.specs.Packet.{pick, both, format_of}
+use Rattle.usb.specs.declared.Format.{Format}
+use Rattle.usb.specs.declared.Format.TheVariants.{Token, Handshake, Data, Split}
 
 -- whether a test passes at each number below n
 abbrev all : (ℕ → Bool) → ℕ → Bool
@@ -26,18 +29,39 @@ module _ (f : ℕ → Bool) where
   each (suc n) t k h = last n k h (both_left (f n) (all f n) t) (each n (both_right (f n) (all f n) t) k) (eqb k n) refl
 
 -- table 8-1, by PID<3:0>
-abbrev formats : List ℕ
+abbrev formats : List (Option Format)
 formats =
-    no_format ∷ token_format ∷ handshake_format ∷ data_format
-    ∷ token_format ∷ token_format ∷ handshake_format ∷ data_format
-    ∷ split_format ∷ token_format ∷ handshake_format ∷ data_format
-    ∷ handshake_format ∷ token_format ∷ handshake_format ∷ data_format
+    None ∷ Some Token ∷ Some Handshake ∷ Some Data
+    ∷ Some Token ∷ Some Token ∷ Some Handshake ∷ Some Data
+    ∷ Some Split ∷ Some Token ∷ Some Handshake ∷ Some Data
+    ∷ Some Handshake ∷ Some Token ∷ Some Handshake ∷ Some Data
     ∷ []
 
 -- 8.3.1: the high nibble is the complement of the low one
-abbrev by_nibbles : ℕ → ℕ
-by_nibbles pid = pick (eqb (pid / 16) (15 - pid % 16)) (get_or formats (pid % 16) 0) no_format
+abbrev by_nibbles : ℕ → Option Format
+by_nibbles pid = pick (eqb (pid / 16) (15 - pid % 16)) (get_or formats (pid % 16) None) None
+
+-- formats by number, so that two can be compared
+abbrev to_number : Option Format → ℕ
+to_number None = 0
+to_number (Some Token) = 1
+to_number (Some Handshake) = 2
+to_number (Some Data) = 3
+to_number (Some Split) = 4
+
+abbrev from_number : ℕ → Option Format
+from_number n = get_or (None ∷ Some Token ∷ Some Handshake ∷ Some Data ∷ Some Split ∷ []) n None
+
+to-from : (f : Option Format) → from_number (to_number f) ≡ f
+to-from None = refl
+to-from (Some Token) = refl
+to-from (Some Handshake) = refl
+to-from (Some Data) = refl
+to-from (Some Split) = refl
 
 pub nibbles : (pid : ℕ) → pid < 256 → by_nibbles pid ≡ format_of pid
 unfolding format_of
-nibbles pid h = eqb-true _ _ (each (λ k. eqb (by_nibbles k) (format_of k)) 256 refl pid h)
+nibbles pid h =
+    sym (to-from (by_nibbles pid))
+    ∙ ap from_number (eqb-true _ _ (each (λ k. eqb (to_number (by_nibbles k)) (to_number (format_of k))) 256 refl pid h))
+    ∙ to-from (format_of pid)

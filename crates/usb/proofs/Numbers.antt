@@ -33,12 +33,6 @@ module _ (s : List ℕ) where
   unfolding after
   after-three = rw (one_more 2 1, one_more 1 2, one_more 0 3) (omega arith)
 
-  pub two_is : (i : ℕ) → number (take 2 (drop i s)) ≡ get_or s i 0 + get_or s (suc i) 0 * 256
-  two_is i = rw (one_more 1 i, one_more 0 (suc i)) (omega arith)
-
-  pub four_is : (i : ℕ) → number (take 4 (drop i s)) ≡ number (take 2 (drop i s)) + number (take 2 (drop (i + 2) s)) * 65536
-  four_is i = let e : i + 2 ≡ suc (suc i) = omega arith in rw (e, one_more 3 i, one_more 2 (suc i), two_is i) (omega arith)
-
   pub eight_is : after 8 s ≡ number (take 4 (drop 1 s)) + number (take 4 (drop 5 s)) * 0x100000000
   unfolding after
   eight_is = rw (one_more 7 1, one_more 6 2, one_more 5 3, one_more 4 4, one_more 3 1, one_more 2 2, one_more 1 3, one_more 0 4) (omega arith)

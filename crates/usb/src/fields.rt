@@ -7,7 +7,7 @@ ghost use Rattle.usb.specs.Fields.{token_of, split_of, setup_data_of, setup_of, 
 pub fn pair(a: u8, b: u8) -> u16
     ensures { result ≡ a + b * 256 }
 {
-    a as u16 + b as u16 * 256
+    u16::from_le_bytes([a, b])
 }
 
 // The two bytes after the PID as one number.
@@ -23,7 +23,7 @@ pub fn three(packet: &[u8]) -> u32
     requires { 4 ≤ length packet.now }
     ensures { result ≡ after 3 packet.now }
 {
-    pair(packet[1], packet[2]) as u32 + pair(packet[3], 0) as u32 * 65536
+    u32::from_le_bytes([packet[1], packet[2], packet[3], 0])
 }
 
 // What an OUT, IN, SETUP or PING packet names: `TokenFields` of the Rust.
@@ -57,7 +57,7 @@ pub struct Setup {
 fn byte(packet: &[u8], i: usize) -> u8
     ensures { result ≡ get_or packet.now i 0 }
 {
-    if i < packet.len() { packet[i] } else { 0 }
+    packet.get(i).copied().unwrap_or(0)
 }
 
 // Two bytes from place i on as one number.
@@ -73,7 +73,12 @@ fn four_from(packet: &[u8], i: usize) -> u32
     requires { i < 6 }
     ensures { result ≡ number (take 4 (drop i packet.now)) }
 {
-    two_from(packet, i) as u32 + two_from(packet, i + 2) as u32 * 65536
+    u32::from_le_bytes([
+        byte(packet, i),
+        byte(packet, i + 1),
+        byte(packet, i + 2),
+        byte(packet, i + 3),
+    ])
 }
 
 pub fn token_of(packet: &[u8]) -> Token

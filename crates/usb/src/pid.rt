@@ -1,5 +1,6 @@
 // PIDs, as the first byte of a packet has them (USB 2.0, 8.3.1 and table 8-1): the low nibble is the number in the table, the high one its complement. These are names
 // for the code; the test of a first byte is `format` (lib.rt), by nibbles.
+// Stays: numbers, since 01 asks for the last and the next PID as local numbers with a match over each (transaction, split.rt).
 pub const OUT: u8 = 0xE1;
 
 pub const IN: u8 = 0x69;

@@ -9,7 +9,6 @@ ghost use Rattle.std.specs.Prelude.{◌*◌, ◌≤◌, ◌<◌};
 
 use std::io;
 use std::io::Write;
-use usb::Checked;
 
 fn put(rt: &impl Print, text: &[u8]) -> io::Result<()> {
     io::writer(rt).write_all(text)
@@ -45,27 +44,17 @@ fn count_line(rt: &impl Print, name: &[u8], computed: u64, expected: u64) -> io:
 
 // Bits as USB 2.0 prints them, in the order of sending: the first bit sent is the leftmost there and the lowest of the number here.
 fn sent(text: &[u8]) -> u64 {
-    let mut value: u64 = 0;
-    let mut i = text.len();
-    while 0 < i {
-        i -= 1;
-        value = value << 1 ^ (text[i] % 2) as u64;
-    }
-    value
+    text.iter()
+        .rev()
+        .fold(0, |value, digit| value << 1 ^ (*digit % 2) as u64)
 }
 
 // The n low bits of x, in the order of sending.
 fn put_bits(rt: &impl Print, x: u64, n: usize) -> io::Result<()> {
     let mut rest = x;
-    let mut left = n;
-    while 0 < left {
-        if rest % 2 == 0 {
-            put(rt, b"0")?;
-        } else {
-            put(rt, b"1")?;
-        }
-        rest = rest / 2;
-        left -= 1;
+    for _ in 0..n {
+        put(rt, if rest % 2 == 0 { b"0" } else { b"1" })?;
+        rest /= 2;
     }
     Ok(())
 }
@@ -82,11 +71,7 @@ fn bits_line(rt: &impl Print, name: &[u8], computed: u64, published: &[u8]) -> i
 
 // The PID byte of a valid packet, and 0 for a malformed one.
 fn answer(packet: &[u8]) -> u8 {
-    let checked = usb::check(packet);
-    match checked {
-        Checked::Valid(pid) => pid,
-        Checked::Malformed(_) => 0,
-    }
+    usb::check(packet).unwrap_or(0)
 }
 
 // The answer to the first n bytes.
@@ -101,8 +86,7 @@ fn damaged(packet: [u8; 11], n: usize, bit: usize) -> u8
     requires { (n ≤ 11) × (bit < n * 8) }
 {
     let mut bytes = packet;
-    let i = bit / 8;
-    bytes[i] = bytes[i] ^ 1 << bit % 8;
+    bytes[bit / 8] ^= 1 << bit % 8;
     answer_first(bytes, n)
 }
 
@@ -110,15 +94,9 @@ fn damaged(packet: [u8; 11], n: usize, bit: usize) -> u8
 fn refused(packet: [u8; 11], n: usize) -> u64
     requires { n ≤ 11 }
 {
-    let mut count: u64 = 0;
-    let mut bit: usize = 0;
-    while bit < n * 8 {
-        if damaged(packet, n, bit) == 0 {
-            count += 1;
-        }
-        bit += 1;
-    }
-    count
+    (0..n * 8)
+        .filter(|bit| damaged(packet, n, *bit) == 0)
+        .count() as u64
 }
 
 // A packet is valid, and no packet that differs from it in one bit is.

@@ -49,16 +49,12 @@ pub fn group_row(
     let s = d.states;
     let start_byte = d.firsts.statebytes + m as u64;
     states::add_endpoint_state(statebytes, m, table, n, x, start);
-    rows::put1(states, s, start_byte);
+    rows::put(states, s, &[start_byte]);
     let stamp = d.stamp;
-    rows::put5(
+    rows::put(
         groups,
         g * width::GROUP,
-        x as u64,
-        nth,
-        entry::flag_word(start),
-        stamp.packet,
-        stamp.time,
+        &[x as u64, nth, u64::from(start), stamp.packet, stamp.time],
     );
     let mut d = d;
     d.groups = g + 1;
@@ -72,12 +68,11 @@ pub fn put_transaction(on: bool, transactions: &mut [u64], n: usize, stamp: Stam
     requires { n * transaction_width + length (opt on (transaction_words (naming stamp.packet stamp.reason))) ≤ length transactions.old }
     ensures { transactions.new ≡ sets transactions.old (n * transaction_width) (opt on (transaction_words (naming stamp.packet stamp.reason))) }
 {
-    rows::put2_if(
+    rows::put_if(
         on,
         transactions,
         n * width::TRANSACTION,
-        stamp.packet,
-        stamp.reason,
+        &[stamp.packet, stamp.reason],
     );
 }
 
@@ -104,7 +99,7 @@ pub fn item_row(
     let group = d.firsts.groups + d.groups as u64;
     let item = d.firsts.items + i as u64;
     let closes = phases::count_waiting(table, n);
-    rows::put1(items, i, last(group));
+    rows::put(items, i, &[last(group)]);
     phases::close_waiting(links, l, table, n, item);
     phases::clear_waiting(table, n);
     let mut d = d;
@@ -121,7 +116,7 @@ pub fn link_row(d: Written, kind: u64, x: usize, a: u64, b: u64, links: &mut [u6
     ensures links_after { links.new ≡ sets links.old (d.links * link_width) (kind ∷ x ∷ a ∷ b ∷ []) }
 {
     let l = d.links;
-    rows::put4(links, l * width::LINK, kind, x as u64, a, b);
+    rows::put(links, l * width::LINK, &[kind, x as u64, a, b]);
     let mut d = d;
     d.links = l + 1;
     d

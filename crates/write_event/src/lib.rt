@@ -80,7 +80,6 @@ pub fn event_rows(
     requires { Able row group start n id (memory d table.old groups.old statebytes.old states.old items.old links.old) }
     ensures { memory result table.new groups.new statebytes.new states.new items.new links.new ≡ event_rows row group start n id (memory d table.old groups.old statebytes.old states.old items.old links.old) }
 {
-    endpoints::entry::sized(table);
     let d = link_event(row, d, id, table, links);
     group_event(
         group, start, d, n, table, groups, statebytes, states, items, links,

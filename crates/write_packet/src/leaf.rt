@@ -21,33 +21,21 @@ use update::effect::entry_effect;
 use write::Written;
 use write::leaf::{link_row, put_transaction};
 
-// One row more, where there is one.
-fn more(on: bool, n: usize) -> usize
-    requires { plus on n < 2 ^ 64 }
-    ensures { result ≡ plus on n }
-{
-    if on { n + 1 } else { n }
-}
-
 // The transaction's T row.
 fn tied_to(t: Transaction, d: Written) -> Written
     ensures { result ≡ tied_to t d }
 {
-    let mut d = d;
-    d.linked = t.linked;
-    d.link = t.link;
-    d
+    Written {
+        linked: t.linked,
+        link: t.link,
+        ..d
+    }
 }
 
 pub fn with_written(h: Hand, d: Written) -> Hand
     ensures { result ≡ with_written d h }
 {
-    Hand {
-        written: d,
-        transactions: h.transactions,
-        devices: h.devices,
-        endpoints: h.endpoints,
-    }
+    Hand { written: d, ..h }
 }
 
 // The counts after the rows of a step that begins, and its transaction's T row.
@@ -59,9 +47,9 @@ fn opened_hand(s: Begin, h: Hand) -> Hand
 {
     Hand {
         written: tied_to(s.transaction, h.written),
-        transactions: more(s.row, h.transactions),
-        devices: more(s.device, h.devices),
-        endpoints: more(s.endpoint, h.endpoints),
+        transactions: h.transactions + usize::from(s.row),
+        devices: h.devices + usize::from(s.device),
+        endpoints: h.endpoints + usize::from(s.endpoint),
     }
 }
 
@@ -92,14 +80,12 @@ pub fn open_rows(
     let n = h.endpoints;
     let number = s.number;
     put_transaction(s.row, transactions, h.transactions, h.written.stamp);
-    rows::put1_if(s.device, devices, h.devices, s.owner as u64);
-    rows::put3_if(
+    rows::put_if(s.device, devices, h.devices, &[s.owner as u64]);
+    rows::put_if(
         s.endpoint,
         endpoints,
         n * width::ENDPOINT,
-        s.place as u64,
-        (number % 128) as u64,
-        (number / 128) as u64,
+        &[s.place as u64, (number % 128) as u64, (number / 128) as u64],
     );
     entry_if(s.endpoint, n, s.place, number, table);
     r
@@ -112,7 +98,7 @@ fn device_row(address: u8, h: Hand, devices: &mut [u64]) -> Hand
     ensures devices_after { devices.new ≡ sets devices.old h.devices (address ∷ []) }
 {
     let n = h.devices;
-    rows::put1(devices, n, address as u64);
+    rows::put(devices, n, &[address as u64]);
     let mut h = h;
     h.devices = n + 1;
     h
@@ -174,9 +160,8 @@ pub fn take_effect(
     ensures { OnEffect (effect_desk effect x) h table.old devices.old links.old result table.new devices.new links.new }
 {
     match effect {
-        Effect::NoEffect => h,
+        Effect::NoEffect | Effect::Request(_) => h,
         Effect::NewDevice(address) => device_row(address, h, devices),
-        Effect::Request(_) => h,
         Effect::PendingData(n) => {
             note(Effect::PendingData(n), x, h.written.link, table);
             h

@@ -46,7 +46,6 @@ fn open_group(
     requires room { Room (opened u n x id (memory d table.old groups.old statebytes.old states.old items.old links.old)) }
     ensures { memory result table.new groups.new statebytes.new states.new items.new links.new ≡ opened u n x id (memory d table.old groups.old statebytes.old states.old items.old links.old) }
 {
-    endpoints::entry::sized(table);
     steps::over_if(u.over, x, table);
     let d = steps::end_row_if(u.cut, d, n, x, table, groups, statebytes, states);
     let d = steps::link_if(u.link, d, x, id, table, links);

@@ -4,7 +4,7 @@ use lib.ListN.{drop}
 use Rattle.crc.specs.Crc.{generator16, ones16, bytes}
 use Rattle.crc.proofs.Words.{take-turn, start-turn}
 use Rattle.crc.proofs.FourWords.{start4, words}
-use Prim.Native.Nat.{ℕ, ◌-◌}
+use Prim.Native.Nat.{ℕ}
 use Rattle.crc.proofs.by_lanes.Goals as goal
 
 pub returns-then-n-lt32 : goal.returns-then-n-lt32

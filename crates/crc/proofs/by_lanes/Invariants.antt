@@ -1,10 +1,8 @@
-use mathlib.Core.Path.{◌≡◌, ap, ◌∙◌}
+use mathlib.Core.Path.{◌≡◌}
 use lib.ListN.{drop}
 use Rattle.crc.specs.Crc.{generator16, ones16, bytes}
 use Rattle.crc.specs.Fast.{four}
-use Rattle.crc.proofs.Words.{take-turn, start-turn}
-use Rattle.crc.proofs.FourWords.{start4, words}
-use Prim.Native.Nat.{ℕ, ◌-◌, ◌≤◌}
+use Prim.Native.Nat.{◌-◌, ◌≤◌}
 use Rattle.crc.proofs.by_lanes.Given as goal
 
 abbrev pub invariant-loop-i : goal.invariant-loop-i

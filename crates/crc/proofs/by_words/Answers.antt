@@ -2,7 +2,6 @@ use Rattle.std.proofs.Common.{rules}
 use mathlib.Core.Path.{◌∙◌}
 use Rattle.crc.specs.Crc.{generator16}
 use Rattle.crc.proofs.Words.{take-turn, fold-turn}
-use Prim.Native.Nat.{◌-◌}
 use Rattle.crc.proofs.by_words.Goals as goal
 
 pub loop-i-preserved : goal.loop-i-preserved

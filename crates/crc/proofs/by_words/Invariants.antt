@@ -1,7 +1,6 @@
-use mathlib.Core.Path.{◌≡◌, refl, ◌∙◌}
+use mathlib.Core.Path.{◌≡◌}
 use lib.ListN.{drop}
 use Rattle.crc.specs.Crc.{generator16, bits, bytes}
-use Rattle.crc.proofs.Words.{take-turn, fold-turn}
 use Prim.Native.Nat.{◌-◌, ◌≤◌}
 use Rattle.crc.proofs.by_words.Given as goal
 

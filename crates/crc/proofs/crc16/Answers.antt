@@ -5,7 +5,6 @@ use Rattle.crc.specs.Crc.{generator16, ones16, bytes, crc16_of}
 use Rattle.crc.proofs.Words.{bytes_lt}
 use Prim.Native.Nat.{ℕ}
 use Rattle.crc.proofs.crc16.Goals as goal
-use Rattle.std.proofs.Common.{◌<◌, ◌-◌}
 
 pub inverted-requires : goal.inverted-requires
 inverted-requires c = let few : c.by_bytes.result ≡ bytes generator16 ones16 c.args.s.now = c.by_bytes.ensures in

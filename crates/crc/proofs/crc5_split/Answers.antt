@@ -1,4 +1,3 @@
-use Prim.Native.Nat.{◌<◌}
 use lib.Dec.{lit<}
 use Rattle.crc.specs.Crc.{step, bits}
 use Rattle.crc.proofs.Linear.{id, ◌⊕◌, ◌▹◌, low, shr}

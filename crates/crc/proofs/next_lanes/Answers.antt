@@ -5,7 +5,6 @@ use lib.ListN.{drop}
 use Rattle.crc.specs.Crc.{generator16, bytes}
 use Rattle.crc.proofs.FourWords.{next4, words}
 use Rattle.crc.proofs.next_lanes.Goals as goal
-use Rattle.std.proofs.Common.{◌-◌}
 
 pub returns : goal.returns
 returns c = let three = c in

@@ -3,7 +3,6 @@ use Rattle.crc.specs.Crc.{generator16}
 use Rattle.crc.specs.Fast.{four}
 use Rattle.crc.proofs.Words.{fold_into}
 use Rattle.crc.proofs.one_word.Goals as goal
-use Rattle.std.proofs.Common.{◌-◌}
 
 pub returns : goal.returns
 unfolding four

@@ -2,7 +2,6 @@ use mathlib.Core.Path.{sym, ap, ◌∙◌}
 use Rattle.crc.specs.Crc.{generator16, bits, bytes}
 use Rattle.crc.proofs.Bytes.{eight}
 use Rattle.crc.proofs.word.Goals as goal
-use Rattle.std.proofs.Common.{◌-◌}
 
 pub returns : goal.returns
 unfolding bits bytes

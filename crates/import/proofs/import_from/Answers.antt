@@ -1,10 +1,9 @@
-use Prim.Native.Nat.{◌-◌, ◌^◌, ◌<◌}
+use Prim.Native.Nat.{◌^◌, ◌<◌}
 use native.Mathlib.Omega.{arith}
 use borrow.Author.Tests.{not-true, not-false}
-use mathlib.Core.Path.{◌≡◌, refl, ◌∙◌}
-use lib.ListN.{length}
+use mathlib.Core.Path.{refl}
 use Rattle.rows.proofs.WidthsLaws.{each-log}
-use Rattle.call.specs.State.{State, state, Logs, logs}
+use Rattle.call.specs.State.{State, state, logs}
 use Rattle.call.proofs.StateLaws.{SameSizes}
 use Rattle.stream.proofs.Rounding.{fits_by}
 use Rattle.import.proofs.Importing.{importing-start, imports-from, importing-counts, importing_stops, importing_further, importing-more}

@@ -1,8 +1,8 @@
-use Rattle.std.specs.Prelude.{◌-◌, ◌≤◌, ◌≡◌, length}
+use Rattle.std.specs.Prelude.{◌-◌, ◌≤◌, length}
 use Rattle.listing.proofs.read_input.Given as goal
 
 abbrev pub invariant-loop-len : goal.invariant-loop-len
-invariant-loop-len _ l = (length l.buf ≡ length l.initial.buf) × (l.len ≤ length l.buf)
+invariant-loop-len _ l = l.len ≤ length l.buf
 
 abbrev pub decreases-loop-len : goal.decreases-loop-len
 decreases-loop-len _ l = length l.buf - l.len

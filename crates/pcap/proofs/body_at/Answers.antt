@@ -2,7 +2,6 @@ use Rattle.std.proofs.Common.{arith}
 use Rattle.pcap.proofs.Cases.{cut_short, cut-other, too-late}
 use Rattle.pcap.proofs.PcapLaws.{packet_of}
 use Rattle.pcap.proofs.body_at.Goals as goal
-use Rattle.std.proofs.Common.{◌-◌}
 
 pub returns-then-left-lt-RECORD : goal.returns-then-left-lt-RECORD
 returns-then-left-lt-RECORD c = let a = c.args in cut_short a.f a.file.now a.at (omega arith)

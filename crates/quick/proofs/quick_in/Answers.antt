@@ -12,7 +12,7 @@ use Rattle.record.specs.RoomLaws.{Short}
 use Rattle.record.specs.declared.Decoder.{Decoder}
 use Rattle.call.proofs.OutcomeLaws.{sound}
 use Rattle.call.specs.Share.{Known}
-use Rattle.call.specs.State.{Logs, State, state, logs, room_of}
+use Rattle.call.specs.State.{Logs, state, logs, room_of}
 use Rattle.decide.specs.Ready.{ready}
 use Rattle.decide.specs.declared.near.Near.{Near}
 use Rattle.tally.proofs.Bounds.{looser, sums-room, countable_by}
@@ -25,7 +25,7 @@ use Rattle.quick.proofs.BeginOnly.{begin-asks, begin-rows, begin-more, begin_by}
 use Rattle.quick.proofs.Rest.{begins-plan}
 use Rattle.quick.proofs.CloseOnly.{close_small, close-only-call, close-only-asks, close-only-rows, close-counted}
 use Rattle.quick.proofs.LightCall.{there, light-count, light-room, light_by}
-use Rattle.quick.proofs.Quick.{Meets, begin-lent, close-lent, light-lent, BeginTaken, begin-taken, CloseTaken, close-taken, LightTaken, light-taken, kept_parts}
+use Rattle.quick.proofs.Quick.{Meets, begin-lent, close-lent, light-lent, begin-taken, close-taken, light-taken, kept_parts}
 use Rattle.quick.proofs.quick_in.Goals as goal
 
 -- what is known of devices that quick_in could be lent
@@ -52,11 +52,13 @@ begin_fits-requires c =
 
 pub begin_only-decoder-requires : goal.begin_only-decoder-requires
 begin_only-decoder-requires c =
+    let known : Known c.args.table.now = record { size = c.told-table; words = c.fits-table } in
+    let byte : get_or c.args.packet.now 0 0 < 256 = search rules in
     let l = logs c.args.bytes.now c.args.device_rows.now c.args.endpoint_rows.now c.args.packets.now c.args.events.now c.args.transactions.now c.args.groups.now c.args.statebytes.now c.args.states.now c.args.items.now c.args.links.now c.args.requests.now in
     let token : start_pid c.args.d.transaction.style < 256 = search rules in
     let v = c.requires.some_lent.devices in
     let h = c.requires.some_lent.lent in
-    let b = begin-taken c.args.packet.now (state c.args.d v c.args.table.now l) c.shape_of-q.result (meets h c.requires.finished_value c.requires.packet_len_bound c.known.ensures token (c.bytes_known.ensures 0)) (c.shape_of-q.ensures v h.seen) c.held_of-rows.ensures c.room_of-room.ensures c.begin_fits.ensures c.if-q-begin_fits.true in
+    let b = begin-taken c.args.packet.now (state c.args.d v c.args.table.now l) c.shape_of-q.result (meets h c.requires.finished_value c.requires.packet_len_bound known token byte) (c.shape_of-q.ensures v h.seen) c.held_of-rows.ensures c.room_of-room.ensures c.begin_fits.ensures c.if-q-begin_fits.true in
     let p = begins-plan c.args.packet.now c.args.time (state c.args.d v c.args.table.now l) b.enters b.plan b.kept b.fits in
     let q = c.shape_of-q.result in
     let x = begin-asks c.args.packet.now c.args.time (state c.args.d v c.args.table.now l) b.enters p in
@@ -75,6 +77,8 @@ begin_only-decoder-requires c =
 
 pub returns-then-q-begin_fits : goal.returns-then-q-begin_fits
 returns-then-q-begin_fits c =
+    let known : Known c.args.table.now = record { size = c.told-table; words = c.fits-table } in
+    let byte : get_or c.args.packet.now 0 0 < 256 = search rules in
     let l = logs c.args.bytes.now c.args.device_rows.now c.args.endpoint_rows.now c.args.packets.now c.args.events.now c.args.transactions.now c.args.groups.now c.args.statebytes.now c.args.states.now c.args.items.now c.args.links.now c.args.requests.now in
     let token : start_pid c.args.d.transaction.style < 256 = search rules in
     let e = c.no_change-none.ensures in
@@ -82,7 +86,7 @@ returns-then-q-begin_fits c =
     record {
       placed = none-placed c.args.packet.now c.args.requests.now e;
       for_lent = λ v h shelf.
-          let b = begin-taken c.args.packet.now (state c.args.d v c.args.table.now l) c.shape_of-q.result (meets h c.requires.finished_value c.requires.packet_len_bound c.known.ensures token (c.bytes_known.ensures 0)) (c.shape_of-q.ensures v h.seen) c.held_of-rows.ensures c.room_of-room.ensures c.begin_fits.ensures c.if-q-begin_fits.true in
+          let b = begin-taken c.args.packet.now (state c.args.d v c.args.table.now l) c.shape_of-q.result (meets h c.requires.finished_value c.requires.packet_len_bound known token byte) (c.shape_of-q.ensures v h.seen) c.held_of-rows.ensures c.room_of-room.ensures c.begin_fits.ensures c.if-q-begin_fits.true in
           kept_parts c.args.packet.now c.args.time (state c.args.d v c.args.table.now l) shelf e
           (begin_by c.args.packet.now c.args.time (state c.args.d v c.args.table.now l) b.enters (begins-plan c.args.packet.now c.args.time (state c.args.d v c.args.table.now l) b.enters b.plan b.kept b.fits) c.held_of-rows.ensures w.value w.table_after w.bytes_after w.packets_after w.transactions_after w.links_after shelf) refl refl;
     }
@@ -97,11 +101,13 @@ light_fits-requires c =
 
 pub light_only-decoder-requires : goal.light_only-decoder-requires
 light_only-decoder-requires c =
+    let known : Known c.args.table.now = record { size = c.told-table; words = c.fits-table } in
+    let byte : get_or c.args.packet.now 0 0 < 256 = search rules in
     let l = logs c.args.bytes.now c.args.device_rows.now c.args.endpoint_rows.now c.args.packets.now c.args.events.now c.args.transactions.now c.args.groups.now c.args.statebytes.now c.args.states.now c.args.items.now c.args.links.now c.args.requests.now in
     let token : start_pid c.args.d.transaction.style < 256 = search rules in
     let v = c.requires.some_lent.devices in
     let h = c.requires.some_lent.lent in
-    let b = light-taken c.args.packet.now (state c.args.d v c.args.table.now l) c.shape_of-q.result c.args.near.old (meets h c.requires.finished_value c.requires.packet_len_bound c.known.ensures token (c.bytes_known.ensures 0)) (c.shape_of-q.ensures v h.seen) c.held_of-rows.ensures c.room_of-room.ensures h.seen.old c.end_by-end.ensures c.light_fits.ensures c.if-q-light_fits.true in
+    let b = light-taken c.args.packet.now (state c.args.d v c.args.table.now l) c.shape_of-q.result c.args.near.old (meets h c.requires.finished_value c.requires.packet_len_bound known token byte) (c.shape_of-q.ensures v h.seen) c.held_of-rows.ensures c.room_of-room.ensures h.seen.old c.end_by-end.ensures c.light_fits.ensures c.if-q-light_fits.true in
     let end = c.end_by-end.result in
     let r = close-only-rows c.args.packet.now c.args.time (state c.args.d v c.args.table.now l) b.enters b.plan b.fits in
     let the_rest = light-lent c.args.packet.now (state c.args.d v c.args.table.now l) (link_rows end.update end.effect) c.held_of-rows.ensures r.0 r.1 (light-room c.args.packet.now c.args.time (state c.args.d v c.args.table.now l) b.enters b.plan b.fits b.light b.entry) in
@@ -118,6 +124,8 @@ light_only-decoder-requires c =
 
 pub returns-then-q-light_fits : goal.returns-then-q-light_fits
 returns-then-q-light_fits c =
+    let known : Known c.args.table.now = record { size = c.told-table; words = c.fits-table } in
+    let byte : get_or c.args.packet.now 0 0 < 256 = search rules in
     let l = logs c.args.bytes.now c.args.device_rows.now c.args.endpoint_rows.now c.args.packets.now c.args.events.now c.args.transactions.now c.args.groups.now c.args.statebytes.now c.args.states.now c.args.items.now c.args.links.now c.args.requests.now in
     let token : start_pid c.args.d.transaction.style < 256 = search rules in
     let e = c.no_change-none.ensures in
@@ -125,34 +133,38 @@ returns-then-q-light_fits c =
     record {
       placed = none-placed c.args.packet.now c.args.requests.now e;
       for_lent = λ v h shelf.
-          let b = light-taken c.args.packet.now (state c.args.d v c.args.table.now l) c.shape_of-q.result c.args.near.old (meets h c.requires.finished_value c.requires.packet_len_bound c.known.ensures token (c.bytes_known.ensures 0)) (c.shape_of-q.ensures v h.seen) c.held_of-rows.ensures c.room_of-room.ensures h.seen.old c.end_by-end.ensures c.light_fits.ensures c.if-q-light_fits.true in
+          let b = light-taken c.args.packet.now (state c.args.d v c.args.table.now l) c.shape_of-q.result c.args.near.old (meets h c.requires.finished_value c.requires.packet_len_bound known token byte) (c.shape_of-q.ensures v h.seen) c.held_of-rows.ensures c.room_of-room.ensures h.seen.old c.end_by-end.ensures c.light_fits.ensures c.if-q-light_fits.true in
           kept_parts c.args.packet.now c.args.time (state c.args.d v c.args.table.now l) shelf e
           (light_by c.args.packet.now c.args.time (state c.args.d v c.args.table.now l) b.enters b.plan b.fits b.light b.entry b.kept w.style_bound c.held_of-rows.ensures w.value w.table_after w.bytes_after w.packets_after w.links_after shelf) refl refl;
     }
 
-pub close_of-c-requires : goal.close_of-c-requires
-close_of-c-requires c =
+pub close_of-requires : goal.close_of-requires
+close_of-requires c =
     let h = c.requires.some_lent.lent in
     let w = well h in
     record { len_bound = c.requires.packet_len_bound; waiting_bound = waiting_few w; endpoints_bound = w.counts.few_endpoints; countable = countable_by w (brief h) c.held_of-rows.ensures }
 
 pub close_only-decoder-requires : goal.close_only-decoder-requires
 close_only-decoder-requires c =
+    let known : Known c.args.table.now = record { size = c.told-table; words = c.fits-table } in
+    let byte : get_or c.args.packet.now 0 0 < 256 = search rules in
     let l = logs c.args.bytes.now c.args.device_rows.now c.args.endpoint_rows.now c.args.packets.now c.args.events.now c.args.transactions.now c.args.groups.now c.args.statebytes.now c.args.states.now c.args.items.now c.args.links.now c.args.requests.now in
     let token : start_pid c.args.d.transaction.style < 256 = search rules in
     let v = c.requires.some_lent.devices in
     let h = c.requires.some_lent.lent in
-    let b = close-taken c.args.packet.now (state c.args.d v c.args.table.now l) c.shape_of-q.result c.args.near.old (meets h c.requires.finished_value c.requires.packet_len_bound c.known.ensures token (c.bytes_known.ensures 0)) (c.shape_of-q.ensures v h.seen) c.held_of-rows.ensures c.room_of-room.ensures h.seen.old c.end_by-end.ensures c.close_of-c.ensures c.if-c.true in
+    let b = close-taken c.args.packet.now (state c.args.d v c.args.table.now l) c.shape_of-q.result c.args.near.old (meets h c.requires.finished_value c.requires.packet_len_bound known token byte) (c.shape_of-q.ensures v h.seen) c.held_of-rows.ensures c.room_of-room.ensures h.seen.old c.end_by-end.ensures c.in-Some.ensures in
     let r = close-only-rows c.args.packet.now c.args.time (state c.args.d v c.args.table.now l) b.enters b.plan b.fits in
     let w = well h in
     let end = c.end_by-end.result in
-    let the_rest = close-lent c.args.packet.now c.args.time (state c.args.d v c.args.table.now l) c.shape_of-q.result.closes c.room_of-room.result c.shape_of-q.result.transaction c.held_of-rows.ensures c.close_of-c.ensures
+    let the_rest = close-lent c.args.packet.now c.args.time (state c.args.d v c.args.table.now l) c.shape_of-q.result.closes c.room_of-room.result c.shape_of-q.result.transaction c.held_of-rows.ensures c.in-Some.ensures
     (sums-room (close_tally end _ c.args.d) (room_of l) (countable_by w (brief h) refl) (looser (close_small end _ c.args.d c.requires.packet_len_bound (waiting_few w) w.counts.few_endpoints) _ (omega arith)) b.fits.fits)
     r.0 r.1 (λ on. close-only-asks c.args.packet.now c.args.time (state c.args.d v c.args.table.now l) b.enters b.plan b.fits) in
     record { sums = the_rest.0; packet_in_bounds = the_rest.1.0; packet_width_in_bounds = the_rest.1.1.0; ends_if = the_rest.1.1.1 }
 
-pub returns-then-c : goal.returns-then-c
-returns-then-c c =
+pub returns-in-Some : goal.returns-in-Some
+returns-in-Some c =
+    let known : Known c.args.table.now = record { size = c.told-table; words = c.fits-table } in
+    let byte : get_or c.args.packet.now 0 0 < 256 = search rules in
     let l = logs c.args.bytes.now c.args.device_rows.now c.args.endpoint_rows.now c.args.packets.now c.args.events.now c.args.transactions.now c.args.groups.now c.args.statebytes.now c.args.states.now c.args.items.now c.args.links.now c.args.requests.now in
     let token : start_pid c.args.d.transaction.style < 256 = search rules in
     let e = c.no_change-none.ensures in
@@ -161,11 +173,11 @@ returns-then-c c =
     record {
       placed = none-placed c.args.packet.now c.args.requests.now e;
       for_lent = λ v h shelf.
-          let b = close-taken c.args.packet.now (state c.args.d v c.args.table.now l) c.shape_of-q.result c.args.near.old (meets h c.requires.finished_value c.requires.packet_len_bound c.known.ensures token (c.bytes_known.ensures 0)) (c.shape_of-q.ensures v h.seen) c.held_of-rows.ensures c.room_of-room.ensures h.seen.old c.end_by-end.ensures c.close_of-c.ensures c.if-c.true in
+          let b = close-taken c.args.packet.now (state c.args.d v c.args.table.now l) c.shape_of-q.result c.args.near.old (meets h c.requires.finished_value c.requires.packet_len_bound known token byte) (c.shape_of-q.ensures v h.seen) c.held_of-rows.ensures c.room_of-room.ensures h.seen.old c.end_by-end.ensures c.in-Some.ensures in
           kept_parts c.args.packet.now c.args.time (state c.args.d v c.args.table.now l) shelf e
           (close-only-call c.args.packet.now c.args.time (state c.args.d v c.args.table.now l) b.enters b.plan b.fits b.kept
           (c.close_only-decoder.ensures v c.args.endpoint_rows.now c.args.events.now c.args.transactions.now c.args.requests.now c.held_of-rows.ensures
-          ∙ close-counted q.transaction end c.args.packet.now c.args.time (state c.args.d v c.args.table.now l) q.closes c.held_of-rows.result c.room_of-room.result c.close_of-c.ensures)
+          ∙ close-counted q.transaction end c.args.packet.now c.args.time (state c.args.d v c.args.table.now l) q.closes c.held_of-rows.result c.room_of-room.result c.in-Some.ensures)
           shelf) refl refl;
     }
 

@@ -1,3 +1,4 @@
+use mathlib.Core.Logic.{inl, inr}
 use mathlib.Core.Path.{refl, sym, ap, ◌∙◌}
 use Rattle.trace.specs.Trace.{answer_of}
 use Rattle.step.proofs.Stepping.{packet_bounds, packet-step, event-step, detail-step, refused-step, unknown-step, cut_step, end_step}
@@ -26,13 +27,11 @@ pub returns-else-not-typed : goal.returns-else-not-typed
 returns-else-not-typed c = detail-step c.if-not-typed.false (sym c.requires ∙ c.in-Detail.is) c.detail-r.ensures refl c.went-in-Detail.ensures
 
 pub returns-in-Unknown : goal.returns-in-Unknown
-returns-in-Unknown c = let told = c.in-Unknown.is in
-    unknown-step (sym c.requires ∙ told) (c.answer.ensures ∙ ap answer_of told) c.over-in-Unknown.ensures
-
-pub returns-in-Cut : goal.returns-in-Cut
-returns-in-Cut c = let told = c.in-Cut.is in
-    cut_step (sym c.requires ∙ told) (c.answer-in-Cut.ensures ∙ ap answer_of told) c.over-in-Cut.ensures
-
-pub returns-in-End : goal.returns-in-End
-returns-in-End c = let told = c.in-End.is in
-    end_step (sym c.requires ∙ told) (c.answer-in-End.ensures ∙ ap answer_of told) c.over-in-End.ensures
+returns-in-Unknown c =
+    elim c.in-Unknown.is [
+      | inl told ↦ unknown-step (sym c.requires ∙ told) (c.answer.ensures ∙ ap answer_of told) c.over-in-Unknown.ensures
+      | inr rest ↦ elim rest [
+        | inl told ↦ cut_step (sym c.requires ∙ told) (c.answer.ensures ∙ ap answer_of told) c.over-in-Unknown.ensures
+        | inr told ↦ end_step (sym c.requires ∙ told) (c.answer.ensures ∙ ap answer_of told) c.over-in-Unknown.ensures
+      ]
+    ]

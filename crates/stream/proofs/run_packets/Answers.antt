@@ -94,7 +94,7 @@ slice_bounds-shelve-end-then-is_change c =
 pub shelve-s-requires : goal.shelve-s-requires
 shelve-s-requires c =
     let h = c.quick_in-r.ensures.placed in
-    let l = c.sized.ensures in
+    let l = c.told-shelf in
     record { in_bounds = omega (arith, l); device_bound = h.device; place_bound = h.owner; long_if = h.long }
 
 pub put_request-requires : goal.put_request-requires

@@ -1,7 +1,11 @@
 use Rattle.tally.specs.Tallies.{tally_ending}
+use Rattle.std.proofs.Common.{rules}
 use Rattle.tally.proofs.tally_ending.Goals as goal
-use Rattle.std.proofs.Common.{◌-◌}
+
+pub returns-then-not-e : goal.returns-then-not-e
+unfolding tally_ending
+returns-then-not-e c = search rules
 
 pub returns : goal.returns
 unfolding tally_ending
-returns c = rw c.tally_none-t.ensures at c.tally_end_if.ensures
+returns c = search rules

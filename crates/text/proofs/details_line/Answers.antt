@@ -3,8 +3,6 @@ use mathlib.Core.Path.{refl}
 use borrow.Author.Tests.{ne_eqb}
 use Rattle.text.specs.Lines as lines
 use Rattle.text.proofs.details_line.Goals as goal
-use Rattle.std.proofs.Common.{◌-◌}
-use Rattle.text.specs.Numbers as numbers
 
 pub returns-then-n-eq0 : goal.returns-then-n-eq0
 unfolding lines.details_line

@@ -2,8 +2,6 @@ use mathlib.Core.List.{◌++◌}
 use Rattle.text.specs.Lines as lines
 use Rattle.text.proofs.Appends.{room-first, room-second, room-third, then-third}
 use Rattle.text.proofs.line.Goals as goal
-use Rattle.std.proofs.Common.{◌+◌, ◌-◌}
-use Rattle.text.specs.Numbers as numbers
 
 pub word-next-requires : goal.word-next-requires
 unfolding lines.line

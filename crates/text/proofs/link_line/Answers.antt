@@ -1,8 +1,6 @@
 use borrow.Author.Tests.{ne_eqb}
 use Rattle.text.specs.Lines as lines
 use Rattle.text.proofs.link_line.Goals as goal
-use Rattle.std.proofs.Common.{◌-◌}
-use Rattle.text.specs.Numbers as numbers
 
 pub line-requires : goal.line-requires
 unfolding lines.link_line

@@ -1,8 +1,6 @@
 use borrow.Author.Tests.{ne_eqb}
 use Rattle.text.specs.Lines as lines
 use Rattle.text.proofs.note_end.Goals as goal
-use Rattle.std.proofs.Common.{◌-◌}
-use Rattle.text.specs.Numbers as numbers
 
 pub line-requires : goal.line-requires
 unfolding lines.note_end

@@ -3,8 +3,6 @@ use Rattle.text.specs.Words as words
 use Rattle.text.specs.Lines as lines
 use Rattle.text.proofs.Appends.{room-first, room_next, then}
 use Rattle.text.proofs.refused_line.Goals as goal
-use Rattle.std.proofs.Common.{◌-◌}
-use Rattle.text.specs.Numbers as numbers
 
 pub line-next-requires : goal.line-next-requires
 unfolding lines.refused_line

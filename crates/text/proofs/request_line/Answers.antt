@@ -5,8 +5,6 @@ use Rattle.text.specs.Lines as lines
 use Rattle.text.specs.Numbers.{decimal, hex_setup}
 use Rattle.text.proofs.Appends.{room-first, room-second, room-before-last, room-last, then-last}
 use Rattle.text.proofs.request_line.Goals as goal
-use Rattle.std.proofs.Common.{◌+◌, ◌-◌}
-use Rattle.text.specs.Numbers as numbers
 
 pub line-next-requires : goal.line-next-requires
 unfolding lines.request_line

@@ -4,8 +4,6 @@ use Rattle.text.specs.Lines as lines
 use Rattle.text.specs.Numbers.{letter}
 use Rattle.text.proofs.Appends.{room-first, room-second, room-third, then-third}
 use Rattle.text.proofs.state_line.Goals as goal
-use Rattle.std.proofs.Common.{◌+◌, ◌-◌}
-use Rattle.text.specs.Numbers as numbers
 
 pub line-next-requires : goal.line-next-requires
 unfolding lines.state_line

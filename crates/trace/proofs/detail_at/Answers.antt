@@ -2,7 +2,6 @@ use Rattle.trace.specs.Trace.{detail_at}
 use Rattle.std.proofs.Common.{◌+◌, ◌<◌, ◌≤◌, length, arith, le-leb}
 use borrow.Author.Tests.{lt-leb}
 use Rattle.trace.proofs.detail_at.Goals as goal
-use Rattle.std.proofs.Common.{◌-◌}
 
 pub returns-then-trace-at-lt-HEAD : goal.returns-then-trace-at-lt-HEAD
 unfolding detail_at

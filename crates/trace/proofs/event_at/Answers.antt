@@ -2,7 +2,6 @@ use Rattle.trace.specs.Trace.{event_at}
 use Rattle.std.proofs.Common.{◌+◌, ◌<◌, ◌≤◌, length, arith, le-leb}
 use borrow.Author.Tests.{lt-leb}
 use Rattle.trace.proofs.event_at.Goals as goal
-use Rattle.std.proofs.Common.{◌-◌}
 
 pub returns-then-trace-at-lt-HEAD : goal.returns-then-trace-at-lt-HEAD
 unfolding event_at

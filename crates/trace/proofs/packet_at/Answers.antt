@@ -2,7 +2,6 @@ use Rattle.trace.specs.Trace.{packet_at, little_endian}
 use Rattle.std.proofs.Common.{◌+◌, ◌<◌, ◌≤◌, length, arith, le-leb}
 use borrow.Author.Tests.{lt-leb}
 use Rattle.trace.proofs.packet_at.Goals as goal
-use Rattle.std.proofs.Common.{◌-◌}
 
 pub returns-then-left-lt-HEAD : goal.returns-then-left-lt-HEAD
 unfolding packet_at

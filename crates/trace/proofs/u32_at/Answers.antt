@@ -1,7 +1,6 @@
-use Rattle.std.proofs.Common.{arith}
+use Rattle.std.proofs.Common.{◌∙◌}
 use Rattle.trace.proofs.Bytes.{four}
 use Rattle.trace.proofs.u32_at.Goals as goal
-use Rattle.std.proofs.Common.{◌-◌}
 
 pub returns : goal.returns
-returns c = let s = c in omega (arith, four s.args.trace.now s.args.at s.requires, c.u16_at.ensures, c.u16_at-2.ensures)
+returns c = c.from_le_bytes.ensures ∙ four c.args.trace.now c.args.at c.requires

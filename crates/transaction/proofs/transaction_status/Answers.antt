@@ -1,6 +1,5 @@
 use Rattle.transaction.specs.Status.{transaction_status}
 use Rattle.transaction.proofs.transaction_status.Goals as goal
-use Rattle.std.proofs.Common.{◌-◌}
 
 pub returns : goal.returns
 unfolding transaction_status

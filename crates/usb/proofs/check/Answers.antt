@@ -1,14 +1,16 @@
 use mathlib.Core.Path.{sym, ◌∙◌}
+use borrow.Author.Tests.{eqb-true, eqb-false}
+use Rattle.std.proofs.lemmas.Result.{err_from_is_err_and}
 use Rattle.usb.proofs.First.{none, some}
-use borrow.Author.Tests.{eq-eqb, ne_eqb}
 use Rattle.usb.proofs.check.Goals as goal
-use Rattle.std.proofs.Common.{◌-◌}
 
-pub returns-then-packet-eq0 : goal.returns-then-packet-eq0
-returns-then-packet-eq0 c = none _ c.if-packet-eq0.true
+pub returns-then-is_empty : goal.returns-then-is_empty
+returns-then-is_empty c = none _ (eqb-true _ _ (sym c.if-is_empty.ensures))
 
-pub returns-then-why-eq-NONE : goal.returns-then-why-eq-NONE
-returns-then-why-eq-NONE c = sym (some _ c.if-packet-eq0.false ∙ simp (← c.format.ensures, ← c.format_reason-why.ensures, eq-eqb _ _ c.if-why-eq-NONE.true))
+pub returns-in_err-check_format : goal.returns-in_err-check_format
+returns-in_err-check_format c =
+    let p = err_from_is_err_and c.from_residual.result c.from_residual.ensures.1 in
+    rw (p.1, p.2) (sym (some _ (eqb-false _ _ (sym c.if-is_empty.ensures)) ∙ simp (← c.format_of.ensures, ← c.check_format.ensures, c.in_err-check_format.was)))
 
-pub returns-else-why-eq-NONE : goal.returns-else-why-eq-NONE
-returns-else-why-eq-NONE c = sym (some _ c.if-packet-eq0.false ∙ simp (← c.format.ensures, ← c.format_reason-why.ensures, ne_eqb _ _ c.if-why-eq-NONE.false))
+pub returns : goal.returns
+returns c = sym (some _ (eqb-false _ _ (sym c.if-is_empty.ensures)) ∙ simp (← c.format_of.ensures, ← c.check_format.ensures, c.in_ok-check_format.was))

@@ -14,7 +14,7 @@ link_event-d-requires c = let first : Memory = memory c.args.d c.args.table.now 
 pub group_event-requires : goal.group_event-requires
 group_event-requires c = let first : Memory = memory c.args.d c.args.table.now c.args.groups.now c.args.statebytes.now c.args.states.now c.args.items.now c.args.links.now in
     let s = c in
-    let the_rest = second-asks s.args.row s.args.group s.args.start s.args.n s.args.id (first) s.requires c.sized.ensures
+    let the_rest = second-asks s.args.row s.args.group s.args.start s.args.n s.args.id (first) s.requires c.told-table
     (memory c.link_event-d.result c.link_event-d.new.table s.args.groups.now s.args.statebytes.now s.args.states.now s.args.items.now c.link_event-d.new.links)
     (c.link_event-d.ensures s.args.groups.now s.args.statebytes.now s.args.states.now s.args.items.now) in record { n_bound = the_rest.0; on_bound = the_rest.1.0; room = the_rest.1.1 }
 

@@ -1,8 +1,7 @@
 use Rattle.endpoints.specs.Find.{found_endpoint}
 use Rattle.endpoints.specs.Table.{entry_at}
 use Rattle.decide.proofs.place.endpoint_lookup.Goals as goal
-use Rattle.std.proofs.Common.{◌-◌}
 
-pub returns-in-At : goal.returns-in-At
+pub returns : goal.returns
 unfolding entry_at found_endpoint
-returns-in-At c = simp c.in-At.is c.find_endpoint.ensures
+returns c = simp c.in_ok-device.was c.find_endpoint.ensures

@@ -3,7 +3,6 @@ use Prim.Native.Nat.{ℕ, ◌/◌, ◌%◌}
 use Rattle.details.specs.Details.{with_given}
 use Rattle.descriptors.specs.Chosen.{set_from}
 use Rattle.descriptors.proofs.choose.set_from.Goals as goal
-use Rattle.std.proofs.Common.{◌-◌}
 
 pub returns : goal.returns
 unfolding set_from

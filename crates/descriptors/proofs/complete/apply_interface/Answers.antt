@@ -1,6 +1,5 @@
 use Rattle.descriptors.proofs.CompleteLaws.{interface-unset, interface-set}
 use Rattle.descriptors.proofs.complete.apply_interface.Goals as goal
-use Rattle.std.proofs.Common.{◌-◌}
 
 pub returns-then-a-ge-UNCHOSEN : goal.returns-then-a-ge-UNCHOSEN
 returns-then-a-ge-UNCHOSEN c = let a = c.args in interface-unset a.a a.shelf.now a.device c.if-a-ge-UNCHOSEN.true

@@ -1,6 +1,5 @@
 use Rattle.descriptors.specs.Kind.{is_read}
 use Rattle.descriptors.proofs.request.is_read.Goals as goal
-use Rattle.std.proofs.Common.{◌-◌}
 
 pub returns : goal.returns
 unfolding is_read

@@ -1,6 +1,5 @@
 use Rattle.descriptors.specs.Kind.{is_set_configuration}
 use Rattle.descriptors.proofs.request.is_set_configuration.Goals as goal
-use Rattle.std.proofs.Common.{◌-◌}
 
 pub returns : goal.returns
 unfolding is_set_configuration

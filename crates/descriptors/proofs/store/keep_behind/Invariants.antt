@@ -1,15 +1,11 @@
-use borrow.Author.Tests.{not-true, not-false}
-use mathlib.Core.Path.{sym, ap}
-use native.Mathlib.Omega.{arith}
-use Prim.Native.Nat.{◌-◌}
-use lib.ListN.{length, take, drop}
-use Rattle.descriptors.specs.Entries.{unset, entries_in, entry_of}
-use Rattle.descriptors.proofs.StepLaws.{Left, left-start, left-turn, left_end, roomy, entry_length, turn_of, end_of}
+use Rattle.std.specs.Prelude.{◌-◌, length, drop}
+use Rattle.descriptors.specs.Entries.{unset, entries_in}
 use Rattle.descriptors.specs.Whole.{whole}
+use Rattle.descriptors.proofs.StepLaws.{Left}
 use Rattle.descriptors.proofs.store.keep_behind.Given as goal
 
-abbrev pub invariant-loop-s : goal.invariant-loop-s
-invariant-loop-s l = Left l.base l.kept (entries_in l.value unset (whole (drop l.from l.payload))) (entries_in l.value l.s (whole (drop l.at l.payload))) l.initial.store l.store l.n
+abbrev pub invariant-loop-step : goal.invariant-loop-step
+invariant-loop-step l = Left l.base l.kept (entries_in l.value unset (whole (drop l.from l.payload))) (entries_in l.value l.setting (whole (drop l.at l.payload))) l.initial.store l.store l.n
 
-abbrev pub decreases-loop-s : goal.decreases-loop-s
-decreases-loop-s l = length l.payload - l.at
+abbrev pub decreases-loop-step : goal.decreases-loop-step
+decreases-loop-step l = length l.payload - l.at

@@ -1,7 +1,6 @@
 use Rattle.descriptors.specs.Entries.{entry_of}
 use Rattle.descriptors.proofs.store.put_entry.Goals as goal
-use Rattle.std.proofs.Common.{◌-◌}
 
 pub returns : goal.returns
 unfolding entry_of
-returns c = c.put_bytes.ensures
+returns c = c.put.ensures

@@ -1,12 +1,12 @@
-use borrow.Author.Tests.{lt-leb, le-leb}
+use Rattle.std.proofs.Common.{le-leb}
+use Rattle.std.proofs.lemmas.Bool.{lt-leb}
 use Rattle.descriptors.specs.Entries.{is_of}
 use Rattle.descriptors.proofs.walk.is_of.Goals as goal
-use Rattle.std.proofs.Common.{◌-◌}
 
-pub returns-then-d-least : goal.returns-then-d-least
+pub returns-then-least-d : goal.returns-then-least-d
 unfolding is_of
-returns-then-d-least c = rw (lt-leb _ _ c.if-d-least.true)
+returns-then-least-d c = rw (le-leb _ _ c.if-least-d.true)
 
-pub returns : goal.returns
+pub returns-else-least-d : goal.returns-else-least-d
 unfolding is_of
-returns c = rw (le-leb _ _ c.if-d-least.false)
+returns-else-least-d c = rw (lt-leb _ _ c.if-least-d.false)

@@ -1,6 +1,5 @@
 use Rattle.descriptors.specs.Entries.{max_of}
 use Rattle.descriptors.proofs.walk.read_max.Goals as goal
-use Rattle.descriptors.specs.Entries.{first_of}
 
 pub returns : goal.returns
 unfolding max_of

@@ -1,6 +1,5 @@
 use Rattle.descriptors.specs.Entries.{value_of}
 use Rattle.descriptors.proofs.walk.read_value.Goals as goal
-use Rattle.descriptors.specs.Entries.{first_of}
 
 pub returns : goal.returns
 unfolding value_of

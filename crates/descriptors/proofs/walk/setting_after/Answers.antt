@@ -3,7 +3,6 @@ use native.Mathlib.Omega.{arith}
 use Rattle.descriptors.specs.Entries.{setting_after}
 use Rattle.descriptors.proofs.EntriesLaws.{of-long}
 use Rattle.descriptors.proofs.walk.setting_after.Goals as goal
-use Rattle.std.proofs.Common.{◌-◌}
 
 pub bounds-d-2 : goal.bounds-d-2
 bounds-d-2 c = let h = of-long 4 9 c.args.d.now (sym c.is_of.ensures ∙ c.if-is_of.true) in omega arith
@@ -15,6 +14,6 @@ pub returns-then-is_of : goal.returns-then-is_of
 unfolding setting_after
 returns-then-is_of c = let e = sym c.is_of.ensures ∙ c.if-is_of.true in rw e
 
-pub returns : goal.returns
+pub returns-else-is_of : goal.returns-else-is_of
 unfolding setting_after
-returns c = let e = sym c.is_of.ensures ∙ c.if-is_of.false in rw e
+returns-else-is_of c = let e = sym c.is_of.ensures ∙ c.if-is_of.false in rw e

@@ -1,8 +1,6 @@
-use borrow.Author.Tests.{eq-eqb, ne_eqb}
-use Rattle.details.proofs.Searches.{last_hit, last_miss}
 use Prim.Native.Nat.{◌≤◌}
-use mathlib.Core.Path.{◌≡◌, refl, sym, ◌∙◌}
-use Rattle.details.specs.Lookup.{is_device, found_device}
+use mathlib.Core.Path.{◌≡◌}
+use Rattle.details.specs.Lookup.{is_device}
 use Rattle.details.specs.Search.{last_of}
 use Rattle.details.proofs.find.find_device.Given as goal
 

@@ -1,10 +1,7 @@
 use Prim.Native.Nat.{◌-◌, ◌≤◌}
-use native.Mathlib.Omega.{arith}
-use mathlib.Core.Path.{◌≡◌, refl, sym, ◌∙◌}
-use Rattle.endpoints.specs.Find.{is_endpoint, found_endpoint}
+use mathlib.Core.Path.{◌≡◌}
+use Rattle.endpoints.specs.Find.{is_endpoint}
 use Rattle.details.specs.Search.{first_from}
-use Rattle.details.specs.declared.Found.TheVariants.{At}
-use Rattle.details.proofs.Searches.{first_hit, first_miss}
 use Rattle.endpoints.proofs.find.find_endpoint.Given as goal
 
 abbrev pub invariant-loop-i : goal.invariant-loop-i

@@ -1,10 +1,11 @@
-use Rattle.std.proofs.Common.{rules}
-use Prim.Native.Nat.{◌-◌}
-use mathlib.Core.Path.{◌∙◌}
-use Rattle.endpoints.specs.Each.{becomes}
-use Rattle.endpoints.specs.Word as word
-use Rattle.endpoints.proofs.Turns.{each_next}
+use Rattle.std.proofs.Common.{◌∙◌}
+use Rattle.endpoints.proofs.Turns.{change_hit, change_miss}
 use Rattle.endpoints.proofs.phases.change_phases.Goals as goal
+use Rattle.endpoints.proofs.phases.change_phases.Goals.{then-table-at, else-table-at}
 
 pub loop-i-preserved : goal.loop-i-preserved
-loop-i-preserved c = (search rules, c.loop-i.invariant.1 ∙ each_next _ _ _ c.loop-i-test.true word.phase _ (becomes c.args.p c.args.q) c.change.ensures)
+loop-i-preserved c =
+    elim c.if-table-at.branch [
+      | then-table-at w ↦ rw w.table-is (c.loop-i.invariant ∙ change_hit _ _ _ c.loop-i-test.true _ _ w.if-table-at.true)
+      | else-table-at w ↦ rw w.table-is (c.loop-i.invariant ∙ change_miss _ _ _ c.loop-i-test.true _ _ w.if-table-at.false)
+    ]

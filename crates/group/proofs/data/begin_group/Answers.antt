@@ -4,7 +4,7 @@ use Rattle.std.proofs.Common.{◌-◌}
 
 pub returns-then-s : goal.returns-then-s
 unfolding begin_group
-returns-then-s c = simp (c.if-s.true, c.with_success-endpoint.ensures, c.begin_status-status.ensures, c.effect_of-effect.ensures, c.closes-ends.ensures)
+returns-then-s c = simp (c.if-s.true, c.with_success.ensures, c.begin_status.ensures, c.effect_of-effect.ensures, c.closes-ends.ensures)
 
 pub returns-else-s : goal.returns-else-s
 unfolding begin_group

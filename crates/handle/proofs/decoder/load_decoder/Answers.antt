@@ -5,4 +5,4 @@ use Rattle.handle.specs.Place as place
 
 pub returns : goal.returns
 unfolding decoder_in
-returns c = simp (c.event_of-event.ensures, c.slot_of-slot.ensures, c.load_transaction-transaction.ensures, c.load_counts-counts.ensures)
+returns c = simp (c.event_of.ensures, c.slot_of.ensures, c.load_transaction.ensures, c.load_counts.ensures)

@@ -13,7 +13,4 @@ abbrev pub details-in : List ℕ → ℕ → Detail
 details-in words k = detail_of (word_in words k)
 
 abbrev pub invariant-loop-i : goal.invariant-loop-i
-invariant-loop-i l = (l.i ≤ 32) × ((length l.details ≡ 32) × (sets l.details l.i (from (details-in l.words) (l.at + l.i) (32 - l.i)) ≡ from (details-in l.words) l.at 32))
-
-abbrev pub decreases-loop-i : goal.decreases-loop-i
-decreases-loop-i l = 32 - l.i
+invariant-loop-i l = (length l.details ≡ 32) × (sets l.details l.i (from (details-in l.words) (l.at + l.i) (32 - l.i)) ≡ from (details-in l.words) l.at 32)

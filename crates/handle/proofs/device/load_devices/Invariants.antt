@@ -9,7 +9,4 @@ use Rattle.handle.proofs.Turns.{fill_start, fill-turn, fill_end}
 use Rattle.handle.proofs.device.load_devices.Given as goal
 
 abbrev pub invariant-loop-i : goal.invariant-loop-i
-invariant-loop-i l = (l.i ≤ 64) × ((length l.devices ≡ 64) × (sets l.devices l.i (from (device_at l.words) (0 + l.i) (64 - l.i)) ≡ from (device_at l.words) 0 64))
-
-abbrev pub decreases-loop-i : goal.decreases-loop-i
-decreases-loop-i l = 64 - l.i
+invariant-loop-i l = (length l.devices ≡ 64) × (sets l.devices l.i (from (device_at l.words) (0 + l.i) (64 - l.i)) ≡ from (device_at l.words) 0 64)

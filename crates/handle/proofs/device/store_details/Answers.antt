@@ -1,4 +1,3 @@
-use Rattle.std.proofs.Common.{rules}
 use Prim.Native.Nat.{◌-◌}
 use native.Mathlib.Omega.{arith}
 use mathlib.Core.Path.{◌∙◌}
@@ -12,13 +11,10 @@ use Rattle.handle.specs.Size as size
 pub loop-i-preserved : goal.loop-i-preserved
 loop-i-preserved c = let a = c.args in
     let l = c.loop-i in
-    let m = l.invariant.1.0 in (
-      search rules,
+    let m = l.invariant.0 in (
+      m,
       (
-        m,
-        (
-          l.invariant.1.1.0 ∙ detail-turn l.words a.details a.at l.i c.detail_word.result (omega (arith, m, c.loop-i-test.true)) c.detail_word.ensures.value,
-          passed-next (λ j. DetailFits (get_or a.details j (bare 0))) l.i l.invariant.1.1.1 c.detail_word.ensures.detail_fits,
-        ),
+        l.invariant.1.0 ∙ detail-turn l.words a.details a.at l.i c.detail_word.result (omega (arith, m, c.loop-i-test.true)) c.detail_word.ensures.value,
+        passed-next (λ j. DetailFits (get_or a.details j (bare 0))) l.i l.invariant.1.1 c.detail_word.ensures.detail_fits,
       ),
     )

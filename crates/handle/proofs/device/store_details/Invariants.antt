@@ -16,7 +16,4 @@ abbrev pub DetailsPassed : ℕ → List Detail → Type 0
 DetailsPassed i details = (j : ℕ) → j < i → DetailFits (get_or details j (bare 0))
 
 abbrev pub invariant-loop-i : goal.invariant-loop-i
-invariant-loop-i l = (l.i ≤ 32) × ((length l.details ≡ 32) × ((sets l.initial.words l.at (map detail_word l.details) ≡ sets l.words (l.at + l.i) (drop l.i (map detail_word l.details))) × DetailsPassed l.i l.details))
-
-abbrev pub decreases-loop-i : goal.decreases-loop-i
-decreases-loop-i l = 32 - l.i
+invariant-loop-i l = (length l.details ≡ 32) × ((sets l.initial.words l.at (map detail_word l.details) ≡ sets l.words (l.at + l.i) (drop l.i (map detail_word l.details))) × DetailsPassed l.i l.details)

@@ -1,4 +1,3 @@
-use Rattle.std.proofs.Common.{rules}
 use Prim.Native.Nat.{◌-◌}
 use native.Mathlib.Omega.{arith}
 use mathlib.Core.Path.{◌∙◌}
@@ -12,13 +11,10 @@ use Rattle.handle.specs.Size as size
 pub loop-i-preserved : goal.loop-i-preserved
 loop-i-preserved c = let a = c.args in
     let l = c.loop-i in
-    let m = l.invariant.1.0 in (
-      search rules,
+    let m = l.invariant.0 in (
+      m,
       (
-        m,
-        (
-          l.invariant.1.1.0 ∙ row-turn l.words c.store_device.new.words a.devices l.i (omega (arith, m, c.loop-i-test.true)) c.store_device.ensures.words_after,
-          passed-next (λ j. DeviceFits (get_or a.devices j blank)) l.i l.invariant.1.1.1 c.store_device.ensures.device_fits,
-        ),
+        l.invariant.1.0 ∙ row-turn l.words c.store_device.new.words a.devices l.i (omega (arith, m, c.loop-i-test.true)) c.store_device.ensures.words_after,
+        passed-next (λ j. DeviceFits (get_or a.devices j blank)) l.i l.invariant.1.1 c.store_device.ensures.device_fits,
       ),
     )

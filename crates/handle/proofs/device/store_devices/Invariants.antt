@@ -14,7 +14,4 @@ abbrev pub DevicesPassed : ℕ → List Device → Type 0
 DevicesPassed i devices = (j : ℕ) → j < i → DeviceFits (get_or devices j blank)
 
 abbrev pub invariant-loop-i : goal.invariant-loop-i
-invariant-loop-i l = (l.i ≤ 64) × ((length l.devices ≡ 64) × ((rows_stored l.initial.words 0 l.devices ≡ rows_stored l.words l.i (drop l.i l.devices)) × DevicesPassed l.i l.devices))
-
-abbrev pub decreases-loop-i : goal.decreases-loop-i
-decreases-loop-i l = 64 - l.i
+invariant-loop-i l = (length l.devices ≡ 64) × ((rows_stored l.initial.words 0 l.devices ≡ rows_stored l.words l.i (drop l.i l.devices)) × DevicesPassed l.i l.devices)

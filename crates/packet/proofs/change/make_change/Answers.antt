@@ -6,7 +6,7 @@ use Rattle.packet.proofs.change.make_change.Goals as goal
 
 pub shelve-s-requires : goal.shelve-s-requires
 shelve-s-requires c = let h = c.requires in
-    let l = c.sized.ensures in
+    let l = c.told-shelf in
     record { in_bounds = omega (arith, l); device_bound = h.device; place_bound = h.owner; long_if = h.long }
 
 pub returns : goal.returns

@@ -14,8 +14,4 @@ Rest out₀ at l out next taken k =
     × Fits written_format (items_from l (l.rows - k) k taken)
 
 abbrev pub invariant-loop-k : goal.invariant-loop-k
-invariant-loop-k l =
-    (l.k ≤ l.n) × ((l.taken ≤ l.k) × Rest l.initial.out l.at (lent l.bytes l.n l.packets l.marks l.events) l.out l.next l.taken l.k)
-
-abbrev pub decreases-loop-k : goal.decreases-loop-k
-decreases-loop-k l = l.n - l.k
+invariant-loop-k l = (l.taken ≤ l.k) × Rest l.initial.out l.at (lent l.bytes l.n l.packets l.marks l.events) l.out l.next l.taken l.k

@@ -11,13 +11,13 @@ overflow_add-e c = let s = c in
     let h = rw c.if-l.true at s.requires.l_bound in
     omega (arith, e, h)
 
-pub put4-requires : goal.put4-requires
-put4-requires c = let h = rw c.if-l.true at c.requires.link_width_in_bounds in omega (arith, h)
+pub put-requires : goal.put-requires
+put-requires c = let h = rw c.if-l.true at c.requires.link_width_in_bounds in omega (arith, h)
 
 pub returns-then-l : goal.returns-then-l
 returns-then-l c = let l = c.load-e.ensures in
     rw c.if-l.true
-    (record { value = rw l refl; table_after = c.store.ensures ∙ rw (l, add-one) refl; links_after = c.put4.ensures })
+    (record { value = rw l refl; table_after = c.store.ensures ∙ rw (l, add-one) refl; links_after = c.put.ensures })
 
 pub returns : goal.returns
 returns c = rw c.if-l.false (record { value = refl; table_after = refl; links_after = refl })

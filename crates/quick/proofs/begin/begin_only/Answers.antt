@@ -15,6 +15,7 @@ use Rattle.rules.specs.declared.EventState.TheVariants.{Idle}
 use Rattle.rules.specs.declared.Slot.TheVariants.{Current}
 use Rattle.quick.specs.Room.{more_rows}
 use Rattle.quick.proofs.Fit.{fit_same}
+use Rattle.rows.proofs.FlagLaws.{from-one}
 use Rattle.quick.proofs.begin.begin_only.Goals as goal
 
 row_fits : (b : Bool) (n : ℕ) (r : Named) (m : ℕ) → (n + one b) * transaction_width ≤ m → n * transaction_width + length (opt b (transaction_words r)) ≤ m
@@ -30,7 +31,7 @@ returns c = let s = c in
     let l = c.begin_link-transaction.ensures in
     let p = c.put_packet.ensures in
     let d = s.args.d in
-    let counts = c.more_rows-counts.ensures ∙ λ i. more_rows (c.flag_word.ensures i) (c.flag_word-2.ensures i) (length s.args.packet.now) d.counts in record { value = λ i. record { counts = counts i; slot = Current; transaction = l.value i; last = d.last; event = Idle; keepalive = d.keepalive; waiting = d.waiting; finished = d.finished; high = d.high; time = s.args.time }; table_after = l.table_after; bytes_after = p.bytes_after; packets_after = p.packets_after; transactions_after = c.put_transaction.ensures ∙ ap (λ (x : Stamp). sets s.args.transactions.now (s.args.held.transactions * transaction_width) (opt s.args.row (transaction_words (naming x.packet x.reason)))) c.stamp_of-stamp.ensures; links_after = l.links_after }
+    let counts = c.more_rows-counts.ensures ∙ λ i. more_rows ((c.from.ensures ∙ from-one _) i) ((c.from-2.ensures ∙ from-one _) i) (length s.args.packet.now) d.counts in record { value = λ i. record { counts = counts i; slot = Current; transaction = l.value i; last = d.last; event = Idle; keepalive = d.keepalive; waiting = d.waiting; finished = d.finished; high = d.high; time = s.args.time }; table_after = l.table_after; bytes_after = p.bytes_after; packets_after = p.packets_after; transactions_after = c.put_transaction.ensures ∙ ap (λ (x : Stamp). sets s.args.transactions.now (s.args.held.transactions * transaction_width) (opt s.args.row (transaction_words (naming x.packet x.reason)))) c.stamp_of-stamp.ensures; links_after = l.links_after }
 
 pub more_rows-counts-requires : goal.more_rows-counts-requires
-more_rows-counts-requires c = fit_same c.flag_word.ensures c.flag_word-2.ensures c.requires.rows_fit
+more_rows-counts-requires c = fit_same (c.from.ensures ∙ from-one _) (c.from-2.ensures ∙ from-one _) c.requires.rows_fit

@@ -6,4 +6,4 @@ use Rattle.quick.proofs.close.closed_decoder.Goals as goal
 
 pub returns : goal.returns
 returns c = let a = c.args in
-    λ i. record { counts = c.add_counts.ensures i; slot = Empty; transaction = c.tie-transaction.ensures i; last = a.h.written.last; event = Idle; keepalive = a.d.keepalive; waiting = a.tally.waiting; finished = a.d.finished; high = a.d.high; time = a.h.written.stamp.time }
+    λ i. record { counts = c.add_counts.ensures i; slot = Empty; transaction = c.tie.ensures i; last = a.h.written.last; event = Idle; keepalive = a.d.keepalive; waiting = a.tally.waiting; finished = a.d.finished; high = a.d.high; time = a.h.written.stamp.time }

@@ -23,6 +23,7 @@ use Rattle.update.specs.declared.Update.{Update}
 use Rattle.quick.specs.Room.{more_rows}
 use Rattle.quick.proofs.Fit.{fit_same}
 use Rattle.quick.proofs.LightEnd.{words_light, light-total}
+use Rattle.rows.proofs.FlagLaws.{from-one}
 use Rattle.quick.proofs.light.light_only.Goals as goal
 
 -- the entry once the update is made
@@ -35,7 +36,7 @@ light_link-transaction-requires c = let h = c.requires.link_width_in_bounds in o
 pub total_row-requires : goal.total_row-requires
 total_row-requires c =
     let l = c.light_link-transaction.ensures.links_after in
-    let e = c.flag_word.ensures in
+    let e = (c.from.ensures ∙ from-one _) in
     let z = ap length l ∙ length-sets c.args.links.now (c.args.held.links * link_width) (opt c.args.end.update.link (T ∷ c.args.t.endpoint ∷ c.args.t.id ∷ 0 ∷ [])) in
     let h = c.requires.link_width_in_bounds in
     omega (arith, e, z, h)
@@ -68,6 +69,6 @@ returns c =
       table_after = c.store.ensures ∙ (ap (store_at a.table.now x) c.entry_effect.ensures ∙ λ i. store_at a.table.now x (effect_entry f (e i) (l.value i).link));
       bytes_after = p.bytes_after;
       packets_after = p.packets_after;
-      links_after = c.total_row.ensures ∙ λ i. sets (l.links_after i) ((a.held.links + c.flag_word.ensures i) * link_width) (total_words f x (e i) (l.value i).link);
+      links_after = c.total_row.ensures ∙ λ i. sets (l.links_after i) ((a.held.links + (c.from.ensures ∙ from-one _) i) * link_width) (total_words f x (e i) (l.value i).link);
       style_bound = token;
     }

@@ -11,22 +11,10 @@ use Rattle.group.specs.declared.Effect.{Effect}
 use Rattle.quick.specs.Light.{is_total}
 use Rattle.quick.proofs.light.total_row.Goals as goal
 
-pub put4-requires : goal.put4-requires
-put4-requires c = let e = ap (λ (f : Effect). one (is_total f)) c.in-IndexData.is in let h = c.requires in omega (arith, e, h)
-
-pub returns-in-NoEffect : goal.returns-in-NoEffect
-returns-in-NoEffect c = rw c.in-NoEffect.is refl
-
-pub returns-in-NewDevice : goal.returns-in-NewDevice
-returns-in-NewDevice c = rw c.in-NewDevice.is refl
-
-pub returns-in-Request : goal.returns-in-Request
-returns-in-Request c = rw c.in-Request.is refl
-
-pub returns-in-PendingData : goal.returns-in-PendingData
-returns-in-PendingData c = rw c.in-PendingData.is refl
+pub put-requires : goal.put-requires
+put-requires c = let e = ap (λ (f : Effect). one (is_total f)) c.in-IndexData.is in let h = c.requires in omega (arith, e, h)
 
 pub returns-in-IndexData : goal.returns-in-IndexData
 returns-in-IndexData c = let a = c.args in
     rw c.in-IndexData.is
-    (c.put4.ensures ∙ ap (λ (r : ℕ). sets a.links.now (a.n * link_width) (D ∷ a.x ∷ r ∷ a.e.total ∷ [])) c.payload_row-row.ensures)
+    (c.put.ensures ∙ ap (λ (r : ℕ). sets a.links.now (a.n * link_width) (D ∷ a.x ∷ r ∷ a.e.total ∷ [])) c.payload_row-row.ensures)

@@ -19,7 +19,7 @@ returns-in_default c v s = let a = c.args in subst (λ (q : Shape). Shaped a.d.h
 
 pub load-e-requires : goal.load-e-requires
 load-e-requires c = let s = c in
-    let h = found_at (world_of s.args.d [] s.args.table.now) s.requires.ready.three s.args.near.found s.args.pid s.args.packet.now c.find_place-found.result c.in-At.i c.find_place-found.ensures c.in-At.is in
+    let h = found_at (world_of s.args.d [] s.args.table.now) s.requires.ready.three s.args.near.found s.args.pid s.args.packet.now c.find_place-found.result c.in-Some.i c.find_place-found.ensures c.in-Some.is in
     omega (arith, h, s.requires.ready.endpoints)
 
 pub returns-then-early-i : goal.returns-then-early-i
@@ -27,7 +27,7 @@ returns-then-early-i c v s = let a = c.args in subst (λ (q : Shape). Shaped a.d
 
 pub returns : goal.returns
 returns c = let a = c in
-    token_shaped a.args.d a.args.table.now a.requires.ready a.args.near a.args.packet.now a.args.pid c.in-At.i a.args.x0 a.requires.x0_value a.requires.framing_ep_value a.requires.packet_value c.if-pid.false
-    c.find_place-found.ensures c.in-At.is c.detail_by-detail.ensures c.load-e.ensures
+    token_shaped a.args.d a.args.table.now a.requires.ready a.args.near a.args.packet.now a.args.pid c.in-Some.i a.args.x0 a.requires.x0_value a.requires.framing_ep_value a.requires.packet_value c.if-pid.false
+    c.find_place-found.ensures c.in-Some.is c.detail_by-detail.ensures c.load-e.ensures
     c.decide_early_start-early.ensures c.if-early-i.false c.type_by-kind.ensures c.new_transaction-t.ensures
     c.decide_early_append-append.ensures c.begin_shape.ensures

@@ -4,4 +4,4 @@ use Rattle.std.proofs.Common.{◌-◌}
 
 pub returns : goal.returns
 unfolding endpoint_formed
-returns c = simp (c.words_stored.ensures, c.entry_formed.ensures, c.load-e.ensures)
+returns c = simp (c.words_stored.ensures, c.entry_formed.ensures, c.load.ensures)

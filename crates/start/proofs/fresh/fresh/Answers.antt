@@ -7,7 +7,6 @@ use Rattle.call.specs.State.{Logs, logs, room_of}
 use Rattle.start.specs.Fresh.{fresh_answer}
 use Rattle.start.proofs.Making.{roomy, refuses, makes}
 use Rattle.start.proofs.fresh.fresh.Goals as goal
-use Rattle.std.proofs.Common.{◌-◌}
 
 pub returns-then-answer-ne0 : goal.returns-then-answer-ne0
 returns-then-answer-ne0 c = let lent : Logs = logs c.args.bytes.now c.args.device_rows.now c.args.endpoint_rows.now c.args.packets.now c.args.events.now c.args.transactions.now c.args.groups.now c.args.statebytes.now c.args.states.now c.args.items.now c.args.links.now c.args.requests.now in

@@ -3,4 +3,4 @@ use Rattle.start.proofs.fresh.put_device.Goals as goal
 
 pub returns : goal.returns
 unfolding fresh
-returns c = c.put1.ensures
+returns c = c.put.ensures

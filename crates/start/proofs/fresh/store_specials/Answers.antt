@@ -1,6 +1,5 @@
 use Rattle.record.specs.Fresh.{fresh_table}
 use Rattle.start.proofs.fresh.store_specials.Goals as goal
-use Rattle.std.proofs.Common.{◌-◌}
 
 pub returns : goal.returns
 unfolding fresh_table

@@ -6,7 +6,4 @@ use Rattle.stream.proofs.Addresses.{addressed-none, addressed-next, addressed-al
 use Rattle.stream.proofs.address.addresses_of.Given as goal
 
 abbrev pub invariant-loop-i : goal.invariant-loop-i
-invariant-loop-i l = (l.i ≤ 64) × Addressed l.i l.addresses l.devices
-
-abbrev pub decreases-loop-i : goal.decreases-loop-i
-decreases-loop-i l = 64 - l.i
+invariant-loop-i l = Addressed l.i l.addresses l.devices

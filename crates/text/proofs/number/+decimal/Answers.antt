@@ -1,6 +1,6 @@
 -- The last digit of a number stands behind those of its tenth.
 -- Assumes nothing.
-use Rattle.std.proofs.Common.{arith, ◌<◌, ◌∷◌, [], ◌+◌, ◌/◌, ◌%◌, ◌^◌}
+use Rattle.std.proofs.Common.{arith, ◌<◌, ◌∷◌, [], ◌/◌, ◌%◌, ◌^◌}
 use Rattle.text.specs.Numbers.{digit}
 use Rattle.text.specs.Numbers as numbers
 use Rattle.text.proofs.Appends.{room-first, room_next, then}

@@ -1,13 +1,9 @@
-use Prim.Native.Nat.{◌-◌, ◌/◌, ◌%◌}
-use native.Mathlib.Omega.{arith}
-use mathlib.Core.Path.{◌≡◌}
-use Rattle.text.specs.Numbers.{hex_byte, hex_bytes, hex_setup}
-use Rattle.text.proofs.Appends.{Left, start, room, step, done}
-use Rattle.text.proofs.Steps.{next_hex}
+-- Assumes nothing.
+use Rattle.std.proofs.Common.{drop}
+use Rattle.std.specs.Prelude.{flat_map}
+use Rattle.text.specs.Numbers.{hex_byte, hex_setup}
+use Rattle.text.proofs.Appends.{Left}
 use Rattle.text.proofs.number.hex_setup.Given as goal
 
-abbrev pub invariant-loop-count : goal.invariant-loop-count
-invariant-loop-count l = Left l.initial.out l.at (hex_setup l.w) l.out l.next (hex_bytes l.count l.left)
-
-abbrev pub decreases-loop-count : goal.decreases-loop-count
-decreases-loop-count l = l.count
+abbrev pub invariant-loop-b : goal.invariant-loop-b
+invariant-loop-b l = Left l.initial.out l.at (hex_setup l.w) l.out l.next (flat_map hex_byte (drop l.b-index l.b-items))

@@ -1,7 +1,6 @@
 use Rattle.usb.specs.Bits.{after}
 use native.Mathlib.Nat.{div-one}
 use Rattle.usb.proofs.fields.token_of.Goals as goal
-use Rattle.std.proofs.Common.{◌-◌}
 
 pub returns : goal.returns
 unfolding after
